@@ -1,8 +1,8 @@
 """Scripts that overwrite keys at random and clean as they go, for bench/measure. It tests nothing.
 
-`Log` counts what the program has of segments: their lengths, which of their objects are live, and which segments their
-tombstones name. By that it knows when a roll comes, what a pass copies, and how many seglets are free, after the rules of
-docs/SPECIFICATION.md. It reads nothing of the program. If a count is wrong, a line of the script is refused.
+`Log` counts what the program has of segments: the entries of each, which of its objects are live, and which segments its
+tombstones name. By that it knows when a roll comes, what a pass copies to which survivor, and how many seglets are free, after the
+rules of docs/SPECIFICATION.md. It reads nothing of the program. If a count is wrong, a line of the script is refused.
 """
 
 import random
@@ -10,8 +10,8 @@ from collections import Counter
 from dataclasses import dataclass, field
 
 KEY, VALUE = 9, 100
-OBJECT, TOMBSTONE = 23 + KEY + VALUE, 27 + KEY
-MOST_VICTIMS = 8
+OBJECT, TOMBSTONE, HEADER = 23 + KEY + VALUE, 27 + KEY, 18
+MOST_VICTIMS, MOST_SURVIVORS = 32, 4
 # So many segments are free if a put's roll may begin however full the head is: three, and one for the head that it closes.
 LEAST_SPARE = 4
 
@@ -20,7 +20,8 @@ LEAST_SPARE = 4
 class Segment:
     number: int
     length: int
-    objects: list = field(default_factory=list)
+    # In their order: the key of an object, or ~N of a tombstone that names segment N.
+    entries: list = field(default_factory=list)
     live: int = 0
     named: Counter = field(default_factory=Counter)
 
@@ -30,23 +31,26 @@ class Full(Exception):
 
 
 class Log:
-    """One master's log, in counts."""
+    """One master's log, in counts, whose passes have so many survivors at most."""
 
-    def __init__(self, segment, seglet, segments):
+    def __init__(self, segment, seglet, segments, most_survivors=MOST_SURVIVORS):
         self.size, self.seglet, self.whole = segment, seglet, segment // seglet
-        self.seglets = segments * self.whole
+        self.seglets, self.most_survivors = segments * self.whole, most_survivors
         self.next, self.closed, self.place = 2, {}, {}
         self.head = Segment(1, 40)
         self.used = self.whole
-        self.copied = self.passes = 0
+        self.copied = self.passes = self.survivors = 0
 
     def count(self, length):
         return -(-length // self.seglet)
 
+    def free(self):
+        return self.seglets - self.used
+
     def roll(self, need):
         """A roll, if it may begin."""
         closes = self.count(self.head.length)
-        if need is not None and self.seglets - self.used + self.whole - closes < need + self.whole:
+        if need is not None and self.free() < need + closes:
             raise Full
         self.closed[self.head.number] = self.head
         self.used += closes
@@ -54,10 +58,16 @@ class Log:
         self.next += 1
 
     def add(self, segment, key):
-        segment.objects.append(key)
+        self.place[key] = (segment, len(segment.entries))
+        segment.entries.append(key)
         segment.live += 1
         segment.length += OBJECT
-        self.place[key] = (segment, len(segment.objects))
+
+    def bury(self, segment, named):
+        """Adds a tombstone that names this segment."""
+        segment.entries.append(~named)
+        segment.named[named] += 1
+        segment.length += TOMBSTONE
 
     def put(self, key):
         """Whether a roll came first."""
@@ -68,57 +78,89 @@ class Log:
             self.roll(3 * self.whole)
         if old:
             old[0].live -= 1
-            self.head.named[old[0].number] += 1
-            self.head.length += TOMBSTONE
+            self.bury(self.head, old[0].number)
         self.add(self.head, key)
         return rolls
 
+    def is_listed(self, number):
+        return number in self.closed or number == self.head.number
+
     def kept(self, segment):
         """The bytes that a pass keeps of a segment."""
-        stones = sum(n for named, n in segment.named.items() if named in self.closed or named == self.head.number)
+        stones = sum(n for named, n in segment.named.items() if self.is_listed(named))
         return segment.live * OBJECT + stones * TOMBSTONE
 
-    def choose(self, by_share):
-        """Victims, by least kept bytes, or by the least share of their length.
+    def kept_entries(self, segment):
+        """The entries that a pass keeps of a segment, each with its length."""
+        for at, entry in enumerate(segment.entries):
+            if entry >= 0:
+                if self.place[entry] == (segment, at):
+                    yield entry, OBJECT
+            elif self.is_listed(~entry):
+                yield entry, TOMBSTONE
 
-        By bytes it is the rule of the master, which ends at the first segment that doesn't fit the survivor. By share it
-        passes over that one, so that the survivor gets fuller.
-        """
-        kept = {number: self.kept(segment) for number, segment in self.closed.items()}
-        rank = (lambda n: (kept[n] / self.closed[n].length, n)) if by_share else (lambda n: (kept[n], n))
-        victims, total = [], 0
-        for number in sorted(kept, key=rank):
-            fits = total + kept[number] <= self.size - 18
-            if len(victims) == MOST_VICTIMS or not (fits or by_share):
+    def filled(self, segment, survivors, length):
+        """How many survivors are begun, and the length of the last one, once what is kept of this segment is copied too."""
+        for _, more in self.kept_entries(segment):
+            if length + more > self.size:
+                survivors, length = survivors + 1, HEADER
+            length += more
+        return survivors, length
+
+    def choose(self, by_share):
+        """Victims by the least share of their length that is kept, or as the master chooses them."""
+        return self.choose_by_share() if by_share else self.choose_by_bytes()
+
+    def choose_by_bytes(self):
+        """The rule of the master: by least kept bytes, up to the first segment that a pass may not have too."""
+        victims, filled = [], (1, HEADER)
+        for number in sorted(self.closed, key=lambda n: (self.kept(self.closed[n]), n)):
+            filled = self.filled(self.closed[number], *filled)
+            is_above = filled[0] > self.most_survivors or (filled[0] + 1) * self.whole > self.free()
+            if is_above or len(victims) == MOST_VICTIMS:
                 break
-            if fits:
+            victims.append(number)
+        return victims
+
+    def choose_by_share(self):
+        """A segment that doesn't fit is passed over. A put's roll would find its memory while the pass is open."""
+        kept = {number: self.kept(segment) for number, segment in self.closed.items()}
+        survivors = (self.free() - self.count(self.head.length)) // self.whole - 2
+        survivors = max(1, min(survivors, self.most_survivors))
+        # Of each survivor but the last, less than an object may stay empty.
+        room = survivors * (self.size - HEADER) - (survivors - 1) * (OBJECT - 1)
+        victims = []
+        for number in sorted(kept, key=lambda n: (kept[n] / self.closed[n].length, n)):
+            if kept[number] <= room and len(victims) < MOST_VICTIMS:
                 victims.append(number)
-                total += kept[number]
+                room -= kept[number]
         return victims
 
     def clean(self, victims):
-        """A whole pass; the head's number afterwards."""
-        survivor = Segment(self.next, 18)
-        self.next += 1
+        """A whole pass."""
+        survivors = [Segment(self.next, HEADER)]
         for victim in (self.closed[number] for number in victims):
-            for named, count in victim.named.items():
-                if named in self.closed or named == self.head.number:
-                    survivor.named[named] += count
-                    survivor.length += count * TOMBSTONE
-            for at, key in enumerate(victim.objects, 1):
-                if self.place[key][0] is victim and self.place[key][1] == at:
-                    self.add(survivor, key)
-        self.copied += survivor.length - 18
+            for entry, length in self.kept_entries(victim):
+                if survivors[-1].length + length > self.size:
+                    survivors.append(Segment(survivors[-1].number + 1, HEADER))
+                if entry >= 0:
+                    self.add(survivors[-1], entry)
+                else:
+                    self.bury(survivors[-1], ~entry)
+        self.next = survivors[-1].number + 1
+        self.copied += sum(it.length - HEADER for it in survivors)
         self.passes += 1
+        self.survivors += len(survivors)
         for number in victims:
             self.used -= self.count(self.closed.pop(number).length)
-        self.closed[survivor.number] = survivor
-        self.used += self.count(survivor.length)
+        for survivor in survivors:
+            self.closed[survivor.number] = survivor
+            self.used += self.count(survivor.length)
         self.roll(None)
 
     def is_short(self, spare):
         """Whether fewer segments than this are free."""
-        return self.seglets - self.used < spare * self.whole
+        return self.free() < spare * self.whole
 
 
 def fill(log, keys):
@@ -143,7 +185,7 @@ def overwrites(log, keys, puts, by_share=True, spare=LEAST_SPARE):
         made += 1
         while rolled and log.is_short(spare):
             victims, before = log.choose(by_share), log.used
-            if not victims or log.seglets - log.used < 2 * log.whole:
+            if not victims or log.free() < 2 * log.whole:
                 break
             log.clean(victims)
             lines.append(f"clean {' '.join(map(str, victims))}\n")

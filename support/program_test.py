@@ -249,7 +249,7 @@ class Change:
     """What some lines change in the bytes that the program has, by sections 7 and 10 of the specification."""
 
     lines: str
-    # Of images: a head and the survivor of an open pass have a whole segment, others their length.
+    # Of images: a head and each survivor of an open pass have a whole segment, others their length.
     images: int
     # Of replicas. They grow as they are written, and may have up to twice their length. One that is opened takes an eighth more than
     # the longest that its backup closed, and one that is freed leaves its memory there for the next.
@@ -288,6 +288,23 @@ CHANGES = [
 # So many long pieces are left: what a freed replica had, and the two of the last head.
 LEFT = 3
 
+# So many objects of other keys fill a segment.
+FILL = (S - 48) // (23 + 5 + VALUE)
+KEYS = 2 * FILL
+PASSES = [
+    Change("# the first head is made at the start\n", S),
+    Change("".join(f"put 1 k{key:04} {VALUE * 'v'}\n" for key in range(KEYS)), S, 4 * S, KEYS * VALUE),
+    Change("roll\n", S),
+    # Each of two survivors takes a segment.
+    Change("begin 1 2\n", 2 * S),
+    Change("copy\n" * KEYS, 0),
+    Change("seal\n" * 4, 0, 4 * S),
+    # The commit's head takes a segment, and the old one keeps a seglet. The images of the victims leave their memory.
+    Change("roll\n" + "free\n" * 4, G),
+    # That is what the next survivors have.
+    Change("begin 4 5\n", 0),
+]
+
 
 def bytes_of(process):
     """The bytes of data that the program has of the system."""
@@ -295,12 +312,13 @@ def bytes_of(process):
         return next(1024 * int(line.split()[1]) for line in file if line.startswith("VmData:"))
 
 
-def memory_is_taken_and_given_back(program):
+def memory_after(program, changes):
+    """The bytes of data that the program has once it has made these changes as it should."""
     environment = {**os.environ, **LARGE}
     with subprocess.Popen([program, *WORDS], stdin=subprocess.PIPE, stdout=subprocess.DEVNULL, env=environment) as process:
         try:
             before = 0
-            for change in CHANGES:
+            for change in changes:
                 process.stdin.write(change.lines.encode())
                 process.stdin.flush()
                 wait_idle(process, process.stdin)
@@ -311,14 +329,23 @@ def memory_is_taken_and_given_back(program):
                 before = after
         finally:
             process.kill()
-    if before > SMALL + 2 * LEFT * TEXT:
-        raise AssertionError(f"wanted no more at the end than {LEFT} long replicas have, and {before} bytes are left")
+    return before
+
+
+def memory_is_taken_and_given_back(program):
+    left = memory_after(program, CHANGES)
+    if left > SMALL + 2 * LEFT * TEXT:
+        raise AssertionError(f"wanted no more at the end than {LEFT} long replicas have, and {left} bytes are left")
+
+
+def survivors_take_a_segment_each(program):
+    memory_after(program, PASSES)
 
 
 TESTS = [
     help_is_printed, version_is_printed, words_are_text, lines_have_limits, a_reader_fails, a_writer_fails,
     input_comes_in_parts, pipes_show_each_answer, output_goes_in_blocks, a_terminal_shows_each_answer, a_terminal_shows_why, an_end_is_not_asked_for_again,
-    memory_is_taken_and_given_back,
+    memory_is_taken_and_given_back, survivors_take_a_segment_each,
 ]
 
 

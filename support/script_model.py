@@ -432,13 +432,32 @@ class Pass:
     """An open pass of the cleaner."""
 
     victims: tuple
-    survivor: Segment
+    # Their ids follow one another. Those before `filling` are full.
+    survivors: tuple
     # What is still to be treated: a victim's id and an entry of its, each.
     rest: tuple
-    # How many replicas of the survivor are sealed.
+    filling: int = 0
+    # How many replicas of the survivors are sealed: those of the first, then those of the second, and so on.
     sealed: int = 0
     # The roll that is under way is the pass's commit.
     is_committing: bool = False
+
+    def with_copy(self, entry, most):
+        """The pass once an entry was copied. One that doesn't fit the survivor that is filled begins the next."""
+        fits = len(self.survivors[self.filling].text) + len(entry.spelled()) <= most
+        filling = self.filling if fits else self.filling + 1
+        grown = self.survivors[filling].grown(entry.spelled())
+        return replace(self, filling=filling, survivors=(*self.survivors[:filling], grown, *self.survivors[filling + 1:]))
+
+
+def survivors_for(lengths, most):
+    """How many segments of so many bytes these entries fill, in their order. Each has a header of 18 bytes."""
+    count, level = 1, 18
+    for length in lengths:
+        if level + length > most:
+            count, level = count + 1, 18
+        level += length
+    return count
 
 
 @dataclass(frozen=True)
@@ -513,17 +532,18 @@ class Master:
 
     def is_ready(self, options):
         """Whether a pass is ready for its commit."""
-        return self.cleaning and not self.cleaning.rest and self.cleaning.sealed == options.replicas
+        cleaning = self.cleaning
+        return cleaning and not cleaning.rest and cleaning.sealed == len(cleaning.survivors) * options.replicas
 
     def may_roll(self, options, whole_ones):
         """Whether a roll may begin that leaves so many whole segments free."""
         if self.is_ready(options):
             return True
         ids, most = len(self.segments), options.segment // 32
-        leaving, taken = (len(self.cleaning.victims), 1) if self.cleaning else (1, 0)
+        leaving, coming, taken = (len(self.cleaning.victims), len(self.cleaning.survivors), 1) if self.cleaning else (1, 1, 0)
         free = options.seglets - self.used(options)
         needed = (whole_ones - taken) * (options.segment // options.seglet) + seglets(self.segments[-1], options)
-        return ids + 1 <= most and ids + 1 <= most - 2 + leaving and needed <= free
+        return ids + 1 <= most and ids + 1 <= most - 1 - coming + leaving and needed <= free
 
     def is_kept(self, segment, entry):
         """Whether the cleaners keep an entry of this segment."""
@@ -531,8 +551,7 @@ class Master:
             live = self.live.get((entry.table, entry.key))
             return live is not None and (live.segment, live.version) == (segment, entry.version)
         if isinstance(entry, Tombstone):
-            survivor = {self.cleaning.survivor.id} if self.cleaning else set()
-            return entry.segment in survivor.union(it.id for it in self.segments)
+            return any(it.id == entry.segment for it in (*self.segments, *self.survivors()))
         return True
 
     def compacted(self, segment):
@@ -542,11 +561,15 @@ class Master:
         return replace(self, segments=segments)
 
     def used(self, options):
-        """How many seglets are counted: the last segment and a survivor whole, and each other one by its length."""
+        """How many seglets are counted: the last segment and each survivor whole, and each other one by its length."""
         whole = options.segment // options.seglet
-        return whole * (2 if self.cleaning else 1) + sum(seglets(it, options) for it in self.segments[:-1])
+        return whole * (1 + len(self.survivors())) + sum(seglets(it, options) for it in self.segments[:-1])
 
     # Passes.
+
+    def survivors(self):
+        """Those of the open pass; none without one."""
+        return self.cleaning.survivors if self.cleaning else ()
 
     def heads(self):
         """The ids of the head in force and of the head that is being opened."""
@@ -556,7 +579,7 @@ class Master:
         """Why these segments may not be the victims of a pass, or None."""
         if self.cleaning:
             return "PassOpen"
-        if len(ids) > 8:
+        if len(ids) > 32:
             return "TooMany"
         for place, id_ in enumerate(ids):
             if id_ in ids[:place]:
@@ -578,37 +601,41 @@ class Master:
         refusal = self.victims_refusal(ids)
         if refusal:
             return refusal
-        free = options.seglets - self.used(options)
-        if free < 2 * (options.segment // options.seglet) or len(self.segments) - len(ids) + 2 > options.segment // 32:
-            return "Full"
-        kept = sum(len(entry.spelled()) for id_, entry in self.rest_of(ids) if self.is_kept(id_, entry))
-        return "TooMuch" if kept + 18 > options.segment else None
+        free, coming = options.seglets - self.used(options), self.survivors_of(ids, options)
+        if coming > 4:
+            return "TooMuch"
+        is_full = len(self.segments) - len(ids) + coming + 1 > options.segment // 32
+        return "Full" if is_full or free < (coming + 1) * (options.segment // options.seglet) else None
 
-    def cleaned(self, ids):
+    def survivors_of(self, ids, options):
+        """How many survivors what is kept of these segments fills now."""
+        kept = (len(entry.spelled()) for id_, entry in self.rest_of(ids) if self.is_kept(id_, entry))
+        return survivors_for(kept, options.segment)
+
+    def cleaned(self, ids, options):
         """The master after the begin of a pass."""
-        survivor = Segment(self.next, b"").grown(Header(self.number, self.next, 1).spelled())
-        return replace(self, next=self.next + 1, cleaning=Pass(ids, survivor, self.rest_of(ids)))
+        coming = range(self.next, self.next + self.survivors_of(ids, options))
+        survivors = tuple(Segment(id_, b"").grown(Header(self.number, id_, 1).spelled()) for id_ in coming)
+        return replace(self, next=coming.stop, cleaning=Pass(ids, survivors, self.rest_of(ids)))
 
-    def copied(self):
+    def copied(self, options):
         """What became of the next entry of the pass, and the master after that."""
         (id_, entry), *rest = self.cleaning.rest
-        survivor, live, what = self.cleaning.survivor, self.live, "dropped"
+        cleaning, live, what = replace(self.cleaning, rest=tuple(rest)), self.live, "dropped"
         if self.is_kept(id_, entry):
-            survivor = survivor.grown(entry.spelled())
-            what = "carried"
+            cleaning, what = cleaning.with_copy(entry, options.segment), "carried"
             if isinstance(entry, Object):
                 name = (entry.table, entry.key)
-                live = {**live, name: replace(live[name], segment=survivor.id)}
+                live = {**live, name: replace(live[name], segment=cleaning.survivors[cleaning.filling].id)}
                 what = "moved"
-        cleaning = replace(self.cleaning, survivor=survivor, rest=tuple(rest))
         return what, replace(self, cleaning=cleaning, live=live)
 
     def rolled(self):
-        """The master once a roll has ended. With a commit the victims leave, and the survivor comes."""
+        """The master once a roll has ended. With a commit the victims leave, and the survivors come."""
         if not (self.cleaning and self.cleaning.is_committing):
             return replace(self, is_rolling=False)
         victims = self.cleaning.victims
-        segments = [it for it in self.segments if it.id not in victims] + [self.cleaning.survivor]
+        segments = [it for it in self.segments if it.id not in victims] + [*self.cleaning.survivors]
         return replace(
             self, is_rolling=False, cleaning=None, segments=tuple(sorted(segments, key=lambda it: it.id)),
             waiting=(*self.waiting, *sorted(victims)))
@@ -663,7 +690,7 @@ class Master:
         log, cleaning = self.segments, self.cleaning
         if cleaning and is_ready:
             left = [it for it in self.segments if it.id not in cleaning.victims]
-            log = sorted([*left, cleaning.survivor], key=lambda it: it.id)
+            log = sorted([*left, *cleaning.survivors], key=lambda it: it.id)
             cleaning = replace(cleaning, is_committing=True)
         head = new_head(self.number, log, self.next, self.safe, self.has_lengths)
         return replace(self, segments=(*self.segments, head), next=self.next + 1, is_rolling=True, cleaning=cleaning)
@@ -758,6 +785,11 @@ STEPS = ("put", "new", "cas", "get", "del", "compact", "clean", "begin", "copy",
 
 class Undetermined(Exception):
     """A line with several threads: what it does depends on the order in which they take the lock."""
+
+
+def ids_text(segments):
+    """The ids of these segments, each behind a space."""
+    return "".join(f" {it.id}" for it in segments)
 
 
 def client_key(number):
@@ -900,23 +932,23 @@ class Store:
     def line_begin(self, *ids):
         store = yield from self.pass_begun(ids)
         if store:
-            yield f"begun {store.master.cleaning.survivor.id}\n", 0, store
+            yield f"begun{ids_text(store.master.cleaning.survivors)}\n", 0, store
 
     def line_copy(self):
         if not (self.master.cleaning and self.master.cleaning.rest):
             yield "refused Nothing\n", 0, self
             return
         store = yield from self.one_copy()
-        yield f"{self.master.copied()[0]}\n", 0, store
+        yield f"{self.master.copied(self.options)[0]}\n", 0, store
 
     def line_seal(self):
-        home = self.next_seal()
-        if home is None:
+        sealed = self.next_seal()
+        if sealed is None:
             yield "refused Nothing\n", 0, self
             return
         store = yield from self.one_seal()
         if store:
-            yield f"sealed {home}\n", 0, store
+            yield f"sealed {sealed[1]}\n", 0, store
 
     def line_free(self):
         home = self.next_free()
@@ -931,7 +963,7 @@ class Store:
         store = yield from self.pass_begun(ids)
         if not store:
             return
-        survivor = store.master.cleaning.survivor.id
+        survivors = store.master.cleaning.survivors
         while store.master.cleaning.rest:
             store = yield from store.one_copy()
         while store and store.next_seal() is not None:
@@ -942,7 +974,7 @@ class Store:
         while store and store.next_free() is not None:
             store = yield from store.one_free()
         if store:
-            yield f"cleaned {survivor} {store.master.segments[-1].id}\n", 0, store
+            yield f"cleaned{ids_text((*survivors, store.master.segments[-1]))}\n", 0, store
 
     # The parts of a line. Each yields the answers that end the line, and returns the store if the line goes on.
 
@@ -952,26 +984,27 @@ class Store:
             yield f"refused {refusal}\n", 0, self
             return None
         yield REFUSED, 1, self
-        return replace(self, master=self.master.cleaned(ids))
+        return replace(self, master=self.master.cleaned(ids, self.options))
 
     def one_copy(self):
         yield REFUSED, 1, self
-        return replace(self, master=self.master.copied()[1])
+        return replace(self, master=self.master.copied(self.options)[1])
 
     def next_seal(self):
-        """The backup on which the next replica of a survivor is sealed, or None."""
+        """The survivor of which the next replica is sealed, and the backup; or None."""
         cleaning = self.master.cleaning
-        if not cleaning or cleaning.rest or cleaning.sealed == self.options.replicas:
+        if not cleaning or cleaning.rest or self.master.is_ready(self.options):
             return None
-        return self.homes(cleaning.survivor.id)[cleaning.sealed]
+        place, replica = divmod(cleaning.sealed, self.options.replicas)
+        return cleaning.survivors[place], self.homes(cleaning.survivors[place].id)[replica]
 
     def one_seal(self):
         if self.fleet.left == 0:
             yield self.stopped()
             return None
         yield REFUSED, 1, self
-        cleaning = self.master.cleaning
-        holding = Holding(self.next_seal(), self.master.number, cleaning.survivor.id, cleaning.survivor.text, False)
+        cleaning, (survivor, home) = self.master.cleaning, self.next_seal()
+        holding = Holding(home, self.master.number, survivor.id, survivor.text, False)
         fleet = self.fleet.took(holding)
         if self.fleet.due == 1:
             yield self.halted(fleet)
@@ -1081,15 +1114,14 @@ class Store:
 
     def line_log(self):
         yield REFUSED, 1, self
-        yield "log" + "".join(f" {it.id}" for it in self.master.log()) + "\n", 0, self
+        yield f"log{ids_text(self.master.log())}\n", 0, self
 
     def line_room(self):
         used = self.master.used(self.options)
         yield f"used {used} free {self.options.seglets - used}\n", 0, self
 
     def line_hex(self, segment):
-        survivor = [self.master.cleaning.survivor] if self.master.cleaning else []
-        image = next((it for it in (*self.master.segments, *survivor) if it.id == segment), None)
+        image = next((it for it in (*self.master.segments, *self.master.survivors()) if it.id == segment), None)
         if not image:
             yield f"refused NotInLog {segment}\n", 0, self
             return

@@ -6,6 +6,8 @@ use std::io::{BufRead, BufWriter, Write};
 
 const BACKUPS: u64 = 3;
 const REPLICAS: u64 = 2;
+const MOST_SURVIVORS: usize = 4;
+const HEADER: usize = 18;
 const OBJECT: usize = 23;
 const TOMBSTONE: usize = 27;
 
@@ -46,7 +48,7 @@ enum Entry<'a> {
 fn entry_at(bytes: &[u8], at: usize) -> Entry<'_> {
     let b = &bytes[at..];
     match b[0] {
-        1 => Entry::Opening(18),
+        1 => Entry::Opening(HEADER),
         2 => Entry::Opening(5 + 8 * u32_at(b, 1)),
         3 => Entry::Opening(9),
         4 => {
@@ -409,71 +411,77 @@ impl Master {
         self.index.find(hash(table, key), |slot| slot.segment as u64 == id && slot.at as usize == at)
     }
 
-    /// How many bytes a pass keeps of these.
-    fn kept(&self, victims: &[u64]) -> usize {
-        let mut kept = 0;
+    /// How many survivors what a pass keeps of these fills. It reads no more of them once all the rest fits the last one.
+    fn count_survivors(&self, victims: &[u64]) -> usize {
+        let mut left: usize = victims.iter().map(|&id| self.images[id as usize].as_ref().unwrap().len()).sum();
+        let (mut count, mut level) = (1, HEADER);
         for &id in victims {
+            if level + left <= self.size {
+                break;
+            }
             let image = self.images[id as usize].as_ref().unwrap();
+            left -= image.len();
             let mut at = 0;
             while at < image.len() {
-                at += match entry_at(image, at) {
-                    Entry::Opening(len) => len,
-                    Entry::Object { table, key, len, .. } => {
-                        if self.is_held(table, key, id, at).is_some() {
-                            kept += len;
-                        }
-                        len
-                    }
-                    Entry::Tombstone { segment, len } => {
-                        if self.images[segment as usize].is_some() {
-                            kept += len;
-                        }
-                        len
-                    }
+                let (is_kept, len) = match entry_at(image, at) {
+                    Entry::Opening(len) => (false, len),
+                    Entry::Object { table, key, len, .. } => (self.is_held(table, key, id, at).is_some(), len),
+                    Entry::Tombstone { segment, len } => (self.images[segment as usize].is_some(), len),
                 };
+                if is_kept && level + len > self.size {
+                    (count, level) = (count + 1, HEADER);
+                }
+                level += if is_kept { len } else { 0 };
+                at += len;
             }
         }
-        kept
+        count
     }
 
-    fn clean(&mut self, victims: &[u64]) -> Option<(u64, u64)> {
-        let all: usize = victims.iter().map(|&id| self.images[id as usize].as_ref().unwrap().len()).sum();
-        if all + 18 > self.size && self.kept(victims) + 18 > self.size {
+    /// Cleans these segments. It answers the survivors and the new head.
+    fn clean(&mut self, victims: &[u64]) -> Option<(Vec<u64>, u64)> {
+        let count = self.count_survivors(victims);
+        if count > MOST_SURVIVORS {
             return None;
         }
-        let survivor = self.take_id();
-        let mut image = self.header(survivor, 1);
+        let ids: Vec<u64> = (0..count).map(|_| self.take_id()).collect();
+        let mut survivors: Vec<Vec<u8>> = ids.iter().map(|&id| self.header(id, 1)).collect();
+        let mut filling = 0;
         for &id in victims {
             let victim = self.images[id as usize].take().unwrap();
             let mut at = 0;
             while at < victim.len() {
-                at += match entry_at(&victim, at) {
-                    Entry::Opening(len) => len,
+                let (slot, is_kept, len) = match entry_at(&victim, at) {
+                    Entry::Opening(len) => (None, false, len),
                     Entry::Object { table, key, len, .. } => {
-                        if let Some(slot) = self.is_held(table, key, id, at) {
-                            let slot = &mut self.index.slots[slot];
-                            slot.segment = survivor as u32;
-                            slot.at = image.len() as u32;
-                            image.extend_from_slice(&victim[at..at + len]);
-                        }
-                        len
+                        let slot = self.is_held(table, key, id, at);
+                        (slot, slot.is_some(), len)
                     }
                     Entry::Tombstone { segment, len } => {
-                        let is_there = self.images[segment as usize].is_some() || victims.contains(&segment);
-                        if is_there {
-                            image.extend_from_slice(&victim[at..at + len]);
-                        }
-                        len
+                        (None, self.images[segment as usize].is_some() || victims.contains(&segment), len)
                     }
                 };
+                if is_kept {
+                    if survivors[filling].len() + len > self.size {
+                        filling += 1;
+                    }
+                    if let Some(slot) = slot {
+                        let slot = &mut self.index.slots[slot];
+                        (slot.segment, slot.at) = (ids[filling] as u32, survivors[filling].len() as u32);
+                    }
+                    survivors[filling].extend_from_slice(&victim[at..at + len]);
+                }
+                at += len;
             }
             self.images[id as usize] = Some(victim);
         }
-        for replica in self.replicas(survivor) {
-            *replica = Some(image.clone());
+        for (&id, mut image) in ids.iter().zip(survivors) {
+            for replica in self.replicas(id) {
+                *replica = Some(image.clone());
+            }
+            image.shrink_to(image.len().div_ceil(self.seglet) * self.seglet);
+            self.images[id as usize] = Some(image);
         }
-        image.shrink_to(image.len().div_ceil(self.seglet) * self.seglet);
-        self.images[survivor as usize] = Some(image);
         for &id in victims {
             self.images[id as usize] = None;
         }
@@ -483,7 +491,7 @@ impl Master {
                 *replica = None;
             }
         }
-        Some((survivor, self.head))
+        Some((ids, self.head))
     }
 }
 
@@ -517,7 +525,11 @@ fn main() {
             _ => {
                 let victims: Vec<u64> = words.map(number).collect();
                 match master.clean(&victims) {
-                    Some((survivor, head)) => writeln!(output, "cleaned {survivor} {head}").unwrap(),
+                    Some((survivors, head)) => {
+                        write!(output, "cleaned").unwrap();
+                        survivors.iter().for_each(|id| write!(output, " {id}").unwrap());
+                        writeln!(output, " {head}").unwrap();
+                    }
                     None => writeln!(output, "refused TooMuch").unwrap(),
                 }
             }

@@ -1,12 +1,10 @@
 -- What has been printed after one element more of a list.
 use Rattle.std.proofs.Common.{[], ◌≡◌, ◌∙◌, ◌+◌, ◌-◌, ◌<◌, ◌∷◌, ◌++◌, append_assoc, ap, sym, subst, ℕ, suc, List}
 use Rattle.std.proofs.Common.{Option}
-use Rattle.std.proofs.Common.{length, length-append, take, drop, get_or, arith, ◌≤◌, zero, slice_index_or, refl}
-use Rattle.std.proofs.Math.ListN.{replicate}
-use Rattle.std.proofs.Math.Seq.{take-append_seam}
-use Rattle.std.proofs.lemmas.List.{drop-replicate, flat_map_more, take_more}
+use Rattle.std.proofs.Common.{length, take, get_or, arith, ◌≤◌, zero, slice_index_or, refl}
+use Rattle.std.proofs.lemmas.List.{flat_map_more, take_more}
 use Rattle.std.specs.Fmt.{decimal}
-use Rattle.std.specs.List.{flat_map}
+use Rattle.std.specs.List.{flat_map, range_with_len}
 use Rattle.std.specs.Io.KnownBytes.{Appends}
 use Rattle.std.proofs.KnownBytes.{Appends-trans}
 use Rattle.entry.specs.declared.entry.Object.{Object}
@@ -29,6 +27,22 @@ pub one_more_printed : {X : Type 0} (text : X → List ℕ) (done : List X) (x :
     → Appends mid new (text x) → Appends old new (flat_map text (done ++ x ∷ []))
 one_more_printed text done x old mid new before one =
     subst (Appends old new) (flat_map_more text [] done x) (Appends-trans old mid new _ _ before one)
+
+-- one number more of those that follow one another
+range_more : (first n : ℕ) → range_with_len first n ++ (first + n) ∷ [] ≡ range_with_len first (suc n)
+range_more first zero = ap (λ (m : ℕ). m ∷ []) (omega arith)
+range_more first (suc n) =
+    ap (λ (l : List ℕ). first ∷ l)
+    (ap (λ (m : ℕ). range_with_len (first + 1) n ++ m ∷ []) (omega arith) ∙ range_more (first + 1) n)
+
+pub next_printed : (text : ℕ → List ℕ) (first n : ℕ) (old mid new : Option (List ℕ))
+    → Appends old mid (flat_map text (range_with_len first n)) → Appends mid new (text (first + n))
+    → Appends old new (flat_map text (range_with_len first (n + 1)))
+next_printed text first n old mid new before one =
+    let more : suc n ≡ n + 1 = omega arith in
+    subst (λ (l : List ℕ). Appends old new (flat_map text l))
+    (range_more first n ∙ ap (λ (m : ℕ). range_with_len first m) more)
+    (one_more_printed text (range_with_len first n) (first + n) old mid new before one)
 
 -- the pieces of an object's line
 pub object_printed : (o : Object) (a b c d e : Option (List ℕ)) → Appends a b (decimal o.key.table ++ 32 ∷ [])

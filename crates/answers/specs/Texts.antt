@@ -4,6 +4,8 @@ use Rattle.std.specs.Prelude.{None as nothing}
 use Rattle.std.specs.List.{flat_map}
 use Rattle.std.specs.Fmt.{decimal, digit_glyph}
 use Rattle.std.specs.Int.{w64, to_be_bytes}
+use Rattle.cleaner.specs.declared.survivors.Survivors.{Survivors}
+use Rattle.cleaner.specs.Passes.{survivor_ids}
 use Rattle.entry.specs.declared.entry.Object.{Object}
 use Rattle.replica.specs.declared.label.Label.{Label}
 use Rattle.replica.specs.declared.op.TakeFault.{TakeFault}
@@ -60,6 +62,15 @@ spaced_text n = 32 ∷ decimal n
 -- the ids of a digest
 abbrev pub log_text : List ℕ → List ℕ
 log_text ids = codes "log" ++ flat_map spaced_text ids ++ 10 ∷ []
+
+-- the survivors of a pass that began
+abbrev pub begun_text : Survivors → List ℕ
+begun_text survivors = codes "begun" ++ flat_map spaced_text (survivor_ids survivors) ++ 10 ∷ []
+
+-- the survivors of a cleaning, and the head that it ended with
+abbrev pub cleaned_text : Survivors → ℕ → List ℕ
+cleaned_text survivors head =
+    codes "cleaned" ++ flat_map spaced_text (survivor_ids survivors) ++ spaced_text head ++ 10 ∷ []
 
 -- the seglets of memory that are counted, and those that are free
 abbrev pub room_text : ℕ → ℕ → List ℕ
@@ -120,13 +131,13 @@ answer_text (answer.Compacted segment len) = op_text (codes "compacted ") segmen
 answer_text (answer.Extended backup segment) = op_text (codes "extend ") backup segment
 answer_text (answer.Opened backup segment) = op_text (codes "open ") backup segment
 answer_text (answer.Closed backup segment) = op_text (codes "close ") backup segment
-answer_text (answer.Begun survivor) = codes "begun " ++ decimal survivor ++ 10 ∷ []
+answer_text (answer.Begun survivors) = begun_text survivors
 answer_text answer.Moved = codes "moved" ++ 10 ∷ []
 answer_text answer.Carried = codes "carried" ++ 10 ∷ []
 answer_text answer.Dropped = codes "dropped" ++ 10 ∷ []
 answer_text (answer.Sealed backup) = codes "sealed " ++ decimal backup ++ 10 ∷ []
 answer_text (answer.Freed segment backup) = op_text (codes "freed ") segment backup
-answer_text (answer.Cleaned survivor head) = op_text (codes "cleaned ") survivor head
+answer_text (answer.Cleaned survivors head) = cleaned_text survivors head
 answer_text (answer.Counted clients rounds calls) = codes "clients " ++ decimal clients ++ 32 ∷ op_text [] rounds calls
 answer_text (answer.Log ids) = log_text ids
 answer_text (answer.Room used free) = room_text used free

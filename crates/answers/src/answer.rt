@@ -6,7 +6,9 @@ ghost use Rattle.std.specs.Io.KnownBytes.{Appends};
 ghost use Rattle.tablet_will.specs.Parts.{partitions_of};
 ghost use Rattle.answers.specs.Texts.{answer_text, hex_digits, hex_text, object_text, rebuilt_text, reply_text};
 ghost use Rattle.answers.specs.Texts.{part_text, place_text, will_text, take_fault_text};
-ghost use Rattle.answers.specs.Texts.{asked_text, op_text, log_text, room_text, spaced_text, label_text};
+ghost use Rattle.cleaner.specs.Passes.{survivor_ids};
+ghost use Rattle.answers.specs.Texts.{asked_text, begun_text, cleaned_text, op_text, log_text, room_text, spaced_text};
+ghost use Rattle.answers.specs.Texts.{label_text};
 ghost use Rattle.std.specs.List.{flat_map};
 ghost use Rattle.entry.specs.View.{shown_object};
 ghost use Rattle.history.specs.View.{shown_reply};
@@ -16,7 +18,7 @@ use crate::short_line::ShortLine;
 use entry::{ObjectRef, Row, Version};
 use history::{ReplyRef, view_reply};
 use itoa::write_digits;
-use master::{Refusal, Reply};
+use master::{Refusal, Reply, Survivors};
 use recovery::{Rebuilt, RecoveryFault};
 use replica::{Label, Labels, TakeFault};
 use std::io::{self, Write};
@@ -62,20 +64,20 @@ pub enum Answer {
     Opened(u64, u64),
     /// The backup and the segment of a push that closed a replica.
     Closed(u64, u64),
-    /// The survivor of the pass that began.
-    Begun(u64),
-    /// An object that is live was copied to the survivor.
+    /// The survivors of the pass that began.
+    Begun(Survivors),
+    /// An object that is live was copied to a survivor.
     Moved,
-    /// A tombstone that is kept was copied to the survivor.
+    /// A tombstone that is kept was copied to a survivor.
     Carried,
     /// An entry that isn't kept was passed over.
     Dropped,
-    /// The backup of a replica of the survivor that was sealed.
+    /// The backup of a replica of a survivor that was sealed.
     Sealed(u64),
     /// The segment and the backup of a replica that was freed.
     Freed(u64, u64),
-    /// The survivor of the cleaning that was made, and the head that it ended with.
-    Cleaned(u64, u64),
+    /// The survivors of the cleaning that was made, and the head that it ended with.
+    Cleaned(Survivors, u64),
     /// How many clients made how many rounds each, and how many calls were accepted.
     Counted(u64, u64, u64),
     /// The ids of the digest in force.
@@ -128,13 +130,13 @@ pub fn write_answer<W: Write>(writer: &mut W, answer: &Answer) -> io::Result<()>
         Answer::Extended(backup, segment) => write_op(writer, b"extend ", *backup, *segment),
         Answer::Opened(backup, segment) => write_op(writer, b"open ", *backup, *segment),
         Answer::Closed(backup, segment) => write_op(writer, b"close ", *backup, *segment),
-        Answer::Begun(survivor) => write_number(writer, b"begun ", *survivor, b'\n'),
+        Answer::Begun(survivors) => write_begun(writer, *survivors),
         Answer::Moved => writer.write_all(b"moved\n"),
         Answer::Carried => writer.write_all(b"carried\n"),
         Answer::Dropped => writer.write_all(b"dropped\n"),
         Answer::Sealed(backup) => write_number(writer, b"sealed ", *backup, b'\n'),
         Answer::Freed(segment, backup) => write_op(writer, b"freed ", *segment, *backup),
-        Answer::Cleaned(survivor, head) => write_op(writer, b"cleaned ", *survivor, *head),
+        Answer::Cleaned(survivors, head) => write_cleaned(writer, *survivors, *head),
         Answer::Counted(clients, rounds, calls) => {
             write_counted(writer, *clients, *rounds, *calls)
         }
@@ -324,6 +326,39 @@ fn write_room<W: Write>(writer: &mut W, used: u64, free: u64) -> io::Result<()>
 {
     write_number(writer, b"used ", used, b' ')?;
     write_number(writer, b"free ", free, b'\n')
+}
+
+/// Writes the line of the survivors of a pass that began.
+#[inline(never)]
+fn write_begun<W: Write>(writer: &mut W, survivors: Survivors) -> io::Result<()>
+    ensures { OnOk result (Appends (W.contents writer.old) (W.contents writer.new) (begun_text survivors)) }
+{
+    writer.write_all(b"begun")?;
+    write_survivors(writer, survivors)?;
+    writer.write_all(b"\n")
+}
+
+/// Writes the line of the survivors of a cleaning, and of the head that it ended with.
+#[inline(never)]
+fn write_cleaned<W: Write>(writer: &mut W, survivors: Survivors, head: u64) -> io::Result<()>
+    ensures { OnOk result (Appends (W.contents writer.old) (W.contents writer.new) (cleaned_text survivors head)) }
+{
+    writer.write_all(b"cleaned")?;
+    write_survivors(writer, survivors)?;
+    write_number(writer, b" ", head, b'\n')
+}
+
+/// Writes the numbers of survivors, each after a space.
+fn write_survivors<W: Write>(writer: &mut W, survivors: Survivors) -> io::Result<()>
+    ensures { OnOk result (Appends (W.contents writer.old) (W.contents writer.new)
+        (flat_map spaced_text (survivor_ids survivors))) }
+{
+    for place in 0..survivors.count {
+        // Wide, so that no number is too great.
+        let id = survivors.first as u128 + place as u128;
+        write!(writer, " {id}")?;
+    }
+    Ok(())
 }
 
 /// Writes the line of a digest.

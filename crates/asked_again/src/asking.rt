@@ -179,8 +179,8 @@ fn clean<B: Naming, R: Wait>(
     text: &[u8],
 ) -> Answer {
     match take(rt, alloc, store, text) {
-        Answer::Begun(survivor) => match finish(rt, alloc, store) {
-            Answer::Head(head) => Answer::Cleaned(survivor, head),
+        Answer::Begun(survivors) => match finish(rt, alloc, store) {
+            Answer::Head(head) => Answer::Cleaned(survivors, head),
             answer => answer,
         },
         answer => answer,

@@ -2,7 +2,9 @@
 
 ghost use Rattle.std.specs.Prelude.{◌≡◌, ◌≤◌, IfErr};
 ghost use Rattle.locked_log.specs.Ends.{IsFresh};
+ghost use Rattle.backup.specs.State.{fleet_state};
 ghost use Rattle.locked_log.specs.Made.{IsMade};
+ghost use Rattle.master.specs.World.{world};
 ghost use Rattle.store_lines.specs.Lives.{IsOpening};
 
 use crate::asking::{ask, push};
@@ -70,7 +72,7 @@ fn live_in<B: Naming, R: Wait, O: Write>(
     requires cells { (blank.cells ≡ B.cells) × (blank.seats ≡ B.made.seats) }
     requires ledger { (blank.name ≡ B.name) × (blank.parts ≡ B.parts) }
     requires mark { blank.table ≡ B.table }
-    requires made { IsMade B.made master.knows }
+    requires made { IsMade B.made (world fleet_state master) }
     ensures { IfErr result (λ m. m ≡ master) }
 {
     match Store::<MemoryFleet, B>::new(alloc, blank, master) {

@@ -93,13 +93,6 @@ impl MemoryFleet {
         self.backups.len() as u64
     }
 
-    /// Whether any head may be used of the masters from this number on.
-    pub fn is_unraised(&self, number: u64) -> bool
-        ensures { IsTrue result → (m : ℕ) → number ≤ m → (fleet_state self.now).least m ≡ 0 }
-    {
-        self.registry.is_unraised(number)
-    }
-
     /// Makes a backup lose all that it holds. An empty one has its number from then on. A number that is no backup's
     /// changes nothing.
     pub fn lose(&mut self, backup: u64)

@@ -1,6 +1,6 @@
 //! The registry of least heads.
 
-ghost use Rattle.std.specs.Prelude.{◌≡◌, ◌≤◌, ℕ, [], IsTrue, OnOk, OnErr};
+ghost use Rattle.std.specs.Prelude.{◌≡◌, [], OnOk, OnErr};
 ghost use Rattle.replica.specs.Registry.{with_least};
 ghost use Rattle.backup.specs.Registry.{least_in};
 
@@ -40,16 +40,6 @@ impl Registry {
         match self.heads.get(&master) {
             Some(id) => *id,
             None => 0,
-        }
-    }
-
-    /// Whether no master with this number or a greater one was raised.
-    pub(crate) fn is_unraised(&self, number: u64) -> bool
-        ensures { IsTrue result → (m : ℕ) → number ≤ m → least_in self.now m ≡ 0 }
-    {
-        match self.heads.last_key_value() {
-            Some((greatest, _)) => *greatest < number,
-            None => true,
         }
     }
 

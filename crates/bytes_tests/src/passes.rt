@@ -3,11 +3,12 @@
 ghost use Rattle.std.specs.Prelude.{◌≡◌, Some, true, IsSome};
 ghost use Rattle.images.specs.Sorted.{IsWhole, segment_of};
 ghost use Rattle.images.specs.Steps.{len_at};
-ghost use Rattle.cleaner.specs.Passes.{ids_in, IsPass, HasRoom};
+ghost use Rattle.cleaner.specs.KeptLengths.{HasRoomsIn};
+ghost use Rattle.cleaner.specs.Passes.{ids_in, IsPass};
 
 use crate::compactions::{BEFORE, NEWER, OF_CLOSED, OF_NEW, OTHER, add_spelt, set_both};
 use crate::vectors::{SURVIVOR, are_spelt};
-use cleaner::{Copied, Pass, fit};
+use cleaner::{Copied, Pass, Survivors, fit};
 use entry::{Key, Row};
 use hash_index::Index;
 use images::Images;
@@ -51,7 +52,7 @@ fn letter(copied: Copied) -> char {
 /// Whether each entry becomes what it should, and the pass then is at its end.
 fn copies(pass: &mut Pass, images: &mut Images, index: &mut Index) -> bool
     requires pass { IsPass index.old.held.seed images.old.images pass.old }
-    requires room { HasRoom 512 (ids_in images.old.images 2 (Some 4)) pass.old images.old.images index.old.held }
+    requires room { HasRoomsIn 512 (ids_in images.old.images 2 (Some 4)) pass.old images.old.images index.old.held }
     requires segment { images.old.segment ≡ 512 }
 {
     for becomes in BECOMES {
@@ -81,16 +82,17 @@ fn runs(alloc: Global, images: &mut Images, index: &mut Index) -> bool {
     if !are_ready(images) {
         return false;
     }
-    let Some(near) = fit(&[1], images, index, 2, Some(4), 512) else {
+    let Some(size) = fit(&[1], images, index, 2, Some(4), 512) else {
         return false;
     };
-    if len_of(images, 3) > 18 {
+    if size.survivors != 1 || len_of(images, 3) != 18 {
         return false;
     }
     let Ok(victims) = Vec::from_slice(alloc, &[1]) else {
         return false;
     };
-    let mut pass = Pass::begin(Row::new(victims), near, 3, images, index);
+    let survivors = Survivors { first: 3, count: 1 };
+    let mut pass = Pass::begin(Row::new(victims), size.near, survivors, images, index);
     copies(&mut pass, images, index)
 }
 

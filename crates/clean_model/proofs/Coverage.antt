@@ -78,7 +78,7 @@ intact_is_covered d m p i = covered d m p p i
     (λ b s r e is h. inr (replicas_are_texts d i.log.texts p b s r e i.log.held is h))
 
 pub intact_is_sound : IntactIsSound
-intact_is_sound d m p i = kept_is_sound d p i.log
+intact_is_sound d m shown i usable = kept_is_sound d shown i.log usable
 
 pub intact_is_durable : IntactIsDurable
 intact_is_durable d m p i = (kept_is_durable d p i.log, kept_is_replicated d p i.log)

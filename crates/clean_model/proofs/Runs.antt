@@ -24,7 +24,8 @@ goes_on : (e : CleanEvent) (w v : CleanWorld) → Intact w → CleanBecomes e w 
 goes_on (Applies segment r) w v i is =
     subst Intact (sym is.2) (apply_keeps w.knows w.memory w.picture segment r i is.0 is.1)
 goes_on (Compacts s) w v i is = subst Intact (sym is.1) (compact_keeps w.knows w.memory w.picture s i is.0)
-goes_on (Begins victims) w v i is = subst Intact (sym is.1) (begin_keeps w.knows w.memory w.picture victims i is.0)
+goes_on (Begins victims count) w v i is =
+    subst Intact (sym is.1) (begin_keeps w.knows w.memory w.picture victims count i is.0)
 goes_on (Copies first rest s f) w v i is =
     subst Intact (sym is.1) (copy_keeps w.knows w.memory w.picture first rest s f i is.0)
 goes_on (Seals s b) w v i is =
@@ -55,7 +56,8 @@ clean_runs_are_sound w v es i is =
     let durable = intact_is_durable v.knows v.memory v.picture then_intact in
     record {
       covered = intact_is_covered v.knows v.memory v.picture then_intact;
-      sound = intact_is_sound v.knows v.memory v.picture then_intact;
+      sound = λ least usable.
+          intact_is_sound v.knows v.memory (record { holds = v.picture; least = least }) then_intact usable;
       past = then_intact.log.past;
       durable = durable.0;
       replicated = durable.1;

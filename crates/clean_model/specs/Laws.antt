@@ -1,7 +1,8 @@
 -- What holds through every step.
 use Rattle.std.specs.Prelude.{◌≡◌, ℕ, List, Some, true, false}
 use Rattle.entry.specs.declared.entry.Entry.{Entry}
-use Rattle.replica.specs.Picture.{Picture, shown_by}
+use Rattle.replica.specs.Choice.{IsUsableHead}
+use Rattle.replica.specs.Picture.{Picture, Shown}
 use Rattle.versioned_map.specs.declared.command.Record.{Record}
 use Rattle.versioned_map.specs.Represents.{Represents}
 use Rattle.log_model.specs.Data.{LogConfig, Start, Ready, LogData, state_of, durable_of}
@@ -9,13 +10,14 @@ use Rattle.log_model.specs.Durable.{IsDurable, IsReplicated, IsPastOf}
 use Rattle.log_model.specs.Log.{base_of}
 use Rattle.log_model.specs.Ops.{LogOp, taken}
 use Rattle.log_model.specs.Sound.{IsSound}
-use Rattle.log_model.specs.Steps.{fresh, MayBegin, applied, MayApply, next_start, rolling, MayRoll, id_taken, IsNext}
+use Rattle.log_model.specs.Steps.{fresh, MayBegin, applied, MayApply, next_start, rolling, MayRoll, IsNext}
 use Rattle.clean_model.specs.Covered.{IsCovered}
 use Rattle.clean_model.specs.Intact.{IsCommit, IsReady, IsIntact}
 use Rattle.clean_model.specs.Memory.{Place, Memory}
 use Rattle.clean_model.specs.Same.{IsSameMemory}
-use Rattle.clean_model.specs.Steps.{first_memory, compacted, MayCompact, pass_begun, MayBeginClean, copy_done, MayCopy}
-use Rattle.clean_model.specs.Steps.{recorded, IsNamed, rolled, commit_start, MayCommit, after_take, seal_op}
+use Rattle.clean_model.specs.Steps.{first_memory, compacted, MayCompact, ids_taken, pass_begun, MayBeginClean}
+use Rattle.clean_model.specs.Steps.{copy_done, MayCopy, recorded, IsNamed, rolled, commit_start, MayCommit, after_take}
+use Rattle.clean_model.specs.Steps.{seal_op}
 use Rattle.clean_model.specs.Steps.{sealed_more, MaySeal, free_op, freed_more, MayFree, IsFault, with_own}
 
 -- ---- what is intact
@@ -24,9 +26,10 @@ use Rattle.clean_model.specs.Steps.{sealed_more, MaySeal, free_op, freed_more, M
 abbrev pub IntactIsCovered : Type 0
 IntactIsCovered = (d : LogData) (m : Memory) (p : Picture) → IsIntact d m p → IsCovered d m p
 
--- The picture is sound.
+-- The picture is sound, if the head in force may be used.
 abbrev pub IntactIsSound : Type 0
-IntactIsSound = (d : LogData) (m : Memory) (p : Picture) → IsIntact d m p → IsSound d (shown_by p)
+IntactIsSound = (d : LogData) (m : Memory) (shown : Shown) → IsIntact d m shown.holds
+    → IsUsableHead shown.least d.head.start.id → IsSound d shown
 
 -- The durable count is that of the takes that answered Ok, and each durable unit is on the backups.
 abbrev pub IntactIsDurable : Type 0
@@ -82,10 +85,10 @@ abbrev pub CompactKeeps : Type 0
 CompactKeeps = (d : LogData) (m : Memory) (p : Picture) (s : ℕ) → IsIntact d m p → MayCompact d m s
     → IsIntact d (compacted d m s) p
 
--- A pass that begins leaves all intact.
+-- A pass that begins leaves all intact, with however many survivors.
 abbrev pub BeginKeeps : Type 0
-BeginKeeps = (d : LogData) (m : Memory) (p : Picture) (victims : List ℕ) → IsIntact d m p → MayBeginClean d m victims
-    → IsIntact (id_taken d) (pass_begun d m victims) p
+BeginKeeps = (d : LogData) (m : Memory) (p : Picture) (victims : List ℕ) (count : ℕ) → IsIntact d m p
+    → MayBeginClean d m victims → IsIntact (ids_taken count d) (pass_begun d m victims count) p
 
 -- A copy of one entry of the victims leaves all intact, whether it is moved, carried or dropped.
 abbrev pub CopyKeeps : Type 0
@@ -124,7 +127,8 @@ OwnIsFault = (d : LogData) (m : Memory) (p q r : Picture) → IsFault d m p q
 
 -- After a fault, whichever op was taken or not, the picture is sound for what the master knew.
 abbrev pub FaultIsSound : Type 0
-FaultIsSound = (d : LogData) (m : Memory) (p q : Picture) → IsIntact d m p → IsFault d m p q → IsSound d (shown_by q)
+FaultIsSound = (d : LogData) (m : Memory) (p : Picture) (shown : Shown) → IsIntact d m p
+    → IsFault d m p shown.holds → IsUsableHead shown.least d.head.start.id → IsSound d shown
 
 -- After a fault images and replicas keep the map that the master knew.
 abbrev pub FaultIsCovered : Type 0

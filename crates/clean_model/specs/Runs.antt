@@ -1,19 +1,20 @@
 -- Lists of events, in any order.
 use Rattle.std.specs.Prelude.{◌≡◌, ℕ, List, [], ◌∷◌, Some, true, false}
 use Rattle.entry.specs.declared.entry.Entry.{Entry}
-use Rattle.replica.specs.Picture.{Picture, shown_by}
+use Rattle.replica.specs.Choice.{IsUsableHead}
+use Rattle.replica.specs.Picture.{Picture}
 use Rattle.versioned_map.specs.declared.command.Record.{Record}
 use Rattle.log_model.specs.Data.{Start, Head, LogData, durable_of}
 use Rattle.log_model.specs.Durable.{IsDurable, IsReplicated, IsPastOf}
 use Rattle.log_model.specs.Ops.{LogOp, taken}
 use Rattle.log_model.specs.Sound.{IsSound}
-use Rattle.log_model.specs.Steps.{applied, MayApply, next_start, rolling, MayRoll, id_taken, IsNext}
+use Rattle.log_model.specs.Steps.{applied, MayApply, next_start, rolling, MayRoll, IsNext}
 use Rattle.clean_model.specs.Covered.{IsCovered}
 use Rattle.clean_model.specs.Intact.{IsIntact}
 use Rattle.clean_model.specs.Memory.{Place, Memory}
-use Rattle.clean_model.specs.Steps.{compacted, MayCompact, pass_begun, MayBeginClean, copy_done, MayCopy, recorded}
-use Rattle.clean_model.specs.Steps.{IsNamed, rolled, MayCommit, after_take, seal_op, sealed_more, MaySeal, free_op}
-use Rattle.clean_model.specs.Steps.{freed_more, MayFree}
+use Rattle.clean_model.specs.Steps.{compacted, MayCompact, ids_taken, pass_begun, MayBeginClean, copy_done, MayCopy}
+use Rattle.clean_model.specs.Steps.{recorded, IsNamed, rolled, MayCommit, after_take, seal_op, sealed_more, MaySeal}
+use Rattle.clean_model.specs.Steps.{free_op, freed_more, MayFree}
 
 -- A master, its memory and the backups.
 pub record CleanWorld : Type 0 where
@@ -25,7 +26,7 @@ pub record CleanWorld : Type 0 where
 pub data CleanEvent : Type 0 where
   Applies : ℕ → Record → CleanEvent
   Compacts : ℕ → CleanEvent
-  Begins : List ℕ → CleanEvent
+  Begins : List ℕ → ℕ → CleanEvent
   Copies : Place → List Place → ℕ → Entry → CleanEvent
   Seals : ℕ → ℕ → CleanEvent
   Rolls : CleanEvent
@@ -41,9 +42,9 @@ CleanBecomes (Applies segment r) w v = MayApply w.knows segment r × IsNamed w.m
 })
 CleanBecomes (Compacts s) w v =
     MayCompact w.knows w.memory s × (v ≡ record w { memory = compacted w.knows w.memory s })
-CleanBecomes (Begins victims) w v = MayBeginClean w.knows w.memory victims × (v ≡ record w {
-  knows = id_taken w.knows;
-  memory = pass_begun w.knows w.memory victims;
+CleanBecomes (Begins victims count) w v = MayBeginClean w.knows w.memory victims × (v ≡ record w {
+  knows = ids_taken count w.knows;
+  memory = pass_begun w.knows w.memory victims count;
 })
 CleanBecomes (Copies first rest s e) w v = MayCopy w.knows w.memory first rest s e
     × (v ≡ record w { memory = copy_done w.knows w.memory first rest s e })
@@ -69,11 +70,12 @@ abbrev pub IsCleanRun : CleanWorld → List CleanEvent → CleanWorld → Type 0
 IsCleanRun w [] v = v ≡ w
 IsCleanRun w (e ∷ es) v = (u : CleanWorld) × CleanBecomes e w u × IsCleanRun u es v
 
--- What holds at a stop: memory and backups are covered, the picture is sound, and what is durable is on the backups,
--- with the heads that went before.
+-- What holds at a stop: memory and backups are covered; the picture is sound with any least head under which the head in
+-- force may be used; and what is durable is on the backups, with the heads that went before.
 pub record IsCleanStop (w : CleanWorld) : Type 0 where
   pub covered : IsCovered w.knows w.memory w.picture
-  pub sound : IsSound w.knows (shown_by w.picture)
+  pub sound : (least : ℕ) → IsUsableHead least w.knows.head.start.id
+      → IsSound w.knows (record { holds = w.picture; least = least })
   pub past : List Head
   pub durable : IsDurable w.knows past (durable_of w.knows)
   pub replicated : IsReplicated w.knows past w.picture

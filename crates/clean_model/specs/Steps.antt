@@ -1,6 +1,7 @@
 -- What a master and its memory become: compaction, a pass, a command, a roll, an op taken.
-use Rattle.std.specs.Prelude.{◌≡◌, ℕ, suc, ◌<◌, ◌≤◌, ◌⊎◌, ◌==◌, List, [], ◌∷◌, ◌++◌, length, Bool, false, Option}
+use Rattle.std.specs.Prelude.{◌≡◌, ℕ, suc, ◌+◌, ◌<◌, ◌≤◌, ◌⊎◌, ◌==◌, List, [], ◌∷◌, ◌++◌, length, Bool, false, Option}
 use Rattle.std.specs.Prelude.{Some, None, if◌then◌else◌}
+use Rattle.std.specs.List.{range_with_len}
 use Rattle.entry.specs.declared.key.Key.{Key}
 use Rattle.entry.specs.declared.entry.Entry.{Entry}
 use Rattle.entry.specs.declared.entry.Entry.TheVariants as entry
@@ -11,7 +12,8 @@ use Rattle.replica.specs.Op.{Seal, Free}
 use Rattle.replica.specs.Picture.{Picture}
 use Rattle.versioned_map.specs.declared.command.Record.{Record}
 use Rattle.versioned_map.specs.Command.{command_key}
-use Rattle.log_model.specs.Data.{LogConfig, Start, Ready, LogData, IsHomeAt, ids_of, digest_for, lens_next, start_entries}
+use Rattle.log_model.specs.Data.{LogConfig, Start, Ready, LogData, IsHomeAt, ids_of, digest_for, lens_next}
+use Rattle.log_model.specs.Data.{start_entries}
 use Rattle.log_model.specs.Data.{new_of, state_of}
 use Rattle.log_model.specs.Ops.{LogOp, taken}
 use Rattle.log_model.specs.Steps.{first_start, len_now, unit_now, IsNext}
@@ -52,11 +54,20 @@ pub record MayCompact (d : LogData) (m : Memory) (s : ℕ) : Type 0 where
 
 -- ---- a pass begins
 
--- memory once a pass has begun: its survivor has the next id, and its cursor all places of the victims before it
-abbrev pub pass_begun : LogData → Memory → List ℕ → Memory
-pass_begun d m victims = record m {
-  images = with_image m.images d.next (survivor_entries d.config.master d.next);
-  pass = record { victims = victims; survivors = d.next ∷ [] };
+-- the master once so many segments that are no heads have the next ids
+abbrev pub ids_taken : ℕ → LogData → LogData
+ids_taken count d = record d { next = d.next + count }
+
+-- images once each of these survivors has its header alone
+abbrev pub survivors_begun : ℕ → List ℕ → Images → Images
+survivors_begun master survivors image = λ s. if has survivors s then survivor_entries master s else image s
+
+-- memory once a pass with so many survivors has begun: they have the next ids, and its cursor all places of the victims
+-- before it
+abbrev pub pass_begun : LogData → Memory → List ℕ → ℕ → Memory
+pass_begun d m victims count = record m {
+  images = survivors_begun d.config.master (range_with_len d.next count) m.images;
+  pass = record { victims = victims; survivors = range_with_len d.next count };
   rest = places victims m.images;
   sealed = λ s. 0;
 }

@@ -1,7 +1,8 @@
 -- One entry is treated.
-use Rattle.std.proofs.Common.{◌≡◌, ℕ, ◌+◌, ◌≤◌, Bool, true, false, cond, List, [], ◌∷◌, length, refl, sym, ap, subst}
-use Rattle.std.proofs.Common.{◌∙◌, arith}
+use Rattle.std.proofs.Common.{◌≡◌, ℕ, ◌+◌, Bool, true, false, cond, List, [], ◌∷◌, length, refl, sym, ap, subst}
+use Rattle.std.proofs.Common.{◌∙◌}
 use Rattle.std.specs.Prelude.{Option, Some, None, IsSome, IsSomeAnd, IfSome, unwrap_or}
+use Rattle.std.specs.List.{AllByRecursion}
 use Rattle.std.specs.Option.{option_and_then}
 use Rattle.entry.specs.declared.entry.Object.{Object}
 use Rattle.entry.specs.declared.entry.Tombstone.{Tombstone}
@@ -18,7 +19,7 @@ use Rattle.places.specs.Relocation.{holds, held_of, relocated}
 use Rattle.images.specs.Image.{Image}
 use Rattle.images.specs.Sorted.{segment_of, changed}
 use Rattle.images.specs.Images.{ImagesValue}
-use Rattle.images.specs.Steps.{entry_at, with_unit, len_at, StandsData, HasData}
+use Rattle.images.specs.Steps.{entry_at, with_unit, StandsData, HasData}
 use Rattle.compactor.specs.Kept.{kept, has_id}
 use Rattle.cleaner.specs.declared.pass.Copied.{Copied}
 use Rattle.cleaner.specs.declared.pass.Copied.TheVariants as copied
@@ -26,11 +27,17 @@ use Rattle.cleaner.specs.declared.ahead.Seen.{Seen}
 use Rattle.cleaner.specs.declared.ahead.Seen.TheVariants as seen
 use Rattle.cleaner.specs.declared.treating.Fate.{Fate}
 use Rattle.cleaner.specs.declared.treating.Fate.TheVariants as fate
-use Rattle.cleaner.specs.Passes.{images_in, kept_len, copied_as, copy_place, images_with, held_with, seen_of, seen_len}
-use Rattle.cleaner.specs.Passes.{IsSeenAt}
+use Rattle.cleaner.specs.declared.level.Level.{Level}
+use Rattle.cleaner.specs.declared.survivors.Survivors.{Survivors}
+use Rattle.cleaner.specs.Filling.{filled_one}
+use Rattle.cleaner.specs.KeptLengths.{lengths_at}
+use Rattle.cleaner.specs.Passes.{images_in, level_at, filling_with, copied_as, copy_place, images_with, held_with}
+use Rattle.cleaner.specs.Passes.{seen_of, seen_len, IsSeenAt}
 use Rattle.cleaner.specs.Walks.{fate_by, IsSeen, HasFate, Treats}
 use Rattle.cleaner.proofs.Reading.{shows_data, shows_len}
-use Rattle.cleaner.proofs.Keeping.{stands, stands_data, len_stands}
+use Rattle.cleaner.proofs.Keeping.{stands, stands_data}
+use Rattle.cleaner.proofs.Lengths.{One, at_stands}
+use Rattle.cleaner.proofs.Rooms.{of_read, all_read}
 
 -- the entry that is seen is read
 pub seen_at : (images : List Image) (p : Place) (n : ℕ) (e : Entry) → IsSome (segment_of images p.segment)
@@ -95,6 +102,15 @@ pub tombstone_kept : (held : Places) (p : Place) (b : Bool) (e : Entry) → fate
     → b ≡ true
 tombstone_kept held p true e is = refl
 tombstone_kept held p false e is = absurd (cc)
+
+-- what is found dead isn't
+pub dead_kept : (held : Places) (p : Place) (b : Bool) (e : Entry) → fate_by held b p e ≡ fate.Dead → b ≡ false
+dead_kept held p false e is = refl
+dead_kept held p true (entry.Header x) is = absurd (cc)
+dead_kept held p true (entry.Digest x) is = absurd (cc)
+dead_kept held p true (entry.Safe x) is = absurd (cc)
+dead_kept held p true (entry.Object x) is = absurd (cc)
+dead_kept held p true (entry.Tombstone x) is = absurd (cc)
 
 -- ---- by what was read
 
@@ -174,27 +190,36 @@ module _ (images : List Image) (p : Place) (n : ℕ) (e : Entry) where
             subst (λ (xs : List Entry). StandsData (text_of xs) p.at n) own
             (stands_data (images_in images p.segment) p.at n e seen.valid seen.of_data seen.size seen.stands)
 
-    pub copy_room : (ids : List ℕ) (held : Places) (survivor segment : ℕ) → kept ids held p e ≡ true
-        → len_at images survivor + kept_len ids held (images_in images) p ≤ segment
-        → IfSome Read (λ (x : Entry). len_at images survivor + length (spelling x) ≤ segment)
-    copy_room ids held survivor segment keeps room =
-        let len : kept_len ids held (images_in images) p ≡ length (spelling e) =
-        len_stands ids held (images_in images) p e seen.valid seen.stands
-        ∙ ap (λ (b : Bool). cond b (length (spelling e)) 0) keeps in
-        subst (λ (o : Option Entry). IfSome o (λ (x : Entry). len_at images survivor + length (spelling x) ≤ segment))
-        (sym (seen_at images p n e there seen)) (omega (arith, room, len))
+    pub copy_room : (ids : List ℕ) (held : Places) (P : ℕ → Type 0) → kept ids held p e ≡ true
+        → AllByRecursion P (lengths_at ids held p (standing_at p.at (text_of (images_in images p.segment))))
+        → IfSome Read (λ (x : Entry). P (length (spelling x)))
+    copy_room ids held P keeps room =
+        let lengths : lengths_at ids held p (standing_at p.at (text_of (images_in images p.segment)))
+        ≡ length (spelling e) ∷ [] =
+        at_stands ids held (images_in images) p e seen.valid seen.stands ∙ ap (λ (b : Bool). One b e) keeps in
+        all_read Read e (λ (x : Entry). P (length (spelling x))) (seen_at images p n e there seen)
+        (subst (AllByRecursion P) lengths room).0
 
     -- what is appended is the entry
     pub copied_is : (survivor : ℕ) (new old : ImagesValue) → IfSome Read (λ (x : Entry). new ≡
         record old { images = changed images survivor (with_unit (x ∷ [])) })
         → new ≡ record old { images = changed images survivor (with_unit (e ∷ [])) }
-    copied_is survivor new old is =
-        subst (λ (o : Option Entry). IfSome o (λ (x : Entry). new ≡
-        record old { images = changed images survivor (with_unit (x ∷ [])) })) (seen_at images p n e there seen) is
+    copied_is survivor new old is = of_read Read e (λ (x : Entry). new ≡
+        record old { images = changed images survivor (with_unit (x ∷ [])) }) (seen_at images p n e there seen) is
 
-  pub treats : (seen : IsSeen (images_in images) p n e) (ids : List ℕ) (held : Places) (survivor : ℕ)
-      (copied : Copied) (after : List Image) (later : Places)
-      → Does p survivor images held (kept ids held p e) e copied after later
-      → Treats ids images held p survivor copied n after later
-  treats seen ids held survivor copied after later does =
-      record { entry = e; seen = seen; told = does.0; grown = does.1; index = does.2 }
+    -- it goes to the survivor that is filled then
+    pub filled_is : (ids : List ℕ) (held : Places) (segment : ℕ) (a : Level) (after : ℕ) → kept ids held p e ≡ true
+        → IfSome Read (λ (x : Entry). after ≡ (filled_one segment a (length (spelling x))).survivor)
+        → after ≡ filling_with (kept ids held p e) segment a e
+    filled_is ids held segment a after keeps is =
+        of_read Read e (λ (x : Entry). after ≡ (filled_one segment a (length (spelling x))).survivor)
+        (seen_at images p n e there seen) is
+        ∙ sym (ap (λ (b : Bool). filling_with b segment a e) keeps)
+
+  pub treats : (seen : IsSeen (images_in images) p n e) (segment : ℕ) (ids : List ℕ) (held : Places) (s : Survivors)
+      (filling : ℕ) (copied : Copied) (filling_after : ℕ) (after : List Image) (later : Places)
+      → filling_after ≡ filling_with (kept ids held p e) segment (level_at s filling images) e
+      → Does p (s.first + filling_after) images held (kept ids held p e) e copied after later
+      → Treats segment ids images held p s filling copied n filling_after after later
+  treats seen segment ids held s filling copied filling_after after later filled does =
+      record { entry = e; seen = seen; told = does.0; filled = filled; grown = does.1; index = does.2 }

@@ -2,6 +2,7 @@
 use Rattle.std.proofs.Common.{◌≡◌, ℕ, ◌+◌, ◌≤◌, true, List, [], ◌∷◌, length, drop, refl, sym, ap, subst, inl, inr}
 use Rattle.std.proofs.Common.{arith}
 use Rattle.std.specs.Prelude.{◌↔◌, Option, IsSome, unwrap_or}
+use Rattle.std.specs.List.{AllByRecursion}
 use Rattle.std.proofs.lemmas.Bool.{eqb-true, eq-eqb}
 use Rattle.std.proofs.lemmas.List.{length-drop, drop_all}
 use Rattle.entry.specs.declared.entry.Entry.{Entry}
@@ -12,7 +13,8 @@ use Rattle.images.specs.Image.{Image}
 use Rattle.images.specs.Sorted.{IsWhole, segment_of}
 use Rattle.cleaner.specs.declared.pass.Cursor.{Cursor}
 use Rattle.cleaner.specs.declared.pass.Pass.{Pass}
-use Rattle.cleaner.specs.Passes.{images_in, AreVictims, rest_of, is_at_end, places_on, IsAhead, IsCursorAt, IsPass}
+use Rattle.cleaner.specs.Passes.{images_in, survivor_ids, AreVictims, rest_of, is_at_end, places_on, IsAhead}
+use Rattle.cleaner.specs.Passes.{IsCursorAt, IsPass}
 use Rattle.cleaner.specs.Laws.{AreSameAt}
 use Rattle.cleaner.proofs.Places.{place_at, on_data, on_same, on_segment, among_drop}
 use Rattle.cleaner.proofs.Reading.{ahead_data}
@@ -47,14 +49,16 @@ victims_agree images again survivor (s ∷ ids) same all = (
 )
 
 pub pass_agrees : (seed : List ℕ) (images again : List Image) (p : Pass) → IsPass seed images p
-    → ((s : ℕ) → IsAmong s p.victims → segment_of again s ≡ segment_of images s) → IsWhole again p.survivor
+    → ((s : ℕ) → IsAmong s p.victims → segment_of again s ≡ segment_of images s)
+    → AllByRecursion (IsWhole again) (survivor_ids p.survivors)
     → IsPass seed again p × (rest_of (images_in again) p ≡ rest_of (images_in images) p)
 pass_agrees seed images again p pass same whole =
     let all : AreSameAt (images_in images) (images_in again) p.victims = λ s m.
     ap (λ (o : Option (List Entry)). unwrap_or o []) (same s m) in (
       record {
-        victims = victims_agree images again p.survivor p.victims same pass.victims;
+        victims = victims_agree images again p.survivors.first p.victims same pass.victims;
         whole = whole;
+        numbers = pass.numbers;
         within = pass.within;
         cursor = cursor_agrees seed (images_in images) (images_in again) p all pass.cursor;
       },

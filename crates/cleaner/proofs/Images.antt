@@ -1,19 +1,21 @@
 -- The entries of images.
-use Rattle.std.proofs.Common.{◌≡◌, ℕ, ◌<◌, Bool, true, false, cond, List, [], ◌∷◌, ◌++◌, length, map, refl, sym, ap}
-use Rattle.std.proofs.Common.{subst, ◌∙◌, arith}
+use Rattle.std.proofs.Common.{◌≡◌, ℕ, ◌<◌, ◌≤◌, Bool, true, false, cond, ◌==◌, List, [], ◌∷◌, ◌++◌, length, map}
+use Rattle.std.proofs.Common.{refl, sym, ap, subst, ◌∙◌, arith}
 use Rattle.std.specs.Prelude.{Option, Some, None, IsSome, IsSomeAnd, unwrap_or}
 use Rattle.std.specs.List.{AllByRecursion}
 use Rattle.std.specs.Option.{option_map, option_map_or}
-use Rattle.std.proofs.lemmas.Bool.{ne_eqb}
+use Rattle.std.proofs.lemmas.Bool.{ne_eqb, eqb-true, eqb-false}
+use Rattle.std.proofs.lemmas.Option.{same_Some}
 use Rattle.entry.specs.declared.entry.Entry.{Entry}
 use Rattle.entry.specs.Bag.{IsAmong}
 use Rattle.entry.specs.Text.{text_of}
 use Rattle.entry.proofs.ListLemmas.{all_among, all_weaker}
 use Rattle.images.specs.Image.{Image}
+use Rattle.images.specs.Images.{AreWithin}
 use Rattle.images.specs.Sorted.{IsWhole, image_of, segment_of, changed}
 use Rattle.images.specs.Steps.{with_unit, len_at}
 use Rattle.images.proofs.Callers.{image_changed, whole_grown}
-use Rattle.images.proofs.Finding.{segment_changed_is, ids_changed}
+use Rattle.images.proofs.Finding.{other_changed, segment_changed_is, ids_changed}
 use Rattle.cleaner.specs.Passes.{images_in, AreVictims, images_with}
 
 -- what is read of an image
@@ -28,6 +30,21 @@ len_is images s = go (segment_of images s)
         → option_map_or (λ (es : List Entry). length (text_of es)) o 0 ≡ length (text_of (unwrap_or o []))
     go None = refl
     go (Some es) = refl
+
+-- no image is longer than a segment
+pub is_within : (limit : ℕ) (images : List Image) (s : ℕ) (es : List Entry) → AreWithin limit images
+    → Some es ≡ segment_of images s → length (text_of es) ≤ limit
+is_within limit [] s es all is = absurd (cc)
+is_within limit (x ∷ xs) s es all is = go (x.id == s) refl (is_within limit xs s es all.1)
+  where
+    go : (b : Bool) → (x.id == s) ≡ b → (Some es ≡ segment_of xs s → length (text_of es) ≤ limit)
+        → length (text_of es) ≤ limit
+    go true test later =
+        let own : Some es ≡ Some x.segment =
+        is ∙ ap (λ (t : Bool). option_map (λ (y : Image). y.segment) (cond t (Some x) (image_of xs s))) test in
+        subst (λ (f : List Entry). length (text_of f) ≤ limit) (same_Some x.segment es (sym own)) all.0
+    go false test later =
+        later (is ∙ ap (λ (t : Bool). option_map (λ (y : Image). y.segment) (cond t (Some x) (image_of xs s))) test)
 
 -- ---- victims
 
@@ -69,6 +86,19 @@ module _ (images : List Image) (survivor : ℕ) (e : Entry) where
           ∙ ap (λ (es : List Entry). es ++ e ∷ [])
           (sym (ap (λ (o : Option Image). unwrap_or (option_map (λ (x : Image). x.segment) o) []) is))
 
+  -- those that are whole still are
+  still_whole : (s : ℕ) → IsWhole images s → IsWhole Grown s
+  still_whole s whole = go (s == survivor) refl
+    where
+      go : (b : Bool) → (s == survivor) ≡ b → IsWhole Grown s
+      go true is =
+          let own = eqb-true s survivor is in
+          subst (IsWhole Grown) (sym own)
+          (whole_grown images survivor (e ∷ []) (subst (IsWhole images) own whole))
+      go false is =
+          subst (λ (o : Option Image). IsSomeAnd o (λ (x : Image). x.is_whole ≡ true))
+          (sym (other_changed survivor (with_unit (e ∷ [])) (λ x. refl) s (eqb-false s survivor is) images)) whole
+
   -- ---- by whether it is kept
 
   pub with_other : (b : Bool) (s : ℕ) → (s ≡ survivor → ⊥)
@@ -81,20 +111,22 @@ module _ (images : List Image) (survivor : ℕ) (e : Entry) where
   with_ids true = ids_changed survivor (with_unit (e ∷ [])) (λ x. refl) images
   with_ids false = refl
 
-  pub with_whole : (b : Bool) → IsWhole images survivor → IsWhole (images_with b survivor e images) survivor
-  with_whole true whole = whole_grown images survivor (e ∷ []) whole
-  with_whole false whole = whole
+  -- whatever was whole still is
+  pub with_whole : (b : Bool) (s : ℕ) → IsWhole images s → IsWhole (images_with b survivor e images) s
+  with_whole true s whole = still_whole s whole
+  with_whole false s whole = whole
 
-  pub with_victims : (b : Bool) (ids : List ℕ) → AreVictims images survivor ids
-      → AreVictims (images_with b survivor e images) survivor ids
-  with_victims b [] all = tt
-  with_victims b (s ∷ ids) all =
-      let lt = all.0.1 in
-      let same = with_other b s (λ is. omega (arith, is, lt)) in
-      ((subst (λ (o : Option (List Entry)). IsSome o) (sym same) all.0.0, lt), with_victims b ids all.1)
+  module _ (first : ℕ) (le : first ≤ survivor) where
+    pub with_victims : (b : Bool) (ids : List ℕ) → AreVictims images first ids
+        → AreVictims (images_with b survivor e images) first ids
+    with_victims b [] all = tt
+    with_victims b (s ∷ ids) all =
+        let lt = all.0.1 in
+        let same = with_other b s (λ is. omega (arith, is, lt, le)) in
+        ((subst (λ (o : Option (List Entry)). IsSome o) (sym same) all.0.0, lt), with_victims b ids all.1)
 
-  pub with_same : (b : Bool) (ids : List ℕ) → AreVictims images survivor ids → (s : ℕ) → IsAmong s ids
-      → images_in (images_with b survivor e images) s ≡ images_in images s
-  with_same b ids all s m =
-      let lt = (is_victim images survivor ids s all m).1 in
-      ap (λ (o : Option (List Entry)). unwrap_or o []) (with_other b s (λ is. omega (arith, is, lt)))
+    pub with_same : (b : Bool) (ids : List ℕ) → AreVictims images first ids → (s : ℕ) → IsAmong s ids
+        → images_in (images_with b survivor e images) s ≡ images_in images s
+    with_same b ids all s m =
+        let lt = (is_victim images first ids s all m).1 in
+        ap (λ (o : Option (List Entry)). unwrap_or o []) (with_other b s (λ is. omega (arith, is, lt, le)))

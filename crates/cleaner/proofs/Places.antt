@@ -177,15 +177,19 @@ among_drop (suc n) (y ∷ ys) x m = inr (among_drop n ys x m)
 -- ---- an object or a tombstone at the offset
 
 -- the first of the places is its own, and the others begin behind it
+pub past_data : (es : List Entry) (s at : ℕ) (e : Entry) → LiesAt es at e → is_data e ≡ true
+    → places_past s at es ≡ place_at s at ∷ places_past s (at + length (spelling e)) es
+past_data es s at e lies is =
+    let behind : at + length (spelling e) ≡ length (text_of (lies.before ++ e ∷ [])) =
+    omega (arith, lies.offset, length_last lies.before e) in
+    past_cut s at es lies.before (e ∷ lies.after) lies.split lies.offset
+    ∙ from_data s at e lies.after true is
+    ∙ ap (λ (ps : List Place). place_at s at ∷ ps)
+    (sym (past_cut s (at + length (spelling e)) es (lies.before ++ e ∷ []) lies.after
+    (lies.split ∙ sym (append_assoc lies.before (e ∷ []) lies.after)) behind))
+
 pub on_data : (images : ℕ → List Entry) (s : ℕ) (ids : List ℕ) (at : ℕ) (e : Entry) → LiesAt (images s) at e
     → is_data e ≡ true
     → places_on images (s ∷ ids) at ≡ place_at s at ∷ places_on images (s ∷ ids) (at + length (spelling e))
 on_data images s ids at e lies is =
-    let behind : at + length (spelling e) ≡ length (text_of (lies.before ++ e ∷ [])) =
-    omega (arith, lies.offset, length_last lies.before e) in
-    ap (λ (ps : List Place). ps ++ places_of images ids)
-    (past_cut s at (images s) lies.before (e ∷ lies.after) lies.split lies.offset
-    ∙ from_data s at e lies.after true is
-    ∙ ap (λ (ps : List Place). place_at s at ∷ ps)
-    (sym (past_cut s (at + length (spelling e)) (images s) (lies.before ++ e ∷ []) lies.after
-    (lies.split ∙ sym (append_assoc lies.before (e ∷ []) lies.after)) behind)))
+    ap (λ (ps : List Place). ps ++ places_of images ids) (past_data (images s) s at e lies is)

@@ -1,8 +1,10 @@
 -- What is true of a pass as it goes on.
-use Rattle.std.specs.Prelude.{◌≡◌, ℕ, ◌≤◌, ◌↔◌, true, List, [], drop, Option, Some}
+use Rattle.std.specs.Prelude.{◌≡◌, ℕ, zero, suc, ◌+◌, ◌<◌, ◌≤◌, ◌↔◌, ◌==◌, if◌then◌else◌, true}
+use Rattle.std.specs.Prelude.{List, [], ◌∷◌, ◌++◌, length, drop, Option, Some}
+use Rattle.std.specs.List.{AllByRecursion}
 use Rattle.entry.specs.declared.entry.Entry.{Entry}
 use Rattle.entry.specs.Bag.{IsAmong}
-use Rattle.entry.specs.Text.{text_of}
+use Rattle.entry.specs.Text.{text_of, IsSegment}
 use Rattle.segment.specs.Bytes.{standing_at}
 use Rattle.places.specs.declared.place.Place.{Place}
 use Rattle.places.specs.Map.{Places}
@@ -11,8 +13,14 @@ use Rattle.images.specs.Sorted.{IsWhole, segment_of}
 use Rattle.compactor.specs.Kept.{kept}
 use Rattle.cleaner.specs.declared.pass.Pass.{Pass}
 use Rattle.cleaner.specs.declared.pass.Copied.{Copied}
-use Rattle.cleaner.specs.Passes.{images_in, ids_in, rest_of, is_at_end, kept_left, IsCursorAt, IsPass, HasRoom}
-use Rattle.cleaner.specs.Passes.{CopiesOne}
+use Rattle.cleaner.specs.declared.survivors.Sealed.{Sealed}
+use Rattle.cleaner.specs.Filling.{survivors_for, total, AreSome}
+use Rattle.cleaner.specs.KeptLengths.{kept_lengths, survivors_over, segment_lengths, HasRoomsIn}
+use Rattle.cleaner.specs.Passes.{images_in, ids_in, survivor_ids, places_from, places_of, rest_of, is_at_end}
+use Rattle.cleaner.specs.Passes.{IsCursorAt, IsPass, CopiesOne}
+use Rattle.cleaner.specs.Seals.{sealed_one, sealed_at, sealed_of, IsSealed}
+
+-- ---- the places of a pass
 
 -- the images are the same at each of these segments
 abbrev pub AreSameAt : (ℕ → List Entry) → (ℕ → List Entry) → List ℕ → Type 0
@@ -29,10 +37,11 @@ CursorsAgree = (seed : List ℕ) (images again : ℕ → List Entry) (p : Pass) 
     → IsCursorAt seed images (drop p.cursor.victim p.victims) p.cursor
     → IsCursorAt seed again (drop p.cursor.victim p.victims) p.cursor
 
--- A pass over images stays one over others that have the same victims, if the survivor is there and whole.
+-- A pass over images stays one over others that have the same victims, if its survivors are there and whole.
 abbrev pub PassesAgree : Type 0
 PassesAgree = (seed : List ℕ) (images again : List Image) (p : Pass) → IsPass seed images p
-    → ((s : ℕ) → IsAmong s p.victims → segment_of again s ≡ segment_of images s) → IsWhole again p.survivor
+    → ((s : ℕ) → IsAmong s p.victims → segment_of again s ≡ segment_of images s)
+    → AllByRecursion (IsWhole again) (survivor_ids p.survivors)
     → IsPass seed again p × (rest_of (images_in again) p ≡ rest_of (images_in images) p)
 
 -- A pass is at its end exactly if no place is left.
@@ -45,32 +54,110 @@ abbrev pub RestIsOfVictims : Type 0
 RestIsOfVictims = (images : ℕ → List Entry) (p : Pass) (place : Place) → IsAmong place (rest_of images p)
     → IsAmong place.segment p.victims
 
--- Once one entry is treated, a segment has room for the survivor and what is left.
-abbrev pub CopyLeavesRoom : Type 0
-CopyLeavesRoom = (segment : ℕ) (ids : List ℕ) (p q : Pass) (images images_after : List Image)
-    (held held_after : Places) (copied : Copied) → IsPass held.seed images p
-    → CopiesOne ids p images held copied q images_after held_after
-    → HasRoom segment ids p images held → HasRoom segment ids q images_after held_after
-
 -- The ids of the log set stay.
 abbrev pub CopyKeepsIds : Type 0
-CopyKeepsIds = (ids : List ℕ) (p q : Pass) (images images_after : List Image) (held held_after : Places)
-    (copied : Copied) (head : ℕ) (new : Option ℕ) → CopiesOne ids p images held copied q images_after held_after
+CopyKeepsIds = (segment : ℕ) (ids : List ℕ) (p q : Pass) (images images_after : List Image) (held held_after : Places)
+    (copied : Copied) (head : ℕ) (new : Option ℕ)
+    → CopiesOne segment ids p images held copied q images_after held_after
     → ids_in images_after head new ≡ ids_in images head new
+
+-- ---- how many survivors
+
+-- Some of the entries, in their order, fill no more survivors than all of them.
+abbrev pub FewerFillNoMore : Type 0
+FewerFillNoMore = (segment : ℕ) (ks ns : List ℕ) → AreSome ks ns → survivors_for segment ks ≤ survivors_for segment ns
+
+-- One survivor is enough exactly if all fit one segment behind a header.
+abbrev pub OneIfAllFit : Type 0
+OneIfAllFit = (segment : ℕ) (ns : List ℕ) → 18 ≤ segment → (survivors_for segment ns ≡ 1) ↔ (18 + total ns ≤ segment)
+
+-- Entries more fill no fewer survivors; those of one segment fill at most one more.
+abbrev pub MoreFillNoFewer : Type 0
+MoreFillNoFewer = (segment : ℕ) (ns ks : List ℕ) → survivors_for segment ns ≤ survivors_for segment (ns ++ ks)
+
+abbrev pub SegmentFillsOneMore : Type 0
+SegmentFillsOneMore = (segment : ℕ) (ns ks : List ℕ) → 18 + total ks ≤ segment
+    → survivors_for segment (ns ++ ks) ≤ suc (survivors_for segment ns)
+
+-- so many entries of 100 bytes
+abbrev pub hundreds : ℕ → List ℕ
+hundreds zero = []
+hundreds (suc n) = 100 ∷ hundreds n
+
+-- Segments of 512 bytes: four such entries fill one survivor, eight two, sixteen four, and twenty five.
+abbrev pub HundredsFill : Type 0
+HundredsFill = (survivors_for 512 (hundreds 4) ≡ 1) × (survivors_for 512 (hundreds 8) ≡ 2)
+    × (survivors_for 512 (hundreds 9) ≡ 3) × (survivors_for 512 (hundreds 16) ≡ 4)
+    × (survivors_for 512 (hundreds 20) ≡ 5) × (survivors_for 512 [] ≡ 1)
+
+-- ---- what is kept has room
+
+-- The lengths at a segment's places are those of the objects and tombstones that are kept of it.
+abbrev pub LengthsOfSegment : Type 0
+LengthsOfSegment = (ids : List ℕ) (held : Places) (images : ℕ → List Entry) (s : ℕ) → IsSegment (images s)
+    → kept_lengths ids held images (places_from s 0 (images s)) ≡ segment_lengths ids held s (images s)
+
+-- What is kept of a segment that is no longer than the limit fits a segment behind a header.
+abbrev pub SegmentFits : Type 0
+SegmentFits = (segment : ℕ) (ids : List ℕ) (held : Places) (s : ℕ) (es : List Entry) → IsSegment es
+    → length (text_of es) ≤ segment → 18 + total (segment_lengths ids held s es) ≤ segment
+
+-- A pass that begins with as many survivors as what its victims keep fills, or more, has rooms: each survivor has its
+-- header alone.
+abbrev pub BeginHasRoomsIn : Type 0
+BeginHasRoomsIn = (segment : ℕ) (ids : List ℕ) (p : Pass) (images : List Image) (held : Places) → 18 ≤ segment
+    → p.filling ≡ 0 → rest_of (images_in images) p ≡ places_of (images_in images) p.victims
+    → AllByRecursion (λ (s : ℕ). IsSegment (images_in images s) × (length (text_of (images_in images s)) ≤ segment))
+    p.victims
+    → survivors_over segment ids held (images_in images) p.victims ≤ p.survivors.count
+    → ((s : ℕ) → IsAmong s (survivor_ids p.survivors) → length (text_of (images_in images s)) ≡ 18)
+    → HasRoomsIn segment ids p images held
+
+-- Rooms stay once an entry is treated.
+abbrev pub CopyLeavesRooms : Type 0
+CopyLeavesRooms = (segment : ℕ) (ids : List ℕ) (p q : Pass) (images images_after : List Image)
+    (held held_after : Places) (copied : Copied) → IsPass held.seed images p
+    → CopiesOne segment ids p images held copied q images_after held_after
+    → HasRoomsIn segment ids p images held → HasRoomsIn segment ids q images_after held_after
 
 -- What is kept afterwards at one of the places was kept there before.
 abbrev pub KeepsNoMore : List ℕ → List ℕ → Places → Places → (ℕ → List Entry) → List Place → Type 0
 KeepsNoMore ids again held later images places = (p : Place) (e : Entry) → IsAmong p places
     → standing_at p.at (text_of (images p.segment)) ≡ Some e → kept again later p e ≡ true → kept ids held p e ≡ true
 
--- If it was, no more bytes are left.
-abbrev pub KeptDoesNotGrow : Type 0
-KeptDoesNotGrow = (ids again : List ℕ) (held later : Places) (images : ℕ → List Entry) (places : List Place)
-    → KeepsNoMore ids again held later images places
-    → kept_left again later images places ≤ kept_left ids held images places
+-- If it was, victims that are as before fill no more survivors.
+abbrev pub SurvivorsDoNotGrow : Type 0
+SurvivorsDoNotGrow = (segment : ℕ) (ids again : List ℕ) (held later : Places) (images after : ℕ → List Entry)
+    (victims : List ℕ) → AreSameAt images after victims
+    → KeepsNoMore ids again held later images (places_of images victims)
+    → survivors_over segment again later after victims ≤ survivors_over segment ids held images victims
 
--- Images that are the same at the places' segments have the same bytes left.
-abbrev pub KeptAgrees : Type 0
-KeptAgrees = (ids : List ℕ) (held : Places) (images again : ℕ → List Entry) (places : List Place)
-    → ((p : Place) → IsAmong p places → again p.segment ≡ images p.segment)
-    → kept_left ids held again places ≡ kept_left ids held images places
+-- And rooms stay, where victims and survivors are as before.
+abbrev pub RoomsStay : Type 0
+RoomsStay = (segment : ℕ) (ids again : List ℕ) (p : Pass) (images after : List Image) (held later : Places)
+    → AreSameAt (images_in images) (images_in after) p.victims
+    → AreSameAt (images_in images) (images_in after) (survivor_ids p.survivors)
+    → KeepsNoMore ids again held later (images_in images) (rest_of (images_in images) p)
+    → HasRoomsIn segment ids p images held → HasRoomsIn segment again p after later
+
+-- ---- seals
+
+-- One seal more is still right, if one is left.
+abbrev pub SealStaysWithin : Type 0
+SealStaysWithin = (replicas count : ℕ) (z : Sealed) → IsSealed replicas count z → z.survivors < count
+    → IsSealed replicas count (sealed_one replicas z)
+
+-- All survivors are sealed whole exactly if each has all its replicas.
+abbrev pub SealedIsAll : Type 0
+SealedIsAll = (replicas count : ℕ) (z : Sealed) → IsSealed replicas count z
+    → (z.survivors ≡ count) ↔ ((i : ℕ) → i < count → sealed_at replicas z i ≡ replicas)
+
+-- The survivor that is sealed next has as many replicas as say which one is next.
+abbrev pub SealIsNext : Type 0
+SealIsNext = (replicas first : ℕ) (z : Sealed) → sealed_of replicas z first (first + z.survivors) ≡ z.replicas
+
+-- One seal more is one replica more of that survivor, and of no other.
+abbrev pub SealAddsOne : Type 0
+SealAddsOne = (replicas first s : ℕ) (z : Sealed) → first ≤ s
+    → sealed_of replicas (sealed_one replicas z) first s
+    ≡ (if s == first + z.survivors then suc z.replicas else sealed_of replicas z first s)

@@ -1,4 +1,7 @@
 pub mod Texts
+pub mod Filling
+pub mod Seals
 pub mod Passes
+pub mod KeptLengths
 pub mod Walks
 pub mod Laws

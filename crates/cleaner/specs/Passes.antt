@@ -1,15 +1,13 @@
 -- A pass over victims: the places that it has before it, and what it does at one of them.
-use Rattle.std.specs.Prelude.{◌≡◌, ℕ, ◌+◌, ◌≤◌, ◌<◌, ◌==◌, Bool, true, false, ◌&&◌, if◌then◌else◌, nat_le}
-use Rattle.std.specs.Prelude.{List, [], ◌∷◌, ◌++◌, length, map, drop, filter, sum_by, Option, Some, None, IsSome}
-use Rattle.std.specs.Prelude.{unwrap_or}
-use Rattle.std.specs.List.{AllByRecursion}
-use Rattle.std.specs.Option.{option_map_or, option_to_list}
+use Rattle.std.specs.Prelude.{◌≡◌, ℕ, ◌+◌, ◌^◌, ◌≤◌, ◌<◌, ◌==◌, Bool, true, false, ◌&&◌, if◌then◌else◌, nat_le, nat_lt}
+use Rattle.std.specs.Prelude.{List, [], ◌∷◌, ◌++◌, length, map, drop, filter, Option, Some, None, IsSome, unwrap_or}
+use Rattle.std.specs.List.{AllByRecursion, range_with_len}
+use Rattle.std.specs.Option.{option_to_list}
 use Rattle.entry.specs.declared.entry.Entry.{Entry}
 use Rattle.entry.specs.declared.entry.Entry.TheVariants as entry
 use Rattle.entry.specs.Bag.{IsAmong}
 use Rattle.entry.specs.Format.{spelling, IsEntry}
 use Rattle.entry.specs.Text.{text_of, is_data}
-use Rattle.segment.specs.Bytes.{standing_at}
 use Rattle.places.specs.declared.place.Place.{Place}
 use Rattle.places.specs.Hashing.{hash_of}
 use Rattle.places.specs.Map.{Places}
@@ -21,10 +19,13 @@ use Rattle.compactor.specs.Moved.{moved_one}
 use Rattle.compactor.specs.Places.{LiesAt, IsAtPlace}
 use Rattle.cleaner.specs.declared.ahead.Seen.{Seen}
 use Rattle.cleaner.specs.declared.ahead.Seen.TheVariants as seen
+use Rattle.cleaner.specs.declared.level.Level.{Level}
+use Rattle.cleaner.specs.declared.survivors.Survivors.{Survivors}
 use Rattle.cleaner.specs.declared.pass.Cursor.{Cursor}
 use Rattle.cleaner.specs.declared.pass.Pass.{Pass}
 use Rattle.cleaner.specs.declared.pass.Copied.{Copied}
 use Rattle.cleaner.specs.declared.pass.Copied.TheVariants.{Moved, Carried, Dropped}
+use Rattle.cleaner.specs.Filling.{filled_one}
 
 -- ---- images
 
@@ -36,9 +37,19 @@ images_in images s = unwrap_or (segment_of images s) []
 abbrev pub ids_in : List Image → ℕ → Option ℕ → List ℕ
 ids_in images head new = map (λ (image : Image). image.id) images ++ head ∷ option_to_list new
 
--- each of the segments has an image, and is below the survivor
+-- each of the segments has an image, and is below the first survivor
 abbrev pub AreVictims : List Image → ℕ → List ℕ → Type 0
 AreVictims images survivor ids = AllByRecursion (λ (s : ℕ). IsSome (segment_of images s) × (s < survivor)) ids
+
+-- ---- survivors
+
+-- the ids of survivors follow one another
+abbrev pub survivor_ids : Survivors → List ℕ
+survivor_ids s = range_with_len s.first s.count
+
+-- each is a segment's number
+abbrev pub AreIds : Survivors → Type 0
+AreIds s = s.first + s.count ≤ 2 ^ 62 + 1
 
 -- ---- places
 
@@ -72,9 +83,23 @@ rest_of images p = places_on images (drop p.cursor.victim p.victims) p.cursor.at
 abbrev pub is_at_end : Pass → Bool
 is_at_end p = p.cursor.victim == length p.victims
 
--- nothing is left to copy, and all replicas of the survivor are sealed
-abbrev pub is_ready : ℕ → Pass → Bool
-is_ready replicas p = is_at_end p && (p.sealed == replicas)
+-- nothing is left to copy, and each survivor is sealed whole
+abbrev pub is_ready : Pass → Bool
+is_ready p = is_at_end p && (p.sealed.survivors == p.survivors.count)
+
+-- the survivor that is sealed next, and which of its replicas; none before all is copied, nor once all is sealed
+abbrev pub next_seal : Pass → Option (ℕ × ℕ)
+next_seal p =
+    if is_at_end p && nat_lt p.sealed.survivors p.survivors.count
+    then Some (p.survivors.first + p.sealed.survivors, p.sealed.replicas) else None
+
+-- which survivor is filled, and how many bytes it has
+abbrev pub level_at : Survivors → ℕ → List Image → Level
+level_at s filling images =
+    record { survivor = filling; len = length (text_of (images_in images (s.first + filling))) }
+
+abbrev pub level_of : Pass → List Image → Level
+level_of p images = level_at p.survivors p.filling images
 
 -- What a pass remembers of an object or a tombstone that it read. It is right for an index whose hashes have this seed.
 abbrev pub seen_of : List ℕ → Entry → Option Seen
@@ -114,32 +139,11 @@ IsCursorAt seed images (s ∷ ids) cursor = IsAhead seed (images s) cursor.at cu
 
 -- What holds of an open pass and the images, for an index whose hashes have this seed.
 pub record IsPass (seed : List ℕ) (images : List Image) (p : Pass) : Type 0 where
-  pub victims : AreVictims images p.survivor p.victims
-  pub whole : IsWhole images p.survivor
+  pub victims : AreVictims images p.survivors.first p.victims
+  pub whole : AllByRecursion (IsWhole images) (survivor_ids p.survivors)
+  pub numbers : AreIds p.survivors
   pub within : p.cursor.victim ≤ length p.victims
   pub cursor : IsCursorAt seed (images_in images) (drop p.cursor.victim p.victims) p.cursor
-
--- ---- kept bytes
-
--- the bytes of the entry at a place if it is kept, else 0
-abbrev pub kept_len : List ℕ → Places → (ℕ → List Entry) → Place → ℕ
-kept_len ids held images p =
-    option_map_or (λ (e : Entry). if kept ids held p e then length (spelling e) else 0)
-    (standing_at p.at (text_of (images p.segment))) 0
-
--- the bytes of what is kept at some places
-abbrev pub kept_left : List ℕ → Places → (ℕ → List Entry) → List Place → ℕ
-kept_left ids held images places = sum_by (kept_len ids held images) places
-
--- the bytes of some segments
-abbrev pub bytes_in : (ℕ → List Entry) → List ℕ → ℕ
-bytes_in images ids = sum_by (λ (s : ℕ). length (text_of (images s))) ids
-
--- a segment has room for what the survivor has and what is kept at the places before the pass
-abbrev pub HasRoom : ℕ → List ℕ → Pass → List Image → Places → Type 0
-HasRoom segment ids p images held =
-    length (text_of (images_in images p.survivor))
-    + kept_left ids held (images_in images) (rest_of (images_in images) p) ≤ segment
 
 -- ---- one entry
 
@@ -151,6 +155,11 @@ copied_as true (entry.Digest ids) = Carried
 copied_as true (entry.Safe version) = Carried
 copied_as true (entry.Object o) = Moved
 copied_as true (entry.Tombstone t) = Carried
+
+-- which survivor is filled once an entry was treated: a kept one that doesn't fit begins the next
+abbrev pub filling_with : Bool → ℕ → Level → Entry → ℕ
+filling_with is_kept segment a e =
+    if is_kept then (filled_one segment a (length (spelling e))).survivor else a.survivor
 
 -- the place of the next copy: behind what the survivor has
 abbrev pub copy_place : ℕ → List Image → Place
@@ -164,9 +173,10 @@ images_with is_kept survivor e images = if is_kept then changed images survivor 
 abbrev pub held_with : Bool → Place → Place → Entry → Places → Places
 held_with is_kept p to e held = if is_kept then moved_one p to e held else held
 
--- The entry at the next place that the pass has before it is treated.
-pub record CopiesOne (ids : List ℕ) (p : Pass) (images : List Image) (held : Places) (copied : Copied) (q : Pass)
-    (images_after : List Image) (held_after : Places) : Type 0 where
+-- The entry at the next place that the pass has before it is treated. If it is kept, it goes behind what the survivor
+-- that is filled has, or, where it doesn't fit, behind the header of the next one.
+pub record CopiesOne (segment : ℕ) (ids : List ℕ) (p : Pass) (images : List Image) (held : Places) (copied : Copied)
+    (q : Pass) (images_after : List Image) (held_after : Places) : Type 0 where
   pub place : Place
   pub later : List Place
   pub entry : Entry
@@ -177,7 +187,11 @@ pub record CopiesOne (ids : List ℕ) (p : Pass) (images : List Image) (held : P
   pub of_data : is_data entry ≡ true
   -- Moved or Carried if it is kept, else Dropped
   pub told : copied ≡ copied_as (kept ids held place entry) entry
-  pub survivor : images_after ≡ images_with (kept ids held place entry) p.survivor entry images
-  pub index : held_after ≡ held_with (kept ids held place entry) place (copy_place p.survivor images) entry held
+  pub filling : q.filling ≡ filling_with (kept ids held place entry) segment (level_of p images) entry
+  pub within : q.filling < p.survivors.count
+  pub survivor : images_after
+      ≡ images_with (kept ids held place entry) (p.survivors.first + q.filling) entry images
+  pub index : held_after
+      ≡ held_with (kept ids held place entry) place (copy_place (p.survivors.first + q.filling) images) entry held
   pub rest : rest_of (images_in images_after) q ≡ later
-  pub pass : q ≡ record p { cursor = q.cursor }
+  pub pass : q ≡ record p { cursor = q.cursor; filling = q.filling }

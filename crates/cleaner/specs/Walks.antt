@@ -1,22 +1,26 @@
 -- How a cursor goes on, and what a pass finds at its place.
-use Rattle.std.specs.Prelude.{◌≡◌, ℕ, ◌≤◌, Bool, true, false, List, [], ◌∷◌, ◌++◌, length, drop, Option, Some, None}
+use Rattle.std.specs.Prelude.{◌≡◌, ℕ, suc, ◌+◌, ◌<◌, ◌≤◌, ◌⊎◌, Bool, true, false, if◌then◌else◌, List, [], ◌∷◌, ◌++◌, length, drop, Option, Some, None}
 use Rattle.entry.specs.declared.entry.Entry.{Entry}
 use Rattle.entry.specs.declared.entry.Entry.TheVariants as entry
 use Rattle.entry.specs.Format.{spelling, IsEntry}
 use Rattle.entry.specs.Text.{text_of, is_data}
 use Rattle.places.specs.declared.place.Place.{Place}
 use Rattle.places.specs.Map.{Places}
-use Rattle.places.specs.Relocation.{held_of}
+use Rattle.places.specs.Relocation.{held_of, holds}
 use Rattle.images.specs.Image.{Image}
-use Rattle.compactor.specs.Kept.{kept}
+use Rattle.images.specs.Steps.{len_at}
+use Rattle.compactor.specs.Kept.{kept, has_id}
 use Rattle.compactor.specs.Places.{LiesAt, IsAtPlace}
+use Rattle.cleaner.specs.declared.ahead.Seen.{Seen}
+use Rattle.cleaner.specs.declared.ahead.Seen.TheVariants as seen
 use Rattle.cleaner.specs.declared.pass.Cursor.{Cursor}
 use Rattle.cleaner.specs.declared.pass.Copied.{Copied}
+use Rattle.cleaner.specs.declared.survivors.Survivors.{Survivors}
 use Rattle.cleaner.specs.declared.treating.Fate.{Fate}
 use Rattle.cleaner.specs.declared.treating.Fate.TheVariants as fate
 use Rattle.cleaner.specs.declared.walking.WalkPosition.{WalkPosition}
-use Rattle.cleaner.specs.Passes.{images_in, places_past, places_on, IsCursorAt}
-use Rattle.cleaner.specs.Passes.{copied_as, copy_place, images_with, held_with}
+use Rattle.cleaner.specs.Passes.{images_in, places_past, places_on, seen_len, IsCursorAt}
+use Rattle.cleaner.specs.Passes.{level_at, filling_with, copied_as, copy_place, images_with, held_with}
 
 -- ---- the cursor
 
@@ -60,6 +64,24 @@ pub record GoesTo (seed : List ℕ) (images : ℕ → List Entry) (victims : Lis
   pub rest : places_on images (drop to.victim victims) to.at ≡ places_on images (drop from.victim victims) from.at
   pub cursor : IsCursorAt seed images (drop to.victim victims) to
 
+-- ---- entries that are read ahead
+
+-- whether the object or tombstone at a place is kept, by what is remembered of it
+abbrev pub is_seen_kept : List ℕ → Places → Place → Seen → Bool
+is_seen_kept ids held p (seen.Object hash len) = holds held (record { hash = hash; place = p })
+is_seen_kept ids held p (seen.Tombstone segment len) = has_id ids segment
+
+-- the lengths of those that are kept of such entries, which follow one another from an offset on
+abbrev pub seen_lengths : List ℕ → Places → ℕ → ℕ → List Seen → List ℕ
+seen_lengths ids held s at [] = []
+seen_lengths ids held s at (x ∷ xs) =
+    let later = seen_lengths ids held s (at + seen_len x) xs in
+    if is_seen_kept ids held (record { segment = s; at = at }) x then seen_len x ∷ later else later
+
+-- it is no longer than a segment may be
+abbrev pub IsShort : Seen → Type 0
+IsShort x = seen_len x ≤ 8388608
+
 -- ---- the entry
 
 -- what becomes of the entry at a place, by whether it is kept
@@ -82,11 +104,19 @@ pub record IsSeen (images : ℕ → List Entry) (p : Place) (len : ℕ) (e : Ent
 abbrev pub HasFate : List ℕ → Places → (ℕ → List Entry) → Place → Fate → ℕ → Type 0
 HasFate ids held images p f len = (e : Entry) × IsSeen images p len e × (f ≡ fate_by held (kept ids held p e) p e)
 
+-- The survivor that is filled has room for so many bytes more, or there is a next one, which has.
+abbrev pub HasPlace : ℕ → Survivors → ℕ → List Image → ℕ → Type 0
+HasPlace segment s filling images n =
+    (filling < s.count) × ((len_at images (s.first + filling) + n ≤ segment)
+    ⊎ ((suc filling < s.count) × (len_at images (s.first + suc filling) + n ≤ segment)))
+
 -- The object or tombstone at the place is treated.
-pub record Treats (ids : List ℕ) (images : List Image) (held : Places) (p : Place) (survivor : ℕ) (copied : Copied)
-    (len : ℕ) (images_after : List Image) (held_after : Places) : Type 0 where
+pub record Treats (segment : ℕ) (ids : List ℕ) (images : List Image) (held : Places) (p : Place) (s : Survivors)
+    (filling : ℕ) (copied : Copied) (len filling_after : ℕ) (images_after : List Image) (held_after : Places) : Type 0 where
   pub entry : Entry
   pub seen : IsSeen (images_in images) p len entry
   pub told : copied ≡ copied_as (kept ids held p entry) entry
-  pub grown : images_after ≡ images_with (kept ids held p entry) survivor entry images
-  pub index : held_after ≡ held_with (kept ids held p entry) p (copy_place survivor images) entry held
+  pub filled : filling_after ≡ filling_with (kept ids held p entry) segment (level_at s filling images) entry
+  pub grown : images_after ≡ images_with (kept ids held p entry) (s.first + filling_after) entry images
+  pub index : held_after
+      ≡ held_with (kept ids held p entry) p (copy_place (s.first + filling_after) images) entry held

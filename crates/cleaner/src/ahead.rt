@@ -1,6 +1,6 @@
 //! Entries that a pass read ahead.
 
-ghost use Rattle.std.specs.Prelude.{◌≡◌, ◌<◌, [], drop, length, nat_lt, slice_get};
+ghost use Rattle.std.specs.Prelude.{◌≡◌, ◌+◌, ◌<◌, [], drop, length, nat_lt, slice_get, sum_by};
 ghost use Rattle.std.specs.Prelude.{IfSome, IfNone};
 ghost use Rattle.cleaner.specs.Passes.{seen_len, IsSeenAt, IsAhead};
 ghost use Rattle.cleaner.specs.Walks.{IsBetween, IsAtData};
@@ -86,20 +86,29 @@ fn seen_at(segment: &SegmentRef<'_>, at: usize, index: &Index) -> Option<Seen>
     }
 }
 
-/// The objects and tombstones of a segment from an offset on, as many as are read ahead.
-fn gather(segment: &SegmentRef<'_>, from: usize, index: &Index, seen: &mut ArrayVec<Seen, AHEAD>)
+/// The objects and tombstones of a segment from an offset on, as many as are read ahead. The answer is the offset behind
+/// them.
+pub(crate) fn gather(
+    segment: &SegmentRef<'_>,
+    from: usize,
+    index: &Index,
+    seen: &mut ArrayVec<Seen, AHEAD>,
+) -> usize
     requires empty { seen.old.items ≡ [] }
     requires at { IsAtData segment.now from }
-    ensures { IsAhead index.now.held.seed segment.now from seen.new.items }
+    ensures ahead { IsAhead index.now.held.seed segment.now from seen.new.items }
+    ensures end { result ≡ from + sum_by seen_len seen.new.items }
+    ensures between { IsBetween segment.now result }
 {
     let mut at = from;
     for _ in 0..AHEAD {
         let Some(one) = seen_at(segment, at, index) else {
-            return;
+            return at;
         };
         seen.push(one);
         at += one.len();
     }
+    at
 }
 
 impl Ahead {
@@ -141,7 +150,7 @@ impl Ahead {
         ensures { IsAhead index.now.held.seed segment.now from self.new }
     {
         let mut seen = ArrayVec::new();
-        gather(segment, from, index, &mut seen);
+        let _end = gather(segment, from, index, &mut seen);
         self.seen = seen;
         self.treated = 0;
     }

@@ -13,9 +13,9 @@ pub enum PassFault {
     NotInLog(u64),
     /// 2: this segment is the head, or the head that a roll is opening.
     IsHead(u64),
-    /// 3: there are more than 8 segments.
+    /// 3: there are more than 32 segments.
     TooMany,
-    /// 4: what the segments keep doesn't fit one segment.
+    /// 4: what the segments keep fills more than 4 survivors.
     TooMuch,
     /// 5: a pass is open.
     PassOpen,

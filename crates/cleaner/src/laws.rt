@@ -1,7 +1,10 @@
 //! Laws about passes, for the proofs of callers.
 
 ghost use Rattle.cleaner.specs.Laws.{RestsAgree, CursorsAgree, PassesAgree, EndHasNoRest, RestIsOfVictims};
-ghost use Rattle.cleaner.specs.Laws.{CopyLeavesRoom, CopyKeepsIds, KeptDoesNotGrow, KeptAgrees};
+ghost use Rattle.cleaner.specs.Laws.{FewerFillNoMore, OneIfAllFit, MoreFillNoFewer, SegmentFillsOneMore, HundredsFill};
+ghost use Rattle.cleaner.specs.Laws.{LengthsOfSegment, SegmentFits, BeginHasRoomsIn, CopyLeavesRooms, CopyKeepsIds};
+ghost use Rattle.cleaner.specs.Laws.{SurvivorsDoNotGrow, RoomsStay};
+ghost use Rattle.cleaner.specs.Laws.{SealStaysWithin, SealedIsAll, SealIsNext, SealAddsOne};
 
 /// The places that a pass has before it: whose they are, when there is none, and which images they depend on.
 pub fn rests_agree()
@@ -12,10 +15,31 @@ pub fn rests_agree()
     ensures victims { RestIsOfVictims }
 {}
 
-/// What a pass has still to copy fits, and no more becomes kept than was.
+/// How many survivors entries fill.
+pub fn survivors_are_counted()
+    ensures fewer { FewerFillNoMore }
+    ensures one { OneIfAllFit }
+    ensures more { MoreFillNoFewer }
+    ensures segment { SegmentFillsOneMore }
+    ensures hundreds { HundredsFill }
+{}
+
+/// A pass that begins with as many survivors as what its victims keep fills has room for each entry, whatever dies
+/// before it is copied.
 pub fn rest_fits()
-    ensures room { CopyLeavesRoom }
+    ensures lengths { LengthsOfSegment }
+    ensures segment { SegmentFits }
+    ensures begin { BeginHasRoomsIn }
+    ensures copy { CopyLeavesRooms }
     ensures ids { CopyKeepsIds }
-    ensures less { KeptDoesNotGrow }
-    ensures agrees { KeptAgrees }
+    ensures less { SurvivorsDoNotGrow }
+    ensures stay { RoomsStay }
+{}
+
+/// Seals go by survivor, and then by replica.
+pub fn seals_in_order()
+    ensures within { SealStaysWithin }
+    ensures all { SealedIsAll }
+    ensures next { SealIsNext }
+    ensures one { SealAddsOne }
 {}

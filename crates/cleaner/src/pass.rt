@@ -4,12 +4,14 @@ ghost use Rattle.std.specs.Prelude.{◌≡◌, ◌+◌, ◌<◌, ◌≤◌, fals
 ghost use Rattle.std.specs.Prelude.{slice_get};
 ghost use Rattle.std.specs.List.{AllByRecursion};
 ghost use Rattle.images.specs.Sorted.{segment_of};
-ghost use Rattle.cleaner.specs.Passes.{images_in, ids_in, AreVictims, places_of, rest_of, is_at_end, is_ready};
-ghost use Rattle.cleaner.specs.Passes.{IsCursorAt, IsPass, HasRoom, CopiesOne};
-ghost use Rattle.cleaner.specs.Passes.{seen_len};
+ghost use Rattle.cleaner.specs.Passes.{images_in, ids_in, AreVictims, AreIds, places_of, rest_of, is_at_end, is_ready};
+ghost use Rattle.cleaner.specs.Passes.{next_seal, seen_len, IsCursorAt, IsPass, CopiesOne};
+ghost use Rattle.cleaner.specs.KeptLengths.{HasRoomsIn};
+ghost use Rattle.cleaner.specs.Seals.{none_sealed, sealed_one, IsSealed};
 ghost use Rattle.cleaner.specs.Walks.{IsPositionBetween, GoesTo};
 
 use crate::ahead::Ahead;
+use crate::survivors::{Sealed, Survivors};
 use crate::treating::treat;
 use crate::walking::{WalkPosition, next_position};
 use entry::Row;
@@ -38,17 +40,19 @@ pub enum Copied {
     Dropped,
 }
 
-/// A pass copies what is kept of its victims to one segment, the survivor.
+/// A pass copies what is kept of its victims to new segments, the survivors. It fills one after the other.
 #[derive(Drop)]
 pub struct Pass {
     /// The segments that the pass empties, in the order in which they were given.
     pub victims: Row<u64>,
     /// The next entry to be treated.
     pub cursor: Cursor,
-    /// The segment to which the kept entries are copied.
-    pub survivor: u64,
-    /// How many replicas of the survivor are sealed.
-    pub sealed: usize,
+    /// The segments to which the kept entries are copied.
+    pub survivors: Survivors,
+    /// How many survivors are full: the place of the one that is filled.
+    pub filling: usize,
+    /// How far the survivors are sealed.
+    pub sealed: Sealed,
     /// Whether the roll that is under way is the pass's commit.
     pub is_committing: bool,
 }
@@ -101,16 +105,17 @@ impl Pass {
     pub fn begin(
         victims: Row<u64>,
         near: usize,
-        survivor: u64,
+        survivors: Survivors,
         images: &Images,
         index: &Index,
     ) -> Pass
-        requires { AreVictims images.now.images survivor victims }
+        requires { AreVictims images.now.images survivors.first victims }
         ensures begun { result ≡ record {
           victims = victims;
           cursor = result.cursor;
-          survivor = survivor;
-          sealed = 0;
+          survivors = survivors;
+          filling = 0;
+          sealed = none_sealed;
           is_committing = false;
         } }
         ensures rest { let images = images_in images.now.images in rest_of images result ≡ places_of images victims }
@@ -128,8 +133,12 @@ impl Pass {
         Pass {
             victims,
             cursor,
-            survivor,
-            sealed: 0,
+            survivors,
+            filling: 0,
+            sealed: Sealed {
+                survivors: 0,
+                replicas: 0,
+            },
             is_committing: false,
         }
     }
@@ -141,24 +150,43 @@ impl Pass {
         self.cursor.victim == self.victims.as_slice().len()
     }
 
-    /// Whether the pass may be committed: each entry was treated, and all replicas of the survivor are sealed.
-    pub fn is_ready(&self, replicas: usize) -> bool
-        ensures { result ≡ is_ready replicas self.now }
+    /// Whether the pass may be committed: each entry was treated, and each survivor is sealed whole.
+    pub fn is_ready(&self) -> bool
+        ensures { result ≡ is_ready self.now }
     {
-        self.is_at_end() && self.sealed == replicas
+        self.is_at_end() && self.sealed.survivors == self.survivors.count
     }
 
-    /// The next replica of the survivor is sealed, which is this one.
-    pub fn sealed(&mut self, replica: usize)
-        requires next { replica ≡ self.old.sealed }
-        requires more { replica < usize.MAX }
-        ensures { self.new ≡ record self.old { sealed = replica + 1 } }
+    /// The survivor that is sealed next, and which of its replicas: survivor by survivor, once each entry was treated.
+    /// `None` before, and once all are sealed.
+    pub fn next_seal(&self) -> Option<(u64, usize)>
+        requires { AreIds self.now.survivors }
+        ensures { result ≡ next_seal self.now }
     {
-        self.sealed = replica + 1;
+        if self.is_at_end() && self.sealed.survivors < self.survivors.count {
+            Some((
+                self.survivors.id(self.sealed.survivors),
+                self.sealed.replicas,
+            ))
+        } else {
+            None
+        }
     }
 
-    /// Treats the next object or tombstone. If it is kept, it is copied to the end of the survivor's image, and the
-    /// index then leads to the copy of an object. It takes no memory, and can't fail.
+    /// The replica that `next_seal` names is sealed. Each survivor has so many replicas.
+    pub fn seal_taken(&mut self, replicas: usize)
+        requires ids { AreIds self.old.survivors }
+        requires sealed { IsSealed replicas self.old.survivors.count self.old.sealed }
+        requires more { self.old.sealed.survivors < self.old.survivors.count }
+        ensures next { self.new ≡ record self.old { sealed = sealed_one replicas self.old.sealed } }
+        ensures sealed { IsSealed replicas self.new.survivors.count self.new.sealed }
+    {
+        self.sealed = self.sealed.with_one(replicas);
+    }
+
+    /// Treats the next object or tombstone. If it is kept, it is copied to the end of the survivor that is filled, or
+    /// to the next one if it doesn't fit there. The index then leads to the copy of an object. It takes no memory, and
+    /// can't fail.
     pub fn copy_one(
         &mut self,
         images: &mut Images,
@@ -168,10 +196,10 @@ impl Pass {
     ) -> Copied
         requires pass { IsPass index.old.held.seed images.old.images self.old }
         requires more { is_at_end self.old ≡ false }
-        requires room { HasRoom images.old.segment (ids_in images.old.images head new) self.old images.old.images
+        requires room { HasRoomsIn images.old.segment (ids_in images.old.images head new) self.old images.old.images
             index.old.held }
-        ensures copied { CopiesOne (ids_in images.old.images head new) self.old images.old.images index.old.held result
-            self.new images.new.images index.new.held }
+        ensures copied { CopiesOne images.old.segment (ids_in images.old.images head new) self.old images.old.images
+            index.old.held result self.new images.new.images index.new.held }
         ensures pass { IsPass index.new.held.seed images.new.images self.new }
         ensures images { images.new ≡ record images.old { images = images.new.images } }
         ensures room { index.new.room ≡ index.old.room }
@@ -184,7 +212,16 @@ impl Pass {
         let Some(seen) = self.cursor.ahead.first() else {
             unreachable!()
         };
-        let copied = treat(seen, place, self.survivor, images, index, head, new);
+        let copied = treat(
+            seen,
+            place,
+            self.survivors,
+            &mut self.filling,
+            images,
+            index,
+            head,
+            new,
+        );
         go_on(&mut self.cursor, seen.len(), victims, images, index);
         copied
     }

@@ -1,16 +1,23 @@
 //! What a pass does with one entry.
 
-ghost use Rattle.std.specs.Prelude.{◌≡◌, ◌+◌, ◌<◌, ◌≤◌, ◌∷◌, [], true, length};
-ghost use Rattle.std.specs.Prelude.{IfSome, IsSome};
+ghost use Rattle.std.specs.Prelude.{◌≡◌, ◌+◌, ◌<◌, ◌≤◌, ◌∷◌, [], length};
+ghost use Rattle.std.specs.Prelude.{IfSome, IfNone, IsSome};
+ghost use Rattle.std.specs.List.{AllByRecursion};
 ghost use Rattle.entry.specs.Format.{spelling};
+ghost use Rattle.entry.specs.Text.{text_of};
+ghost use Rattle.segment.specs.Bytes.{standing_at};
 ghost use Rattle.images.specs.Sorted.{IsWhole, segment_of, changed};
 ghost use Rattle.images.specs.Steps.{entry_at, with_unit, len_at, HasData};
 ghost use Rattle.compactor.specs.Log.{ids_of_log};
-ghost use Rattle.cleaner.specs.Passes.{images_in, ids_in, kept_len, copy_place, seen_len, IsSeenAt};
-ghost use Rattle.cleaner.specs.Walks.{HasFate, Treats};
+ghost use Rattle.cleaner.specs.Filling.{filled_one};
+ghost use Rattle.cleaner.specs.KeptLengths.{lengths_at};
+ghost use Rattle.cleaner.specs.Passes.{images_in, ids_in, survivor_ids, level_at, copy_place, seen_len};
+ghost use Rattle.cleaner.specs.Passes.{AreIds, IsSeenAt};
+ghost use Rattle.cleaner.specs.Walks.{HasFate, HasPlace, Treats};
 
 use crate::ahead::Seen;
 use crate::pass::Copied;
+use crate::survivors::Survivors;
 use compactor::LogSet;
 use hash_index::{Held, Index, Place};
 use images::Images;
@@ -52,47 +59,87 @@ fn fate_of(seen: Seen, place: Place, index: &Index, log: &LogSet<'_>) -> Fate
     }
 }
 
-/// Copies the object or tombstone at a place, of this length, to the end of the survivor's image, which has room for
-/// it. The answer is the place of the copy.
-fn copy(images: &mut Images, place: Place, len: usize, survivor: u64) -> Place
+/// Copies the object or tombstone at a place, of this length, to the end of a survivor's image. The answer is the place
+/// of the copy; `None` exactly if it doesn't fit, and nothing changes.
+fn copy_to(images: &mut Images, place: Place, len: usize, survivor: u64) -> Option<Place>
     requires order { place.segment < survivor }
     requires whole { IsWhole images.old.images survivor }
     requires of_data { HasData images.old.images place.segment place.at len }
-    requires room { IfSome (entry_at images.old.images place.segment place.at)
-        (λ e. len_at images.old.images survivor + length (spelling e) ≤ images.old.segment) }
-    ensures copied { IfSome (entry_at images.old.images place.segment place.at) (λ e. images.new ≡
-        record images.old { images = changed images.old.images survivor (with_unit (e ∷ [])) }) }
-    ensures place { result ≡ copy_place survivor images.old.images }
-    ensures limit { result.at < 8388608 }
+    ensures copied { IfSome result (λ to. IfSome (entry_at images.old.images place.segment place.at) (λ e. images.new ≡
+        record images.old { images = changed images.old.images survivor (with_unit (e ∷ [])) })) }
+    ensures fits { IfSome result (λ to. IfSome (entry_at images.old.images place.segment place.at)
+        (λ e. len_at images.old.images survivor + length (spelling e) ≤ images.old.segment)) }
+    ensures place { IfSome result (λ to. to ≡ copy_place survivor images.old.images) }
+    ensures limit { IfSome result (λ to. to.at < 8388608) }
+    ensures same { IfNone result (images.new ≡ images.old) }
+    ensures full { IfNone result (IfSome (entry_at images.old.images place.segment place.at)
+        (λ e. images.old.segment < len_at images.old.images survivor + length (spelling e))) }
 {
     images.show_valid();
     match images.copy_entry(place.segment, place.at, len, survivor) {
-        Ok(at) => Place {
+        Ok(at) => Some(Place {
             segment: survivor,
             at,
-        },
-        Err(_) => unreachable!(),
+        }),
+        Err(_) => None,
     }
 }
 
-/// Treats the object or tombstone at a place, of which this is known. The answer is what became of it.
+/// Copies the object or tombstone at a place, of this length, to the survivor that is filled, or to the next one if it
+/// doesn't fit there. One of them has room. The answer is the place of the copy.
+fn copy(
+    images: &mut Images,
+    place: Place,
+    len: usize,
+    survivors: Survivors,
+    filling: &mut usize,
+) -> Place
+    requires order { place.segment < survivors.first }
+    requires whole { AllByRecursion (IsWhole images.old.images) (survivor_ids survivors) }
+    requires ids { AreIds survivors }
+    requires of_data { HasData images.old.images place.segment place.at len }
+    requires room { IfSome (entry_at images.old.images place.segment place.at)
+        (λ e. HasPlace images.old.segment survivors filling.old images.old.images (length (spelling e))) }
+    ensures copied { IfSome (entry_at images.old.images place.segment place.at) (λ e. images.new ≡ record images.old {
+      images = changed images.old.images (survivors.first + filling.new) (with_unit (e ∷ []));
+    }) }
+    ensures filling { IfSome (entry_at images.old.images place.segment place.at) (λ e. filling.new ≡ (filled_one
+        images.old.segment (level_at survivors filling.old images.old.images) (length (spelling e))).survivor) }
+    ensures place { result ≡ copy_place (survivors.first + filling.new) images.old.images }
+    ensures limit { result.at < 8388608 }
+{
+    if let Some(to) = copy_to(images, place, len, survivors.id(*filling)) {
+        return to;
+    }
+    *filling += 1;
+    let Some(to) = copy_to(images, place, len, survivors.id(*filling)) else {
+        unreachable!()
+    };
+    to
+}
+
+/// Treats the object or tombstone at a place, of which this is known: if it is kept, it is copied to the survivor that
+/// is filled then. The answer is what became of it.
 pub(crate) fn treat(
     seen: Seen,
     place: Place,
-    survivor: u64,
+    survivors: Survivors,
+    filling: &mut usize,
     images: &mut Images,
     index: &mut Index,
     head: u64,
     new: Option<u64>,
 ) -> Copied
-    requires order { place.segment < survivor }
+    requires order { place.segment < survivors.first }
     requires there { IsSome (segment_of images.old.images place.segment) }
-    requires whole { IsWhole images.old.images survivor }
+    requires whole { AllByRecursion (IsWhole images.old.images) (survivor_ids survivors) }
+    requires ids { AreIds survivors }
     requires at { IsSeenAt index.old.held.seed (images_in images.old.images place.segment) place.at seen }
-    requires room { len_at images.old.images survivor + kept_len (ids_in images.old.images head new) index.old.held
-        (images_in images.old.images) place ≤ images.old.segment }
-    ensures treated { Treats (ids_in images.old.images head new) images.old.images index.old.held place survivor result
-        (seen_len seen) images.new.images index.new.held }
+    requires room { AllByRecursion (HasPlace images.old.segment survivors filling.old images.old.images)
+        (lengths_at (ids_in images.old.images head new) index.old.held place
+        (standing_at place.at (text_of (images_in images.old.images place.segment)))) }
+    ensures treated { Treats images.old.segment (ids_in images.old.images head new) images.old.images index.old.held
+        place survivors filling.old result (seen_len seen) filling.new images.new.images index.new.held }
     ensures images { images.new ≡ record images.old { images = images.new.images } }
     ensures room { index.new.room ≡ index.old.room }
 {
@@ -103,12 +150,12 @@ pub(crate) fn treat(
     };
     match fate_of(seen, place, index, &log) {
         Fate::Object(held) => {
-            let to = copy(images, place, seen.len(), survivor);
+            let to = copy(images, place, seen.len(), survivors, filling);
             index.relocate(held, to);
             Copied::Moved
         }
         Fate::Tombstone => {
-            copy(images, place, seen.len(), survivor);
+            copy(images, place, seen.len(), survivors, filling);
             Copied::Carried
         }
         Fate::Dead => Copied::Dropped,

@@ -2,7 +2,7 @@
 
 ghost use Rattle.std.specs.Prelude.{◌≡◌, ◌≤◌, length, drop, IsSome};
 ghost use Rattle.std.specs.List.{AllByRecursion};
-ghost use Rattle.entry.specs.Text.{is_data};
+ghost use Rattle.entry.specs.Text.{text_of, is_data, IsSegment};
 ghost use Rattle.entry.specs.View.{shown};
 ghost use Rattle.images.specs.Sorted.{segment_of};
 ghost use Rattle.cleaner.specs.Passes.{images_in};
@@ -29,9 +29,11 @@ fn is_data(entry: &EntryRef<'_>) -> bool
 }
 
 /// The offset of the first object or tombstone of a segment from this offset on.
-fn next_data(segment: &SegmentRef<'_>, from: usize) -> Option<usize>
+pub(crate) fn next_data(segment: &SegmentRef<'_>, from: usize) -> Option<usize>
     requires { IsBetween segment.now from }
-    ensures { FindsData segment.now from result }
+    ensures finds { FindsData segment.now from result }
+    ensures valid { IsSegment segment.now }
+    ensures limit { length (text_of segment.now) ≤ 8388608 }
 {
     let text = segment.bytes();
     let mut at = from;

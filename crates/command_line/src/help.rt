@@ -18,8 +18,8 @@ pub(crate) const AFTER_HELP: &str = "Lines of a script:
   beginroll    Begins that: 'opening ID'
   push         Hands one piece of the log to one backup: 'extend B ID', 'open B ID' or 'close B ID'
   compact ID   Drops what segment ID doesn't keep from the master's memory: 'compacted ID LENGTH'
-  clean ID ..  Copies what is kept of these segments to a new one, and frees them: 'cleaned ID HEAD'
-  begin ID ..  Begins that: 'begun ID'. Then 'copy' treats one entry, 'seal' and 'free' one replica each
+  clean ID ..  Copies what is kept of up to 32 segments to up to 4 new ones, and frees them: 'cleaned ID .. HEAD'
+  begin ID ..  Begins that: 'begun ID ..'. Then 'copy' treats one entry, 'seal' and 'free' one replica each
   clients C N P  Runs C clients in threads of their own, beside a cleaner that makes P passes. Each has a key of its own
                in table 1, and makes N rounds of a put and a get: 'clients C N CALLS', the calls that were accepted
   log          Shows the numbers of the log's segments: 'log ID ..'

@@ -5,6 +5,7 @@ ghost use Rattle.locked_log.specs.Ends.{AreServed};
 ghost use Rattle.locked_log.specs.Made.{IsMade};
 ghost use Rattle.locked_log.specs.Sharing.{AreOfSeats};
 ghost use Rattle.master.specs.Valid.{IsValid};
+ghost use Rattle.master.specs.World.{world};
 
 use locked_log::{Naming, Seat, Store};
 use master::Master;
@@ -13,7 +14,7 @@ use replica::Fleet;
 /// Takes the master of a store back. Answers whether the book's numbers of all given seats are their own.
 pub fn take_back<F: Fleet, B: Naming>(store: Store<F, B>, seats: Vec<Seat<B>>) -> (Master<F>, bool)
     ensures known { IsTrue result.1 → AreServed result.0.knows seats.items }
-    ensures made { IsMade B.made result.0.knows }
+    ensures made { IsMade B.made (world F.state result.0) }
     ensures no_others { AreOfSeats B.made.seats result.0.knows.history }
     ensures valid { IsValid result.0.knows (F.state result.0.fleet) }
 {

@@ -7,3 +7,4 @@ pub mod Tries
 pub mod Parts
 pub mod Listings
 pub mod Cleaned
+pub mod LeastHeads

@@ -50,9 +50,9 @@ freed_history old new (Err r) (inr h) = refused_history (IsFreeOp old.knows) old
 -- ---- which refusals are of a fleet that is spent
 
 -- no test refuses a pass as spent, and its begin takes nothing
-space_unspent : (may few spent : Bool) → (if may then Some refusal.Full else if few then Some (refusal.Pass TooMuch)
+space_unspent : (many full spent : Bool) → (if many then Some (refusal.Pass TooMuch) else if full then Some refusal.Full
     else if spent then Some refusal.SegmentsSpent else None) ≡ Some refusal.Spent → ⊥
-space_unspent true few spent e = cc
+space_unspent true full spent e = cc
 space_unspent false true spent e = cc
 space_unspent false false true e = cc
 space_unspent false false false e = cc
@@ -85,23 +85,23 @@ spent_copy old new r h is = go (subst (λ (x : Refusal). Declines old Copy x new
     go : Declines old Copy refusal.Spent new → ⊥
     go (same, test) = waits_unspent _ _ test
 
--- a seal or a free is refused as spent by a fleet that is
+-- nor does what a seal or a free is tested by, but a fleet that is spent refuses it so
+idle_unspent : (halted none : Bool)
+    → (if halted then Some refusal.Halted else if none then Some refusal.Nothing else None) ≡ Some refusal.Spent → ⊥
+idle_unspent true none e = cc
+idle_unspent false true e = cc
+idle_unspent false false e = cc
+
 pub spent_seal : (old new : World) (r : Refusal) → Declines old Seal r new → r ≡ refusal.Spent → IsSpent new.fleet
 spent_seal old new r h is = go (subst (λ (x : Refusal). Declines old Seal x new) is h)
   where
     go : Declines old Seal refusal.Spent new → IsSpent new.fleet
-    go (inl h) = absurd (waits_unspent _ _ h.0)
+    go (inl h) = absurd (idle_unspent _ _ h.0)
     go (inr h) = spent_take (IsSealOp old.knows) old new h.1
 
 pub spent_free : (old new : World) (r : Refusal) → Declines old Free r new → r ≡ refusal.Spent → IsSpent new.fleet
 spent_free old new r h is = go (subst (λ (x : Refusal). Declines old Free x new) is h)
   where
-    tested : (halted none : Bool)
-        → (if halted then Some refusal.Halted else if none then Some refusal.Nothing else None) ≡ Some refusal.Spent → ⊥
-    tested true none e = cc
-    tested false true e = cc
-    tested false false e = cc
-
     go : Declines old Free refusal.Spent new → IsSpent new.fleet
-    go (inl h) = absurd (tested _ _ h.0)
+    go (inl h) = absurd (idle_unspent _ _ h.0)
     go (inr h) = spent_take (IsFreeOp old.knows) old new h.1

@@ -1,7 +1,9 @@
 -- What a whole cleaning makes of a master and its fleet, from the begin of its pass to the last free.
 use Rattle.std.specs.Prelude.{◌≡◌, ◌⊎◌, ℕ, List, [], ◌∷◌, ◌++◌, Result, Ok, Err, None}
+use Rattle.cleaner.specs.declared.survivors.Survivors.{Survivors}
+use Rattle.cleaner.specs.Passes.{survivor_ids}
 use Rattle.log_head.specs.Head.{digest_of}
-use Rattle.log_model.specs.Ids.{inserted, without}
+use Rattle.log_model.specs.Ids.{all_inserted, without}
 use Rattle.master_state.specs.Budget.{newest_digest}
 use Rattle.master_state.specs.declared.step.Refusal.{Refusal}
 use Rattle.master_state.specs.declared.step.Refusal.TheVariants.{Nothing}
@@ -33,7 +35,7 @@ MakesAll step old (Err r) new = StopsAt step old r new
 
 -- ---- up to the commit
 
--- All entries were copied, then all replicas of the survivor were sealed, and then pushes were taken until nothing
+-- All entries were copied, then all replicas of the survivors were sealed, and then pushes were taken until nothing
 -- waited.
 pub record IsPrepared (old new : World) : Type 0 where
   pub copied : World
@@ -73,28 +75,29 @@ abbrev pub Finishes : World → Result ℕ Refusal → World → Type 0
 Finishes old (Ok head) new = IsFinished old head new
 Finishes old (Err r) new = IsNotFinished old r new
 
--- the ids of a digest once a commit replaced these victims by this survivor, under this head
-abbrev pub digest_after : List ℕ → List ℕ → ℕ → ℕ → List ℕ
-digest_after ids victims survivor head = inserted survivor (without victims ids) ++ head ∷ []
+-- the ids of a digest once a commit replaced these victims by these survivors, under this head
+abbrev pub digest_after : List ℕ → List ℕ → List ℕ → ℕ → List ℕ
+digest_after ids victims survivors head = all_inserted survivors (without victims ids) ++ head ∷ []
 
--- A pass over these victims began with this survivor, and all of it was made. The roll was its commit: the digest in
--- force lists the survivor in place of the victims, the pass has ended, and nothing waits to be freed.
-pub record IsCleaned (old : World) (victims : List ℕ) (survivor head : ℕ) (new : World) : Type 0 where
+-- A pass over these victims began with these survivors, and all of it was made. The roll was its commit: the digest in
+-- force lists the survivors in place of the victims, the pass has ended, and nothing waits to be freed.
+pub record IsCleaned (old : World) (victims : List ℕ) (survivors : Survivors) (head : ℕ) (new : World) : Type 0 where
   pub begun : World
-  pub begins : Accepts old (BeginClean victims) (Begun survivor) begun
+  pub begins : Accepts old (BeginClean victims) (Begun survivors) begun
   pub finished : IsFinished begun head new
   -- a head that a roll was opening then is listed too
-  pub digest : digest_of new.knows.head.image ≡ digest_after (newest_digest old.knows.head) victims survivor head
+  pub digest : digest_of new.knows.head.image
+      ≡ digest_after (newest_digest old.knows.head) victims (survivor_ids survivors) head
   pub ended : new.knows.pass ≡ None
   pub freed : new.knows.waiting ≡ []
 
 -- The pass couldn't begin, or what came after its begin stopped at a refusal.
 abbrev pub IsNotCleaned : World → List ℕ → Refusal → World → Type 0
 IsNotCleaned old victims r new = Declines old (BeginClean victims) r new
-    ⊎ ((survivor : ℕ) × (begun : World) × Accepts old (BeginClean victims) (Begun survivor) begun
+    ⊎ ((survivors : Survivors) × (begun : World) × Accepts old (BeginClean victims) (Begun survivors) begun
     × IsNotFinished begun r new)
 
--- a whole cleaning, by its survivor and the head that it ends with, or by its refusal
-abbrev pub Cleans : World → List ℕ → Result (ℕ × ℕ) Refusal → World → Type 0
-Cleans old victims (Ok (survivor, head)) new = IsCleaned old victims survivor head new
+-- a whole cleaning, by its survivors and the head that it ends with, or by its refusal
+abbrev pub Cleans : World → List ℕ → Result (Survivors × ℕ) Refusal → World → Type 0
+Cleans old victims (Ok (survivors, head)) new = IsCleaned old victims survivors head new
 Cleans old victims (Err r) new = IsNotCleaned old victims r new

@@ -7,7 +7,7 @@ ghost use Rattle.driving.specs.Served.{IsSpent, LivesOn};
 
 use crate::pushing::{push_all, roll_all};
 use entry::Row;
-use master::{Master, Refusal, Step, StepAnswer};
+use master::{Master, Refusal, Step, StepAnswer, Survivors};
 use replica::Fleet;
 
 /// A phase of a cleaning: steps of one kind, which are made until nothing is left to do.
@@ -49,7 +49,7 @@ fn make_all<F: Fleet>(master: &mut Master<F>, phase: Phase) -> Result<(), Refusa
     }
 }
 
-/// Copies all entries of a pass, seals all replicas of its survivor, and pushes until nothing waits.
+/// Copies all entries of a pass, seals all replicas of its survivors, and pushes until nothing waits.
 fn prepare<F: Fleet>(master: &mut Master<F>) -> Result<(), Refusal>
     ensures goes_on { LivesOn master.old.knows master.new.knows [] }
     ensures prepared { Prepares (world F.state master.old) result (world F.state master.new) }
@@ -74,15 +74,18 @@ fn finish<F: Fleet>(master: &mut Master<F>) -> Result<u64, Refusal>
     Ok(head)
 }
 
-/// Cleans these segments. It answers the survivor and the new head. After a refusal, what was done stays done.
-pub fn clean_all<F: Fleet>(master: &mut Master<F>, victims: Row<u64>) -> Result<(u64, u64), Refusal>
+/// Cleans these segments. It answers the survivors and the new head. After a refusal, what was done stays done.
+pub fn clean_all<F: Fleet>(
+    master: &mut Master<F>,
+    victims: Row<u64>,
+) -> Result<(Survivors, u64), Refusal>
     ensures goes_on { LivesOn master.old.knows master.new.knows [] }
     ensures cleaned { Cleans (world F.state master.old) victims result (world F.state master.new) }
     ensures spent { IfErr result (λ r. r ≡ Refusal.Spent → IsSpent (F.state master.new.fleet)) }
 {
     match master.step(Step::BeginClean(victims)) {
-        Ok(StepAnswer::Begun(survivor)) => match finish(master) {
-            Ok(head) => Ok((survivor, head)),
+        Ok(StepAnswer::Begun(survivors)) => match finish(master) {
+            Ok(head) => Ok((survivors, head)),
             Err(refusal) => Err(refusal),
         },
         Ok(_) => unreachable!(),

@@ -1,12 +1,12 @@
 -- A step that the master says is next is never refused because nothing waits.
 use Rattle.std.proofs.Common.{◌≡◌, ℕ, inl, inr, ⊎_elim, Bool, true, false, cond, Option, Some, None, List, refl, sym}
 use Rattle.std.proofs.Common.{ap, ◌∙◌, subst}
-use Rattle.std.specs.Prelude.{◌^◌, ◌==◌, ◌&&◌, not, nat_lt, length}
-use Rattle.std.specs.Option.{option_map_or}
-use Rattle.std.proofs.lemmas.Bool.{and_from, and_left, not-true}
+use Rattle.std.specs.Prelude.{◌+◌, ◌^◌, ◌==◌, not, nat_lt, length, is_none, is_some}
+use Rattle.std.specs.Option.{option_and_then, option_map_or}
+use Rattle.std.proofs.lemmas.Bool.{and_left, not-true}
 use Rattle.cleaner.specs.declared.fault.PassFault.{PassFault}
 use Rattle.cleaner.specs.declared.pass.Pass.{Pass as OpenPass}
-use Rattle.cleaner.specs.Passes.{is_at_end}
+use Rattle.cleaner.specs.Passes.{is_at_end, next_seal}
 use Rattle.log_head.specs.Head.{is_open}
 use Rattle.log_model.specs.Data.{fewest}
 use Rattle.master_state.specs.declared.step.Refusal.TheVariants.{Halted, Rolling, Nothing, Full, SegmentsSpent, Pass}
@@ -14,8 +14,8 @@ use Rattle.master_state.specs.declared.step.Refusal.TheVariants.{NoMemory}
 use Rattle.master_state.specs.declared.step.Step.{Step}
 use Rattle.master_state.specs.declared.step.Step.TheVariants.{Push, BeginRoll, BeginClean, Copy, Seal, Free}
 use Rattle.master_state.specs.Budget.{may_roll, may_clean}
-use Rattle.master_state.specs.Causes.{clean_refusal, victims_fault, space_refusal, are_few_bytes}
-use Rattle.master_space.specs.Choosing.{chosen, pass_step, step_without, next_step}
+use Rattle.master_state.specs.Causes.{clean_refusal, victims_fault, survivors_for, space_refusal}
+use Rattle.master_space.specs.Choosing.{chosen, may_begin_next, pass_step, step_without, next_step}
 use Rattle.master_state.specs.Data.{MasterData}
 use Rattle.master.specs.Steps.{Declines}
 use Rattle.master.specs.World.{World}
@@ -45,13 +45,14 @@ not_idle_before_roll false false false true e = absurd (cc)
 not_idle_before_roll false false false false e = absurd (cc)
 
 space : (d : MasterData) (ids : List ℕ) → space_refusal d ids ≡ Some Nothing → ⊥
-space d ids = go (not (may_clean d (length ids))) (not (are_few_bytes d ids)) (nat_lt (2 ^ 62) d.next) where
-  go : (a b c : Bool) → cond a (Some Full) (cond b (Some (Pass PassFault.TooMuch)) (cond c (Some SegmentsSpent) None))
-      ≡ Some Nothing → ⊥
-  go true b c e = absurd (cc)
-  go false true c e = absurd (cc)
-  go false false true e = absurd (cc)
-  go false false false e = absurd (cc)
+space d ids = go (nat_lt 4 (survivors_for d ids)) (not (may_clean d (length ids) (survivors_for d ids)))
+    (nat_lt (2 ^ 62 + 1) (d.next + survivors_for d ids)) where
+      go : (a b c : Bool) → cond a (Some (Pass PassFault.TooMuch)) (cond b (Some Full) (cond c (Some SegmentsSpent) None))
+          ≡ Some Nothing → ⊥
+      go true b c e = absurd (cc)
+      go false true c e = absurd (cc)
+      go false false true e = absurd (cc)
+      go false false false e = absurd (cc)
 
 cleans : (d : MasterData) (ids : List ℕ) → clean_refusal d ids ≡ Some Nothing → ⊥
 cleans d ids = go d.is_halted (victims_fault d ids) where
@@ -64,6 +65,10 @@ cleans d ids = go d.is_halted (victims_fault d ids) where
 
 not_memory : NoMemory ≡ Nothing → ⊥
 not_memory e = absurd (cc)
+
+some_not_none : {X : Type 0} (o : Option X) → is_some o ≡ true → is_none o ≡ false
+some_not_none None e = absurd (cc)
+some_not_none (Some x) e = refl
 
 -- ---- the next step
 
@@ -89,28 +94,22 @@ module _ (s t : World) where
     copies : not (is_at_end p) ≡ true → Never Copy
     copies more x = not_idle_at_work s.knows.is_halted _ (in_pass (λ (q : OpenPass). not (is_at_end q)) more) x.1
 
-    seals : not (is_at_end p) ≡ false → nat_lt p.sealed s.knows.config.replicas ≡ true → Never Seal
-    seals done more (inl x) = not_idle_at_work s.knows.is_halted _
-        (in_pass (λ (q : OpenPass). is_at_end q && nat_lt q.sealed s.knows.config.replicas)
-        (and_from _ _ (at_end (is_at_end p) done) more)) x.0
-      where
-        at_end : (b : Bool) → not b ≡ false → b ≡ true
-        at_end true e = refl
-        at_end false e = absurd (cc)
-    seals done more (inr x) = x.1
+    seals : is_some (next_seal p) ≡ true → Never Seal
+    seals more (inl x) = awake s.knows.is_halted _ (ap (λ (o : Option OpenPass). is_none (option_and_then next_seal o))
+        opened ∙ some_not_none (next_seal p) more) x.0
+    seals more (inr x) = x.1
 
     pass_never : Never (pass_step s.knows p)
-    pass_never = go (not (is_at_end p)) (nat_lt p.sealed s.knows.config.replicas)
-        (is_open s.knows.head) refl refl refl where
-          picks : Bool → Bool → Bool → Step
-          picks a b c = cond a Copy (cond b Seal (cond c BeginRoll Push))
+    pass_never = go (not (is_at_end p)) (is_some (next_seal p)) (is_open s.knows.head) refl refl refl where
+      picks : Bool → Bool → Bool → Step
+      picks a b c = cond a Copy (cond b Seal (cond c BeginRoll Push))
 
-          go : (a b c : Bool) → not (is_at_end p) ≡ a → nat_lt p.sealed s.knows.config.replicas ≡ b
-              → is_open s.knows.head ≡ c → Never (picks a b c)
-          go true b c ea eb ec = copies ea
-          go false true c ea eb ec = seals ea eb
-          go false false true ea eb ec = rolls
-          go false false false ea eb ec = pushes ec
+      go : (a b c : Bool) → not (is_at_end p) ≡ a → is_some (next_seal p) ≡ b → is_open s.knows.head ≡ c
+          → Never (picks a b c)
+      go true b c ea eb ec = copies ea
+      go false true c ea eb ec = seals eb
+      go false false true ea eb ec = rolls
+      go false false false ea eb ec = pushes ec
 
   frees : not (length s.knows.waiting == 0) ≡ true → Never Free
   frees waits (inl x) = awake s.knows.is_halted _ (not-true (length s.knows.waiting == 0) waits) x.0
@@ -124,17 +123,17 @@ module _ (s t : World) where
   NeverIn (Some step) = Never step
 
   without_never : NeverIn (step_without s.knows)
-  without_never = go (not (is_open s.knows.head)) (not (length s.knows.waiting == 0))
-      (may_clean s.knows (length (chosen s.knows)) && not (length (chosen s.knows) == 0)) refl refl where
-        picks : Bool → Bool → Bool → Option Step
-        picks a b c = cond a (Some Push) (cond b (Some Free) (cond c (Some (BeginClean (chosen s.knows))) None))
+  without_never = go (not (is_open s.knows.head)) (not (length s.knows.waiting == 0)) (may_begin_next s.knows) refl refl
+    where
+      picks : Bool → Bool → Bool → Option Step
+      picks a b c = cond a (Some Push) (cond b (Some Free) (cond c (Some (BeginClean (chosen s.knows))) None))
 
-        go : (a b c : Bool) → not (is_open s.knows.head) ≡ a → not (length s.knows.waiting == 0) ≡ b
-            → NeverIn (picks a b c)
-        go true b c ea eb = pushes (not-true (is_open s.knows.head) ea)
-        go false true c ea eb = frees eb
-        go false false true ea eb = begins (chosen s.knows)
-        go false false false ea eb = tt
+      go : (a b c : Bool) → not (is_open s.knows.head) ≡ a → not (length s.knows.waiting == 0) ≡ b
+          → NeverIn (picks a b c)
+      go true b c ea eb = pushes (not-true (is_open s.knows.head) ea)
+      go false true c ea eb = frees eb
+      go false false true ea eb = begins (chosen s.knows)
+      go false false false ea eb = tt
 
   next_never : NeverIn (next_step s.knows)
   next_never = go s.knows.pass refl where

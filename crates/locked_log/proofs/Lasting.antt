@@ -4,7 +4,6 @@ use Rattle.std.specs.Prelude.{slice_get, slice_set}
 use Rattle.std.proofs.lemmas.List.{append-nil}
 use Rattle.master.specs.Keeps.{Keeps}
 use Rattle.master.specs.World.{World}
-use Rattle.master_state.specs.Data.{MasterData}
 use Rattle.store_seat.specs.declared.account.Account.{Account}
 use Rattle.locked_log.specs.Held.{Held}
 use Rattle.store_seat.specs.Made.{Made}
@@ -43,7 +42,7 @@ lasts_same most h =
     record { keeps = keeps_same most h.world; accounts = refl; firsts = firsts_same h.book; refused = λ on. on }
 
 -- it stays the master that the store was made of
-pub made_lasts : (most : ℕ) (s t : World) (made : Made) → Keeps most s t → IsMade made s.knows → IsMade made t.knows
+pub made_lasts : (most : ℕ) (s t : World) (made : Made) → Keeps most s t → IsMade made s → IsMade made t
 made_lasts most s t made keeps is = record {
   config = keeps.config ∙ is.config;
   origin = keeps.origin ∙ is.origin;
@@ -53,9 +52,15 @@ made_lasts most s t made keeps is = record {
         ∙ append_assoc made.begun is.begun.0 keeps.history.0,
   );
   durable = omega (arith, is.durable, keeps.durable);
+  least = keeps.least ∙ is.least;
 }
 
 -- at first it is
-pub made_at_first : (seats : ℕ) (d : MasterData) → IsMade (made_now seats d) d
-made_at_first seats d =
-    record { config = refl; origin = refl; begun = ([], sym (append-nil d.history)); durable = omega arith }
+pub made_at_first : (seats : ℕ) (w : World) → IsMade (made_now seats w) w
+made_at_first seats w = record {
+  config = refl;
+  origin = refl;
+  begun = ([], sym (append-nil w.knows.history));
+  durable = omega arith;
+  least = refl;
+}

@@ -19,7 +19,7 @@ fresh_account zero k a e = absurd (cc)
 fresh_account (suc n) zero a e = let first : account 0 0 ≡ a = cc in sym first
 fresh_account (suc n) (suc k) a e = fresh_account n k a e
 
-pub opens : (h : Held) (made : Made) → IsMade made h.world.knows → IsFresh h.row h.world.knows
+pub opens : (h : Held) (made : Made) → IsMade made h.world → IsFresh h.row h.world.knows
     → IsValid h.world.knows h.world.fleet → h.book ≡ fresh_book made.seats
     → h.total ≡ 0 → h.is_refused ≡ false → IsState h made
 opens h made is fresh valid book total off =

@@ -192,7 +192,7 @@ module _ (made : Made) (h : List Record) (r : Record) (row : List (Option Record
 -- ---- the value under the lock
 
 -- with all records filed it is one
-pub shares : (s : Held) (made : Made) (seats : List SeatValue) → IsMade made s.world.knows
+pub shares : (s : Held) (made : Made) (seats : List SeatValue) → IsMade made s.world
     → IsValid s.world.knows s.world.fleet
     → AreFiled made (history s) s.row s.book s.total seats → s.is_refused ≡ false → IsState s made
 shares s made seats is valid f off = record {

@@ -1,12 +1,12 @@
 -- A step that is no command adds no record.
 use Rattle.std.proofs.Common.{◌≡◌, ℕ, suc, inl, inr, Bool, true, false, [], Option, Some, None, refl, sym, ap, ◌∙◌}
 use Rattle.std.proofs.Common.{subst, arith}
-use Rattle.std.specs.Prelude.{Result, Ok, Err, ◌==◌, ◌&&◌, not, nat_lt, drop, length, if◌then◌else◌}
+use Rattle.std.specs.Prelude.{Result, Ok, Err, ◌==◌, not, drop, length, is_some, if◌then◌else◌}
 use Rattle.std.proofs.lemmas.List.{append-nil}
 use Rattle.std.specs.Option.{option_map_or}
 use Rattle.replica.specs.Picture.{FleetState}
 use Rattle.cleaner.specs.declared.pass.Pass.{Pass}
-use Rattle.cleaner.specs.Passes.{is_at_end}
+use Rattle.cleaner.specs.Passes.{is_at_end, next_seal}
 use Rattle.log_head.specs.Head.{is_open}
 use Rattle.log_model.specs.Ops.{LogOp}
 use Rattle.master_state.specs.declared.step.Refusal.{Refusal}
@@ -15,8 +15,7 @@ use Rattle.master_state.specs.declared.step.Step.{Step}
 use Rattle.master_state.specs.declared.step.Step.TheVariants.{Apply, Push, BeginRoll, Compact, BeginClean, Copy, Seal}
 use Rattle.master_state.specs.declared.step.Step.TheVariants.{Free}
 use Rattle.master_state.specs.declared.step.StepAnswer.{StepAnswer}
-use Rattle.master_state.specs.Budget.{may_clean}
-use Rattle.master_space.specs.Choosing.{chosen, pass_step, step_without, next_step}
+use Rattle.master_space.specs.Choosing.{chosen, may_begin_next, pass_step, step_without, next_step}
 use Rattle.master_state.specs.Data.{MasterData}
 use Rattle.master_state.specs.Steps.{freed_data}
 use Rattle.master.specs.Keeps.{Keeps}
@@ -47,7 +46,7 @@ IsOtherIn None = Unit {0}
 IsOtherIn (Some step) = IsOther step
 
 pass_other : (d : MasterData) (p : Pass) → IsOther (pass_step d p)
-pass_other d p = go (not (is_at_end p)) (nat_lt p.sealed d.config.replicas) (is_open d.head) where
+pass_other d p = go (not (is_at_end p)) (is_some (next_seal p)) (is_open d.head) where
   picks : Bool → Bool → Bool → Step
   picks a b c = if a then Copy else if b then Seal else if c then BeginRoll else Push
 
@@ -58,16 +57,15 @@ pass_other d p = go (not (is_at_end p)) (nat_lt p.sealed d.config.replicas) (is_
   go false false false = tt
 
 without_other : (d : MasterData) → IsOtherIn (step_without d)
-without_other d = go (not (is_open d.head)) (not (length d.waiting == 0))
-    (may_clean d (length (chosen d)) && not (length (chosen d) == 0)) where
-      picks : Bool → Bool → Bool → Option Step
-      picks a b c = if a then Some Push else if b then Some Free else if c then Some (BeginClean (chosen d)) else None
+without_other d = go (not (is_open d.head)) (not (length d.waiting == 0)) (may_begin_next d) where
+  picks : Bool → Bool → Bool → Option Step
+  picks a b c = if a then Some Push else if b then Some Free else if c then Some (BeginClean (chosen d)) else None
 
-      go : (a b c : Bool) → IsOtherIn (picks a b c)
-      go true b c = tt
-      go false true c = tt
-      go false false true = tt
-      go false false false = tt
+  go : (a b c : Bool) → IsOtherIn (picks a b c)
+  go true b c = tt
+  go false true c = tt
+  go false false true = tt
+  go false false false = tt
 
 next_other : (d : MasterData) → IsOtherIn (next_step d)
 next_other d = go d.pass where

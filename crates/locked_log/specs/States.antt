@@ -25,8 +25,8 @@ pub record IsWritten (row : List (Option Record)) (records : List Record) (is_re
 pub record IsState (h : Held) (made : Made) : Type 0 where
   -- the history is legal, the log is covered, and the picture is sound
   pub valid : IsValid h.world.knows h.world.fleet
-  -- the configuration and the opening are those that the store was made with
-  pub master : IsMade made h.world.knows
+  -- the configuration, the opening and the least heads are those that the store was made with
+  pub master : IsMade made h.world
   -- there is a cell for each record that the history may have
   pub cells : length h.row ≡ made.config.history
   pub written : IsWritten h.row (history h) h.is_refused

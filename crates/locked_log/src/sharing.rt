@@ -3,6 +3,7 @@
 ghost use Rattle.std.specs.Prelude.{◌≡◌, ◌≤◌, ◌<◌, ◌+◌, None, Some, IfSome, OnOk, MatchResult, length, replicate};
 ghost use Rattle.std.specs.Prelude.{slice_get, take, true, ◌^◌};
 ghost use Rattle.locked_log.specs.Made.{IsMade};
+ghost use Rattle.master.specs.World.{world};
 ghost use Rattle.locked_log.specs.declared.sharing.ShareFault.TheVariants as share_fault;
 ghost use Rattle.locked_log.specs.Sharing.{AreSeatsAfter, AreFiled};
 
@@ -49,7 +50,7 @@ impl<F: Fleet, B: Naming> Store<F, B> {
         requires cells { (blank.cells ≡ B.cells) × (blank.seats ≡ B.made.seats) }
         requires ledger { (blank.name ≡ B.name) × (blank.parts ≡ B.parts) }
         requires mark { blank.table ≡ B.table }
-        requires made { IsMade B.made master.knows }
+        requires made { IsMade B.made (world F.state master) }
         ensures { MatchResult result (λ r. AreSeatsAfter master.knows.history blank.seats r.1.items)
             (λ e. e.1 ≡ master) }
     {

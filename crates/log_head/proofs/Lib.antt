@@ -1,6 +1,7 @@
 pub mod Heads
 pub mod HeadLog
 pub mod Digests
+pub mod Waiting
 pub mod RisingIds
 pub mod Rolls
 pub mod RollLog

@@ -1,29 +1,29 @@
 -- The next head's digest, if it lists lengths.
-use Rattle.std.proofs.Common.{◌≡◌, ℕ, zero, suc, ◌+◌, ◌<◌, ◌≤◌, ◌⊎◌, ◌^◌, inl, inr, Bool, true, false, cond, List, []}
+use Rattle.std.proofs.Common.{◌≡◌, ℕ, zero, suc, ◌+◌, ◌<◌, ◌≤◌, ◌^◌, inl, inr, Bool, true, false, cond, List, []}
 use Rattle.std.proofs.Common.{◌∷◌, ◌++◌, length, refl, sym, ap, subst, ◌∙◌, arith}
-use Rattle.std.specs.Prelude.{Option, Some, None, IfSome, slice_get, unwrap_or, map, ◌*◌, ◌==◌, if◌then◌else◌}
+use Rattle.std.specs.Prelude.{Option, Some, None, slice_get, unwrap_or, map, ◌*◌, ◌==◌, if◌then◌else◌}
 use Rattle.std.specs.List.{AllByRecursion}
 use Rattle.std.specs.List.Sorted.{IsStrictlyIncreasing}
-use Rattle.std.specs.Option.{option_len, option_to_list}
-use Rattle.std.proofs.lemmas.Bool.Decides.{nat_tests}
-use Rattle.std.proofs.lemmas.List.{append-nil, length-append}
+use Rattle.std.proofs.lemmas.Bool.{ne_eqb}
+use Rattle.std.proofs.lemmas.List.{length-append}
 use Rattle.std.proofs.lemmas.Option.{same_Some}
 use Rattle.entry.specs.declared.digest.Listed.{Listed}
 use Rattle.entry.specs.declared.digest.Digest.{Digest}
 use Rattle.entry.specs.declared.digest.Digest.TheVariants as digest
 use Rattle.entry.specs.declared.entry.Entry.{Entry}
 use Rattle.entry.specs.declared.entry.Entry.TheVariants as entry
+use Rattle.entry.specs.Bag.{IsAmong}
 use Rattle.entry.specs.Format.{spelling, listed_at, digest_at}
 use Rattle.entry.specs.Limits.{ids_in, IsListed, AreLengths}
 use Rattle.entry.specs.Text.{text_of, is_whole, lists_lengths, len_in, listed_len, IsSegment}
-use Rattle.entry.proofs.LengthLemmas.{length-ids_in}
+use Rattle.entry.proofs.LengthLemmas.{length-ids_in, len_in-place}
 use Rattle.entry.proofs.ListLemmas.{all_push}
 use Rattle.entry.proofs.SpellingLemmas.{length-header}
-use Rattle.log_model.specs.Data.{listed_with, own_listed, digest_with, lens_next}
+use Rattle.log_model.specs.Data.{listed_with, own_listed, digest_with, len_next, lens_next}
 use Rattle.log_model.specs.Ids.{has, all_inserted, without}
 use Rattle.log_model.proofs.Lengths.{ids_push}
 use Rattle.log_head.specs.Head.{digest_in}
-use Rattle.log_head.specs.Steps.{len_after, IsLen, AreListedBy, listed_some}
+use Rattle.log_head.specs.Steps.{len_after, IsLen, AreListedBy}
 use Rattle.log_head.proofs.Digests.{IsPushed, pushed_victim, pushed_other}
 
 -- ---- lengths
@@ -63,115 +63,134 @@ pub listed_fits : (b : Bool) (count : ℕ) (bytes : List ℕ) → (b ≡ true �
 listed_fits false count bytes are id n is = absurd (cc)
 listed_fits true count bytes are id n is = len_in_fits id n (listed_at count 5 bytes) (are refl).each is
 
--- if some segment comes in, what is said of it is true
-of_survivor : {R : Type 0} (o : Option ℕ) (id : ℕ) → IfSome o (λ s. R) → has (option_to_list o) id ≡ true → R
-of_survivor None id is there = absurd (cc)
-of_survivor (Some s) id is there = is
+-- the length for a segment whose head or digest has one
+pub own_fits : (id head whole : ℕ) (listed : Option ℕ) → IsLen whole → ((n : ℕ) → listed ≡ Some n → IsLen n)
+    → IsLen (if id == head then whole else unwrap_or listed whole)
+own_fits id head whole listed own is = any (id == head) listed is where
+  any : (b : Bool) (o : Option ℕ) → ((n : ℕ) → o ≡ Some n → IsLen n) → IsLen (cond b whole (unwrap_or o whole))
+  any true o is = own
+  any false None is = own
+  any false (Some n) is = is n refl
 
-any_len : (b c : Bool) (len whole : ℕ) (listed : Option ℕ) → (b ≡ true → IsLen len) → IsLen whole
-    → ((n : ℕ) → listed ≡ Some n → IsLen n) → IsLen (cond b len (cond c whole (unwrap_or listed whole)))
-any_len true c len whole listed survives own is = survives refl
-any_len false true len whole listed survives own is = own
-any_len false false len whole None survives own is = own
-any_len false false len whole (Some n) survives own is = is n refl
+-- ---- survivors
 
--- the survivor's length is what is said of it
-survivor_is : (head : ℕ) (image : List Entry) (len : ℕ) (o : Option ℕ) → IfSome o (λ s. IsLen len)
-    → IfSome o (λ s. IsLen len × (len ≡ len_after head image (option_to_list o) len s))
-survivor_is head image len None is = tt
-survivor_is head image len (Some s) is = (
-  is,
-  (let test : (s == s) ≡ true = grind (arith, nat_tests) in rw test refl),
-)
+-- what is at each place is true of each
+all_fits : (P : Listed → Type 0) (ss : List Listed) → ((i : ℕ) (s : Listed) → slice_get ss i ≡ Some s → P s)
+    → AllByRecursion P ss
+all_fits P [] each = tt
+all_fits P (s ∷ ss) each = (each 0 s refl, all_fits P ss (λ i x is. each (suc i) x is))
 
-ids_some : (o : Option ℕ) (len : ℕ) (ss : List Listed) → ids_in (ss ++ listed_some o len)
-    ≡ ids_in ss ++ option_to_list o
-ids_some None len ss = ap ids_in (append-nil ss) ∙ sym (append-nil (ids_in ss))
-ids_some (Some s) len ss = ids_push ss (record { id = s; len = len })
+-- each is listed with the length that it comes with
+survivors_are : (head : ℕ) (image : List Entry) (survivors : List Listed) → AreLengths survivors
+    → AreListedBy (len_after head image survivors) survivors
+survivors_are head image survivors are =
+    all_fits (λ (s : Listed). IsListed s × (s.len ≡ len_after head image survivors s.id)) survivors
+    (λ i s is. (
+      are.each i s is,
+      (let told = len_in-place survivors i s are.rise is in rw told refl),
+    ))
+
+-- an id that isn't among them has no length of theirs
+len_in_none : (id : ℕ) (ss : List Listed) → (IsAmong id (ids_in ss) → ⊥) → len_in id ss ≡ None
+len_in_none id [] not = refl
+len_in_none id (s ∷ ss) not =
+    let other = ne_eqb s.id id (λ same. not (inl same)) in
+    rw other (len_in_none id ss (λ m. not (inr m)))
+
+-- an id of the digest that is no victim's is left
+pub is_left : (victims ids : List ℕ) (place id : ℕ) → slice_get ids place ≡ Some id → has victims id ≡ false
+    → IsAmong id (without victims ids)
+is_left victims [] place id at other = absurd (cc)
+is_left victims (z ∷ ids) zero id at other =
+    let same = same_Some z id at in
+    let test : has victims z ≡ false = ap (has victims) same ∙ other in rw test (inl same)
+is_left victims (z ∷ ids) (suc place) id at other = go (has victims z) (is_left victims ids place id at other) where
+  go : (b : Bool) → IsAmong id (without victims ids)
+      → IsAmong id (cond b (without victims ids) (z ∷ without victims ids))
+  go true later = later
+  go false later = inr later
 
 -- ---- what was listed, what waits and what is to come
 
 -- Up to this place the segments were listed, each with its length.
-pub record IsListing (head : ℕ) (image : List Entry) (victims ids : List ℕ) (survivor : Option ℕ) (len : ℕ)
-    (segments : List Listed) (waits : Option ℕ) (place room : ℕ) : Type 0 where
-  pub pushed : IsPushed victims ids survivor (ids_in segments) waits place room
-  pub listed : AreListedBy (len_after head image (option_to_list survivor) len) segments
-  pub waiting : (waits ≡ None) ⊎ (waits ≡ survivor)
+pub record IsListing (head : ℕ) (image : List Entry) (victims ids : List ℕ) (survivors segments waits : List Listed)
+    (place room : ℕ) : Type 0 where
+  pub pushed : IsPushed victims ids (ids_in survivors) (ids_in segments) (ids_in waits) place room
+  pub listed : AreListedBy (len_after head image survivors) segments
+  pub waiting : AreListedBy (len_after head image survivors) waits
 
-module _ (head : ℕ) (image : List Entry) (victims ids : List ℕ) (survivor : Option ℕ) (len : ℕ) where
+module _ (head : ℕ) (image : List Entry) (victims ids : List ℕ) (survivors : List Listed) where
   abbrev f : ℕ → ℕ
-  f = len_after head image (option_to_list survivor) len
+  f = len_after head image survivors
 
-  abbrev Listing : List Listed → Option ℕ → ℕ → ℕ → Type 0
-  Listing segments waits place room = IsListing head image victims ids survivor len segments waits place room
+  abbrev Listing : List Listed → List Listed → ℕ → ℕ → Type 0
+  Listing segments waits place room = IsListing head image victims ids survivors segments waits place room
 
-  pub listing_begins : (segments : List Listed) (room : ℕ) → segments ≡ []
-      → length (without victims ids) + option_len survivor + 1 ≤ room → Listing segments survivor 0 room
-  listing_begins segments room none fits = subst (λ (ss : List Listed). Listing ss survivor 0 room) (sym none)
-      (record { pushed = record { all = refl; fits = fits }; listed = tt; waiting = inr refl })
+  pub listing_begins : (segments : List Listed) (room : ℕ) → segments ≡ [] → AreLengths survivors
+      → length (without victims ids) + length survivors + 1 ≤ room → Listing segments survivors 0 room
+  listing_begins segments room none are fits =
+      let size = length-ids_in survivors in
+      subst (λ (ss : List Listed). Listing ss survivors 0 room) (sym none) (record {
+        pushed = record { all = refl; fits = omega (arith, size, fits); rise = are.rise };
+        listed = tt;
+        waiting = survivors_are head image survivors are;
+      })
 
-  module _ (segments : List Listed) (waits : Option ℕ) (place room : ℕ) (is : Listing segments waits place room) where
+  module _ (segments waits : List Listed) (place room : ℕ) (is : Listing segments waits place room) where
     -- a victim is passed over
     pub listing_victim : (id : ℕ) → slice_get ids place ≡ Some id → has victims id ≡ true
         → Listing segments waits (place + 1) room
     listing_victim id at victim = record {
-      pushed = pushed_victim victims ids survivor (ids_in segments) waits place room is.pushed id at victim;
+      pushed = pushed_victim victims ids (ids_in survivors) (ids_in segments) (ids_in waits) place room is.pushed id at
+          victim;
       listed = is.listed;
       waiting = is.waiting;
     }
 
-    -- what waits has the survivor's length
-    pub waiting_len : IfSome survivor (λ s. IsLen len) → IfSome waits (λ s. IsLen len × (len ≡ f s))
-    waiting_len fits = elim is.waiting as (λ _. IfSome waits (λ s. IsLen len × (len ≡ f s))) [
-      | inl none ↦ subst (λ (o : Option ℕ). IfSome o (λ s. IsLen len × (len ≡ f s))) (sym none) tt
-      | inr same ↦ subst (λ (o : Option ℕ). IfSome o (λ s. IsLen len × (len ≡ f s))) (sym same)
-          (survivor_is head image len survivor fits)
-    ]
-
-    pub listing_other : (id n : ℕ) → slice_get ids place ≡ Some id → has victims id ≡ false
-        → (mid zs : List Listed) (o : Option ℕ)
-        → ((rest : List ℕ) → ids_in mid ++ id ∷ all_inserted (option_to_list o) rest
-        ≡ ids_in segments ++ all_inserted (option_to_list waits) (id ∷ rest))
-        → (o ≡ None) ⊎ (o ≡ waits) → AreListedBy f mid → zs ≡ mid ++ record { id = id; len = n } ∷ []
-        → id < 2 ^ 64 → IsLen n → n ≡ f id → (after : ℕ) → after ≡ room → Listing zs o (place + 1) after
-    listing_other id n at other mid zs o step kept before push small fits same after room_same =
+    pub listing_other : (id n : ℕ) → slice_get ids place ≡ Some id → has victims id ≡ false → (mid zs still : List Listed)
+        → ((rest : List ℕ) → ids_in mid ++ id ∷ all_inserted (ids_in still) rest
+        ≡ ids_in segments ++ all_inserted (ids_in waits) (id ∷ rest))
+        → IsStrictlyIncreasing (ids_in still) → AreListedBy f mid × AreListedBy f still
+        → zs ≡ mid ++ record { id = id; len = n } ∷ [] → id < 2 ^ 64 → IsLen n → n ≡ f id → (after : ℕ)
+        → after ≡ room → Listing zs still (place + 1) after
+    listing_other id n at other mid zs still step rise both push small fits same after room_same =
         let x : Listed = record { id = id; len = n } in
-        subst (λ (k : ℕ). Listing zs o (place + 1) k) (sym room_same)
-        (subst (λ (ss : List Listed). Listing ss o (place + 1) room) (sym push) (record {
-          pushed = subst (λ (l : List ℕ). IsPushed victims ids survivor l o (place + 1) room) (sym (ids_push mid x))
-              (pushed_other victims ids survivor (ids_in segments) waits place room is.pushed id at other (ids_in mid) o
-              step);
-          listed = all_push (λ (s : Listed). IsListed s × (s.len ≡ f s.id)) mid x before
+        subst (λ (k : ℕ). Listing zs still (place + 1) k) (sym room_same)
+        (subst (λ (ss : List Listed). Listing ss still (place + 1) room) (sym push) (record {
+          pushed = subst (λ (l : List ℕ).
+              IsPushed victims ids (ids_in survivors) l (ids_in still) (place + 1) room) (sym (ids_push mid x))
+              (pushed_other victims ids (ids_in survivors) (ids_in segments) (ids_in waits) place room is.pushed id at
+              other (ids_in mid) (ids_in still) step rise);
+          listed = all_push (λ (s : Listed). IsListed s × (s.len ≡ f s.id)) mid x both.0
               (record { id = small; least = fits.least; greatest = fits.greatest }, same);
-          waiting = elim kept as (λ _. (o ≡ None) ⊎ (o ≡ survivor)) [
-            | inl none ↦ inl none
-            | inr as_before ↦ elim is.waiting as (λ _. (o ≡ None) ⊎ (o ≡ survivor)) [
-              | inl none ↦ inl (as_before ∙ none)
-              | inr same ↦ inr (as_before ∙ same)
-            ]
-          ];
+          waiting = both.1;
         }))
 
--- what is listed for a segment, by its parts
-pub len_is : (head : ℕ) (image : List Entry) (survivors : List ℕ) (len id whole : ℕ) (d : Digest) (listed : Option ℕ)
-    → digest_in image ≡ d → whole ≡ length (text_of image) → listed ≡ listed_len id d
-    → (if has survivors id then len else if id == head then whole else unwrap_or listed whole)
-    ≡ len_after head image survivors len id
-len_is head image survivors len id whole d listed bears size is =
+-- what is listed for a segment that is no survivor, by its parts
+pub len_is : (head : ℕ) (image : List Entry) (survivors : List Listed) (id whole : ℕ) (d : Digest) (listed : Option ℕ)
+    → (IsAmong id (ids_in survivors) → ⊥) → digest_in image ≡ d → whole ≡ length (text_of image)
+    → listed ≡ listed_len id d
+    → (if id == head then whole else unwrap_or listed whole) ≡ len_after head image survivors id
+len_is head image survivors id whole d listed outside bears size is =
     let told = is ∙ ap (listed_len id) (sym bears) in
-    (λ i. if has survivors id then len else if id == head then size i else unwrap_or (told i) (size i))
-
-pub len_fits : (survivor : Option ℕ) (len head id whole : ℕ) (listed : Option ℕ)
-    → IfSome survivor (λ s. IsLen len) → IsLen whole → ((n : ℕ) → listed ≡ Some n → IsLen n)
-    → IsLen (if has (option_to_list survivor) id then len else if id == head then whole else unwrap_or listed whole)
-len_fits survivor len head id whole listed fits own is =
-    any_len (has (option_to_list survivor) id) (id == head) len whole listed (of_survivor survivor id fits) own is
+    (λ i. if id == head then size i else unwrap_or (told i) (size i))
+    ∙ ap (λ (o : Option ℕ). unwrap_or o (len_next (digest_in image) head (length (text_of image)) id))
+    (sym (len_in_none id survivors outside))
 
 -- ---- the whole digest
 
-pub ids_all : (o : Option ℕ) (len : ℕ) (ss zs : List Listed) → zs ≡ ss ++ listed_some o len
-    → ids_in zs ≡ ids_in ss ++ option_to_list o
-ids_all o len ss zs is = ap ids_in is ∙ ids_some o len ss
+pub ids_all : (ss more zs : List Listed) → zs ≡ ss ++ more → ids_in zs ≡ ids_in ss ++ ids_in more
+ids_all ss more zs is = ap ids_in is ∙ ids_both ss where
+  ids_both : (xs : List Listed) → ids_in (xs ++ more) ≡ ids_in xs ++ ids_in more
+  ids_both [] = refl
+  ids_both (x ∷ xs) = ap (λ (ids : List ℕ). x.id ∷ ids) (ids_both xs)
+
+pub listed_all : (f : ℕ → ℕ) (ss more zs : List Listed) → zs ≡ ss ++ more → AreListedBy f ss → AreListedBy f more
+    → AreListedBy f zs
+listed_all f ss more zs is here rest = subst (AreListedBy f) (sym is) (both ss here) where
+  both : (xs : List Listed) → AreListedBy f xs → AreListedBy f (xs ++ more)
+  both [] all = rest
+  both (x ∷ xs) all = (all.0, both xs all.1)
 
 each_fits : (P : Listed → Type 0) (ss : List Listed) → AllByRecursion P ss → (i : ℕ) (s : Listed)
     → slice_get ss i ≡ Some s → P s

@@ -3,7 +3,9 @@ use Rattle.std.proofs.Common.{◌≡◌, ℕ, suc, ◌<◌, Bool, true, false, L
 use Rattle.std.specs.Prelude.{Option, Some, None, IfSome, map, ◌==◌, if◌then◌else◌}
 use Rattle.std.proofs.lemmas.Bool.Decides.{nat_tests}
 use Rattle.std.proofs.lemmas.List.{append-nil}
+use Rattle.entry.specs.declared.digest.Listed.{Listed}
 use Rattle.entry.specs.declared.entry.Entry.{Entry}
+use Rattle.entry.specs.Limits.{ids_in}
 use Rattle.entry.specs.Text.{Opening, text_of, opening_of, lists_lengths, IsSegment}
 use Rattle.log_model.specs.Data.{Start, Head, Opened, Closed, ids_of, start_entries}
 use Rattle.log_model.specs.Ids.{all_inserted, without}
@@ -36,15 +38,15 @@ lens_any true len [] = refl
 lens_any true len (s ∷ ids) = ap suc (lens_any true len ids)
 lens_any false len ids = tt
 
-pub lens_after_has : (head : ℕ) (image : List Entry) (survivors : List ℕ) (len : ℕ) (others : List ℕ)
-    → IfSome (lens_after head image survivors len others) (λ (ns : List ℕ). length ns ≡ length others)
-lens_after_has head image survivors len others =
-    lens_any (lists_lengths (digest_in image)) (len_after head image survivors len) others
+pub lens_after_has : (head : ℕ) (image : List Entry) (survivors : List Listed) (others : List ℕ)
+    → IfSome (lens_after head image survivors others) (λ (ns : List ℕ). length ns ≡ length others)
+lens_after_has head image survivors others =
+    lens_any (lists_lengths (digest_in image)) (len_after head image survivors) others
 
-pub start_after_has : (h : HeadValue) (victims survivors : List ℕ) (len id safe : ℕ)
-    → HasLens (start_after h victims survivors len id safe)
-start_after_has h victims survivors len id safe =
-    lens_after_has h.id h.image survivors len (all_inserted survivors (without victims (digest_of h.image)))
+pub start_after_has : (h : HeadValue) (victims : List ℕ) (survivors : List Listed) (id safe : ℕ)
+    → HasLens (start_after h victims survivors id safe)
+start_after_has h victims survivors id safe =
+    lens_after_has h.id h.image survivors (all_inserted (ids_in survivors) (without victims (digest_of h.image)))
 
 -- an image of the log bears the digest of its head
 pub digest_is : (master : ℕ) (h : HeadValue) (l : Head) → IsImageOf master h l → digest_of h.image ≡ ids_of l.start

@@ -1,9 +1,10 @@
 -- What is true of heads and the log, step by step.
-use Rattle.std.specs.Prelude.{◌≡◌, ℕ, suc, ◌+◌, ◌-◌, ◌<◌, ◌≤◌, List, [], ◌∷◌, ◌++◌, length, take, drop, IfSome}
+use Rattle.std.specs.Prelude.{◌≡◌, ℕ, suc, ◌+◌, ◌-◌, ◌<◌, ◌≤◌, List, [], ◌∷◌, ◌++◌, length, take, drop}
 use Rattle.std.specs.List.Sorted.{IsStrictlyIncreasing}
-use Rattle.std.specs.Option.{option_len}
 use Rattle.entry.specs.Bag.{IsAmong}
+use Rattle.entry.specs.declared.digest.Listed.{Listed}
 use Rattle.entry.specs.declared.entry.Entry.{Entry}
+use Rattle.entry.specs.Limits.{ids_in}
 use Rattle.entry.specs.Text.{text_of, IsSegment}
 use Rattle.log_model.specs.Data.{Start, Head, Opened, entries_of, head_entries}
 use Rattle.log_model.specs.Steps.{units_between, one_opened, new_head}
@@ -65,20 +66,24 @@ RollBegins = (master : ℕ) (h : HeadValue) (n : Start) → HasLens n → 0 < h.
 
 -- With no victims and no survivors the other ids of the new head's digest are those of the digest in force.
 abbrev pub OrdinaryKeeps : Type 0
-OrdinaryKeeps = (h : HeadValue) (len id safe : ℕ)
-    → (start_after h [] [] len id safe).others ≡ digest_of h.image
+OrdinaryKeeps = (h : HeadValue) (id safe : ℕ) → (start_after h [] [] id safe).others ≡ digest_of h.image
 
--- The ids of the new head's digest rise, if those of the digest in force and then the new id do, and the survivor is
--- another id below the new one.
+-- Survivors whose ids rise, and are other ids than those of the digest in force, and below the new one.
+pub record AreOthers (image : List Entry) (survivors : List Listed) (id : ℕ) : Type 0 where
+  pub rise : IsStrictlyIncreasing (ids_in survivors)
+  pub outside : (s : ℕ) → IsAmong s (ids_in survivors) → IsAmong s (digest_of image) → ⊥
+  pub below : (s : ℕ) → IsAmong s (ids_in survivors) → s < id
+
+-- The ids of the new head's digest rise, if those of the digest in force and then the new id do, and the survivors are
+-- others.
 abbrev pub DigestRises : Type 0
 DigestRises = (image : List Entry) (l : Leaving) (id : ℕ) → IsStrictlyIncreasing (digest_of image ++ id ∷ [])
-    → IfSome l.survivor (λ s. (IsAmong s (digest_of image) → ⊥) × (s < id))
-    → IsStrictlyIncreasing (others_after image l ++ id ∷ [])
+    → AreOthers image l.survivors.now id → IsStrictlyIncreasing (others_after image l ++ id ∷ [])
 
--- Besides the survivor they are at most as many as before.
+-- Besides the survivors they are at most as many as before.
 abbrev pub DigestIsFew : Type 0
 DigestIsFew = (image : List Entry) (l : Leaving)
-    → length (others_after image l) ≤ length (digest_of image) + option_len l.survivor
+    → length (others_after image l) ≤ length (digest_of image) + length l.survivors.now
 
 -- If one more replica of the new head is opened, the phase becomes what the log says.
 abbrev pub RollOpens : Type 0

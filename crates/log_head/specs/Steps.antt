@@ -1,17 +1,16 @@
 -- What a head becomes.
 use Rattle.std.specs.Prelude.{◌≡◌, ◌≤◌, ℕ, suc, ◌==◌, List, [], ◌∷◌, ◌++◌, length, Option, Some, None, slice_set}
-use Rattle.std.specs.Prelude.{if◌then◌else◌}
+use Rattle.std.specs.Prelude.{unwrap_or, if◌then◌else◌}
 use Rattle.std.specs.List.{AllByRecursion}
-use Rattle.std.specs.Option.{option_to_list}
 use Rattle.entry.specs.declared.digest.Listed.{Listed}
 use Rattle.entry.specs.declared.entry.Entry.{Entry}
-use Rattle.entry.specs.Limits.{IsListed}
-use Rattle.entry.specs.Text.{text_of}
+use Rattle.entry.specs.Limits.{ids_in, IsListed}
+use Rattle.entry.specs.Text.{text_of, len_in}
 use Rattle.log_head.specs.declared.head.Roll.{Roll}
 use Rattle.log_head.specs.declared.rolling.Leaving.{Leaving}
 use Rattle.log_head.specs.Head.{HeadValue, digest_in, digest_of}
 use Rattle.log_model.specs.Data.{Start, len_next, lens_next, start_entries}
-use Rattle.log_model.specs.Ids.{has, all_inserted, without}
+use Rattle.log_model.specs.Ids.{all_inserted, without}
 use Rattle.log_model.specs.Steps.{no_lens, no_units}
 
 -- what the first head of a master begins with, in this format: its digest lists itself alone
@@ -51,26 +50,26 @@ settled h = record h { base = length (text_of h.image); units = []; taken = no_u
 
 -- ---- a roll
 
--- the length that the next digest lists for a segment, after the head of this id with this image; survivors have that
--- length
-abbrev pub len_after : ℕ → List Entry → List ℕ → ℕ → ℕ → ℕ
-len_after head image survivors len s =
-    if has survivors s then len else len_next (digest_in image) head (length (text_of image)) s
+-- the length that the next digest lists for a segment, after the head of this id with this image; these survivors have
+-- the lengths that they come with
+abbrev pub len_after : ℕ → List Entry → List Listed → ℕ → ℕ
+len_after head image survivors s =
+    unwrap_or (len_in s survivors) (len_next (digest_in image) head (length (text_of image)) s)
 
 -- the lengths that it lists for these
-abbrev pub lens_after : ℕ → List Entry → List ℕ → ℕ → List ℕ → Option (List ℕ)
-lens_after head image survivors len others = lens_next (digest_in image) (len_after head image survivors len) others
+abbrev pub lens_after : ℕ → List Entry → List Listed → List ℕ → Option (List ℕ)
+lens_after head image survivors others = lens_next (digest_in image) (len_after head image survivors) others
 
 -- what the next head begins with: its id, the ids of the digest in force less the victims and with the survivors, their
 -- lengths if that digest lists lengths, and the safe version
-abbrev pub start_after : HeadValue → List ℕ → List ℕ → ℕ → ℕ → ℕ → Start
-start_after h victims survivors len id safe =
-    let others = all_inserted survivors (without victims (digest_of h.image)) in
-    record { id = id; others = others; lens = lens_after h.id h.image survivors len others; safe = safe }
+abbrev pub start_after : HeadValue → List ℕ → List Listed → ℕ → ℕ → Start
+start_after h victims survivors id safe =
+    let others = all_inserted (ids_in survivors) (without victims (digest_of h.image)) in
+    record { id = id; others = others; lens = lens_after h.id h.image survivors others; safe = safe }
 
 -- the other ids of the next head's digest, after the head with this image
 abbrev pub others_after : List Entry → Leaving → List ℕ
-others_after image l = all_inserted (option_to_list l.survivor) (without l.victims.now (digest_of image))
+others_after image l = all_inserted (ids_in l.survivors.now) (without l.victims.now (digest_of image))
 
 -- a segment may have this length
 pub record IsLen (len : ℕ) : Type 0 where
@@ -80,11 +79,6 @@ pub record IsLen (len : ℕ) : Type 0 where
 -- each of these has the length that is said of its id
 abbrev pub AreListedBy : (ℕ → ℕ) → List Listed → Type 0
 AreListedBy len segments = AllByRecursion (λ (s : Listed). IsListed s × (s.len ≡ len s.id)) segments
-
--- the segment of this length, if there is one
-abbrev pub listed_some : Option ℕ → ℕ → List Listed
-listed_some None len = []
-listed_some (Some id) len = record { id = id; len = len } ∷ []
 
 -- a roll to this head, with no replica opened or closed yet
 abbrev pub fresh_roll : ℕ → Start → Roll

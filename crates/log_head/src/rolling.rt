@@ -1,12 +1,12 @@
 //! What a head pushes next, and how it rolls to the next head.
 
 ghost use Rattle.std.specs.Prelude.{◌≡◌, ◌+◌, ◌<◌, ◌≤◌, ◌++◌, ◌∷◌, [], ℕ, List, None, Some, true, length, IfOk, IfSome};
-ghost use Rattle.std.specs.Prelude.{IsSome, OnOk, OnErr, is_some, vec_len, vec_capacity, ◌⊎◌, ◌==◌, if◌then◌else◌};
+ghost use Rattle.std.specs.Prelude.{IsSome, OnOk, OnErr, is_some, vec_len, vec_capacity, ◌==◌, if◌then◌else◌};
 ghost use Rattle.std.specs.Prelude.{unwrap_or};
-ghost use Rattle.entry.specs.Limits.{ids_in};
+ghost use Rattle.entry.specs.Bag.{IsAmong};
+ghost use Rattle.entry.specs.Limits.{ids_in, AreLengths};
 ghost use Rattle.entry.specs.Text.{text_of, lists_lengths, IsSegment};
 ghost use Rattle.std.specs.List.Sorted.{IsStrictlyIncreasing};
-ghost use Rattle.std.specs.Option.{option_len, option_to_list};
 ghost use Rattle.entry.specs.View.{shown_ids};
 ghost use Rattle.log_model.specs.Data.{digest_with, start_entries};
 ghost use Rattle.log_model.specs.Ids.{has, all_inserted, without};
@@ -14,7 +14,7 @@ ghost use Rattle.replica.specs.Op.{shown_op};
 ghost use Rattle.log_head.specs.Head.{digest_in, digest_of, is_open, is_up_to, lacks_to, record_at, IsHeadValue};
 ghost use Rattle.log_head.specs.Next.{IsNextPush, op_of};
 ghost use Rattle.log_head.specs.Steps.{start_after, others_after, with_roll, with_new_replica, with_closed_replica};
-ghost use Rattle.log_head.specs.Steps.{old_image, len_after, lens_after, IsLen, AreListedBy, listed_some};
+ghost use Rattle.log_head.specs.Steps.{old_image, len_after, lens_after, AreListedBy};
 
 use crate::head::{Head, Roll};
 use crate::next::Next;
@@ -29,10 +29,8 @@ use std::mem::replace;
 pub struct Leaving<'a> {
     /// The ids that it leaves out. Each id is looked for among all of them.
     pub victims: &'a [u64],
-    /// The id that it takes in, at its place.
-    pub survivor: Option<u64>,
-    /// How many bytes that segment has.
-    pub survivor_len: u64,
+    /// The segments that it takes in, each at its place. Their ids rise.
+    pub survivors: &'a [Listed],
 }
 
 /// The memory of the two images of a roll.
@@ -132,16 +130,15 @@ impl Head {
     {
         let leaving = Leaving {
             victims: &[],
-            survivor: None,
-            survivor_len: 0,
+            survivors: &[],
         };
         next_ids(alloc, &self.image, leaving)
     }
 
     /// Begins a roll to the head with this id. Its digest lists the ids of the digest in force, less the victims and
-    /// with the survivor, and then the id. If the digest in force lists lengths, so does it: this head's is that of its
-    /// image, and the new head's is that of its opening. An ordinary roll has no victims and no survivor. A refusal
-    /// changes nothing.
+    /// with the survivors, and then the id. If the digest in force lists lengths, so does it: this head's is that of
+    /// its image, and the new head's is that of its opening. An ordinary roll has no victims and no survivors. A
+    /// refusal changes nothing.
     pub fn begin_roll(
         &mut self,
         alloc: Global,
@@ -155,10 +152,9 @@ impl Head {
         requires some { 0 < self.old.replicas }
         requires rise { IsStrictlyIncreasing (others_after self.old.image leaving ++ id ∷ []) }
         requires count { length (others_after self.old.image leaving) < 262144 }
-        requires len { IfSome leaving.survivor (λ s. IsLen leaving.survivor_len) }
-        ensures begun { let survivors = option_to_list leaving.entry.survivor in
-            let len = leaving.entry.survivor_len in
-            let start = start_after self.old leaving.entry.victims.now survivors len id safe in
+        requires survivors { AreLengths leaving.survivors.now }
+        ensures begun { let survivors = leaving.entry.survivors.now in
+            let start = start_after self.old leaving.entry.victims.now survivors id safe in
             OnOk result (self.new ≡ with_roll self.old master start) }
         ensures valid { OnOk result (IsHeadValue self.new) }
         ensures err { OnErr result (self.new ≡ self.old) }
@@ -219,17 +215,18 @@ impl Head {
 
 /// The ids of the next head's digest but for its own, in a vector that has room for one more.
 fn next_ids(alloc: Global, image: &Segment, leaving: Leaving<'_>) -> Result<Vec<u64>, NoMemory>
+    requires rise { IsStrictlyIncreasing (ids_in leaving.survivors.now) }
     ensures ids { IfOk result (λ ids. ids.items ≡ others_after image.now leaving.entry) }
     ensures room { IfOk result (λ ids. vec_len ids < vec_capacity ids) }
 {
-    let mut waits = leaving.survivor;
+    let mut waits = leaving.survivors;
     let Some(digest) = image.view().digest() else {
-        let mut ids = Vec::with_capacity(alloc, 2)?;
-        push_some(&mut ids, waits);
+        let mut ids = Vec::with_capacity(alloc, waits.len() + 1)?;
+        push_all(&mut ids, waits);
         return Ok(ids);
     };
     let left = count_left(&digest, leaving.victims);
-    let mut ids = Vec::with_capacity(alloc, left + waits.is_some() as usize + 1)?;
+    let mut ids = Vec::with_capacity(alloc, left + waits.len() + 1)?;
     let count = digest.count();
     for place in 0..count {
         let id = digest.id(place);
@@ -239,7 +236,7 @@ fn next_ids(alloc: Global, image: &Segment, leaving: Leaving<'_>) -> Result<Vec<
         waits = push_before(&mut ids, waits, id);
         ids.push_reserved(id);
     }
-    push_some(&mut ids, waits);
+    push_all(&mut ids, waits);
     Ok(ids)
 }
 
@@ -264,30 +261,32 @@ fn is_victim(victims: &[u64], id: u64) -> bool
     victims.contains(&id)
 }
 
-/// Pushes the id that waits, if it is less than this one. What waits from then on is the result.
-fn push_before(ids: &mut Vec<u64>, waits: Option<u64>, id: u64) -> Option<u64>
-    requires { vec_len ids.old + option_len waits ≤ vec_capacity ids.old }
-    ensures items { (rest : List ℕ) → ids.new.items ++ id ∷ all_inserted (option_to_list result) rest
-        ≡ ids.old.items ++ all_inserted (option_to_list waits) (id ∷ rest) }
+/// Pushes the ids that wait up to this one. Those that wait from then on are the result.
+fn push_before<'a>(ids: &mut Vec<u64>, waits: &'a [Listed], id: u64) -> &'a [Listed]
+    requires room { vec_len ids.old + length waits.now ≤ vec_capacity ids.old }
+    requires rise { IsStrictlyIncreasing (ids_in waits.now) }
+    ensures items { (rest : List ℕ) → ids.new.items ++ id ∷ all_inserted (ids_in result.now) rest
+        ≡ ids.old.items ++ all_inserted (ids_in waits.now) (id ∷ rest) }
+    ensures rise { IsStrictlyIncreasing (ids_in result.now) }
     ensures capacity { vec_capacity ids.new ≡ vec_capacity ids.old }
 {
     match waits {
-        Some(other) if other < id => {
-            ids.push_reserved(other);
-            None
+        [first, rest @ ..] if first.id < id => {
+            ids.push_reserved(first.id);
+            push_before(ids, rest, id)
         }
         _ => waits,
     }
 }
 
-/// Pushes an id, if there is one.
-fn push_some(ids: &mut Vec<u64>, id: Option<u64>)
-    requires { vec_len ids.old + option_len id ≤ vec_capacity ids.old }
-    ensures items { ids.new.items ≡ ids.old.items ++ option_to_list id }
+/// Pushes the ids of these.
+fn push_all(ids: &mut Vec<u64>, segments: &[Listed])
+    requires { vec_len ids.old + length segments.now ≤ vec_capacity ids.old }
+    ensures items { ids.new.items ≡ ids.old.items ++ ids_in segments.now }
     ensures capacity { vec_capacity ids.new ≡ vec_capacity ids.old }
 {
-    if let Some(id) = id {
-        ids.push_reserved(id);
+    for segment in segments {
+        ids.push_reserved(segment.id);
     }
 }
 
@@ -305,9 +304,9 @@ fn next_image(
     requires count { length (others_after image.now leaving) < 262144 }
     requires segment { IsSegment image.now }
     requires limit { length (text_of image.now) ≤ 8388608 }
-    requires len { IfSome leaving.survivor (λ s. IsLen leaving.survivor_len) }
+    requires survivors { AreLengths leaving.survivors.now }
     ensures { let others = others_after image.now leaving.entry in
-        let lens = lens_after old image.now (option_to_list leaving.entry.survivor) leaving.entry.survivor_len others in
+        let lens = lens_after old image.now leaving.entry.survivors.now others in
         IfOk result (λ next. next
         ≡ start_entries master (record { id = id; others = others; lens = lens; safe = safe })) }
 {
@@ -327,9 +326,9 @@ fn next_digest(
     requires count { length (others_after image.now leaving) < 262144 }
     requires segment { IsSegment image.now }
     requires limit { length (text_of image.now) ≤ 8388608 }
-    requires len { IfSome leaving.survivor (λ s. IsLen leaving.survivor_len) }
+    requires survivors { AreLengths leaving.survivors.now }
     ensures { let others = others_after image.now leaving.entry in
-        let lens = lens_after old image.now (option_to_list leaving.entry.survivor) leaving.entry.survivor_len others in
+        let lens = lens_after old image.now leaving.entry.survivors.now others in
         IfOk result (λ digest. digest ≡ digest_with others lens id) }
 {
     if lists_lengths(image) {
@@ -361,78 +360,74 @@ fn next_segments(
     leaving: Leaving<'_>,
 ) -> Result<Vec<Listed>, NoMemory>
     requires lists { lists_lengths (digest_in image.now) ≡ true }
+    requires outside { (s : ℕ) → IsAmong s (ids_in leaving.survivors.now)
+        → IsAmong s (without leaving.victims.now (digest_of image.now)) → ⊥ }
     requires segment { IsSegment image.now }
     requires limit { length (text_of image.now) ≤ 8388608 }
-    requires len { IfSome leaving.survivor (λ s. IsLen leaving.survivor_len) }
+    requires survivors { AreLengths leaving.survivors.now }
     ensures ids { IfOk result (λ segments. ids_in segments.items ≡ others_after image.now leaving.entry) }
-    ensures lens { let survivors = option_to_list leaving.entry.survivor in
-        let len = len_after old image.now survivors leaving.entry.survivor_len in
+    ensures lens { let len = len_after old image.now leaving.entry.survivors.now in
         IfOk result (λ segments. AreListedBy len segments.items) }
     ensures room { IfOk result (λ segments. vec_len segments < vec_capacity segments) }
 {
-    let mut waits = leaving.survivor;
+    let mut waits = leaving.survivors;
     let Some(digest) = image.view().digest() else {
         unreachable!();
     };
     let whole = image.bytes_len() as u64;
     let left = count_left(&digest, leaving.victims);
-    let mut segments = Vec::with_capacity(alloc, left + waits.is_some() as usize + 1)?;
+    let mut segments = Vec::with_capacity(alloc, left + waits.len() + 1)?;
     let listed = digest.count();
     for place in 0..listed {
         let segment = digest.id(place);
         if is_victim(leaving.victims, segment) {
             continue;
         }
-        waits = list_before(&mut segments, waits, leaving.survivor_len, segment);
-        let len = len_of(leaving, old, whole, segment, digest.len(place));
+        waits = list_before(&mut segments, waits, segment);
+        let len = len_of(old, whole, segment, digest.len(place));
         segments.push_reserved(Listed { id: segment, len });
     }
-    list_some(&mut segments, waits, leaving.survivor_len);
+    list_all(&mut segments, waits);
     Ok(segments)
 }
 
 /// The length that the next digest lists for a segment that has this one in the digest in force.
-fn len_of(leaving: Leaving<'_>, old: u64, whole: u64, id: u64, listed: Option<u64>) -> u64
-    ensures { result ≡ (if has (option_to_list leaving.entry.survivor) id then leaving.entry.survivor_len
-        else if id == old then whole else unwrap_or listed whole) }
+fn len_of(old: u64, whole: u64, id: u64, listed: Option<u64>) -> u64
+    ensures { result ≡ (if id == old then whole else unwrap_or listed whole) }
 {
-    if leaving.survivor == Some(id) {
-        return leaving.survivor_len;
-    }
     if id == old {
         return whole;
     }
     listed.unwrap_or(whole)
 }
 
-/// Pushes the segment that waits, if its id is less than this one. What waits from then on is the result.
-fn list_before(segments: &mut Vec<Listed>, waits: Option<u64>, len: u64, id: u64) -> Option<u64>
-    requires { vec_len segments.old + option_len waits ≤ vec_capacity segments.old }
-    ensures waits { (result ≡ None) ⊎ (result ≡ waits) }
-    ensures lens { (f : ℕ → ℕ) → IfSome waits (λ s. IsLen len × (len ≡ f s)) → AreListedBy f segments.old.items
-        → AreListedBy f segments.new.items }
-    ensures ids { (rest : List ℕ) → ids_in segments.new.items ++ id ∷ all_inserted (option_to_list result) rest
-        ≡ ids_in segments.old.items ++ all_inserted (option_to_list waits) (id ∷ rest) }
+/// Pushes the segments that wait with ids up to this one. Those that wait from then on are the result.
+fn list_before<'a>(segments: &mut Vec<Listed>, waits: &'a [Listed], id: u64) -> &'a [Listed]
+    requires room { vec_len segments.old + length waits.now ≤ vec_capacity segments.old }
+    requires rise { IsStrictlyIncreasing (ids_in waits.now) }
+    ensures items { (rest : List ℕ) → ids_in segments.new.items ++ id ∷ all_inserted (ids_in result.now) rest
+        ≡ ids_in segments.old.items ++ all_inserted (ids_in waits.now) (id ∷ rest) }
+    ensures lens { (f : ℕ → ℕ) → AreListedBy f waits.now → AreListedBy f segments.old.items
+        → AreListedBy f segments.new.items × AreListedBy f result.now }
+    ensures rise { IsStrictlyIncreasing (ids_in result.now) }
     ensures capacity { vec_capacity segments.new ≡ vec_capacity segments.old }
 {
     match waits {
-        Some(other) if other < id => {
-            segments.push_reserved(Listed { id: other, len });
-            None
+        [first, rest @ ..] if first.id < id => {
+            segments.push_reserved(*first);
+            list_before(segments, rest, id)
         }
         _ => waits,
     }
 }
 
-/// Pushes a segment, if there is one.
-fn list_some(segments: &mut Vec<Listed>, id: Option<u64>, len: u64)
-    requires { vec_len segments.old + option_len id ≤ vec_capacity segments.old }
-    ensures items { segments.new.items ≡ segments.old.items ++ listed_some id len }
-    ensures lens { (f : ℕ → ℕ) → IfSome id (λ s. IsLen len × (len ≡ f s)) → AreListedBy f segments.old.items
-        → AreListedBy f segments.new.items }
+/// Pushes these segments.
+fn list_all(segments: &mut Vec<Listed>, more: &[Listed])
+    requires { vec_len segments.old + length more.now ≤ vec_capacity segments.old }
+    ensures items { segments.new.items ≡ segments.old.items ++ more.now }
     ensures capacity { vec_capacity segments.new ≡ vec_capacity segments.old }
 {
-    if let Some(id) = id {
-        segments.push_reserved(Listed { id, len });
+    for segment in more {
+        segments.push_reserved(*segment);
     }
 }

@@ -10,7 +10,7 @@ use Rattle.entry.specs.declared.entry.Entry.{Entry}
 use Rattle.entry.specs.Bag.{IsAmong}
 use Rattle.entry.specs.Text.{is_data, data_in, Opening, opening_in, opening_of, listed_ids}
 use Rattle.replica.specs.declared.holding.Holding.{Holding}
-use Rattle.replica.specs.Picture.{Replica, Picture, left_on, shown_by, IsHeld}
+use Rattle.replica.specs.Picture.{Replica, Picture, Shown, left_on, IsHeld}
 use Rattle.replica.specs.Choice.{Choice, IsUsableOf, bag_of}
 use Rattle.versioned_map.specs.Represents.{Represents}
 use Rattle.versioned_map.specs.Versioned.{State}
@@ -62,7 +62,11 @@ everywhere_le d j count is =
     zero_if (nat_lt (length d.head.taken) d.config.replicas) (fewest (length d.head.units) d.head.taken) count
     (fewest_below (length d.head.units) count j d.head.taken is)
 
-module _ (d : LogData) (texts : Texts) (p : Picture) (held : IsLogHeld d texts p) (standing : IsStanding d texts) where
+module _ (d : LogData) (texts : Texts) (shown : Shown) (held : IsLogHeld d texts shown.holds)
+    (standing : IsStanding d texts) where
+  abbrev p : Picture
+  p = shown.holds
+
   abbrev log : IsLogged d texts
   log = held.logged
 
@@ -99,7 +103,7 @@ module _ (d : LogData) (texts : Texts) (p : Picture) (held : IsLogHeld d texts p
               (λ e k m at. here.segment.keys e k (among_data e (texts s) m) at) more.keys;
         }
 
-    module _ (c : Choice) (choice : IsSurvivingChoice d (shown_by p) keep c) where
+    module _ (c : Choice) (choice : IsSurvivingChoice d shown keep c) where
       abbrev chosen : Replica
       chosen = shown_in c.head
 

@@ -1,19 +1,29 @@
 -- The lengths that digests list.
-use Rattle.std.proofs.Common.{◌≡◌, ℕ, ◌≤◌, inl, inr, Bool, true, false, cond, List, [], ◌∷◌, ◌++◌, length, Some, refl}
+use Rattle.std.proofs.Common.{◌≡◌, ℕ, suc, ◌<◌, ◌≤◌, inl, inr, Bool, true, false, cond, List, [], ◌∷◌, ◌++◌, length}
+use Rattle.std.proofs.Common.{Some, refl}
 use Rattle.std.proofs.Common.{sym, ap, subst, ◌∙◌, arith}
 use Rattle.std.specs.Prelude.{Option, None, IfSome, map, unwrap_or, ◌==◌}
 use Rattle.std.proofs.lemmas.Bool.{cases_eq}
 use Rattle.std.proofs.lemmas.Bool.Decides.{nat_tests}
+use Rattle.std.proofs.lemmas.List.{length-append}
+use Rattle.std.specs.List.{AllByRecursion}
 use Rattle.entry.specs.declared.digest.Listed.{Listed}
 use Rattle.entry.specs.declared.digest.Digest.{Digest}
+use Rattle.entry.specs.declared.digest.Digest.TheVariants as digest
+use Rattle.entry.specs.declared.entry.Header.{Header}
+use Rattle.entry.specs.declared.entry.Role.TheVariants as role
 use Rattle.entry.specs.declared.entry.Entry.{Entry}
+use Rattle.entry.specs.declared.entry.Entry.TheVariants as entry
 use Rattle.entry.specs.Bag.{IsAmong}
+use Rattle.entry.specs.Format.{spelling}
 use Rattle.entry.specs.Limits.{ids_in}
-use Rattle.entry.specs.Text.{text_of, listed_ids, len_in, listed_len}
+use Rattle.entry.specs.Text.{text_of, listed_ids, lists_lengths, len_in, listed_len}
 use Rattle.entry.proofs.BagLemmas.{among_push}
+use Rattle.entry.proofs.SpellingLemmas.{length-header, length-lengths, length-safe}
 use Rattle.log_model.specs.Data.{LogConfig, Start, ids_of, listed_with, digest_with, digest_for}
-use Rattle.log_model.specs.Data.{len_next, lens_next}
-use Rattle.log_model.specs.Log.{Texts, with_text, text_lens, lens_in, AreLens}
+use Rattle.log_model.specs.Data.{opening_len, own_listed, start_entries, len_next, lens_next}
+use Rattle.log_model.specs.Laws.{OpeningIsListed}
+use Rattle.log_model.specs.Log.{Texts, with_text, text_lens, lens_in, AreLens, AreBelow}
 use Rattle.log_model.proofs.Texts.{text_other}
 
 -- ---- ids
@@ -75,6 +85,54 @@ len_there texts own s (t ∷ ids) m = elim (cases_eq t s)
     rest : (t ≡ s → ⊥) → IsAmong s (t ∷ ids) → IsAmong s ids
     rest other (inl e) = absurd (omega arith)
     rest other (inr l) = l
+
+-- ---- what a digest lists for its own head
+
+-- the own length is found after those of lower ids
+len_last : (ids ns : List ℕ) (own : Listed) → AllByRecursion (λ (s : ℕ). s < own.id) ids
+    → len_in own.id (listed_with ids ns ++ own ∷ []) ≡ Some own.len
+len_last [] ns own below = let test : (own.id == own.id) ≡ true = grind (arith, nat_tests) in rw test refl
+len_last (s ∷ ids) [] own below =
+    let lt = below.0 in
+    let test : (s == own.id) ≡ false = grind (arith, nat_tests) in rw test (len_last ids [] own below.1)
+len_last (s ∷ ids) (n ∷ ns) own below =
+    let lt = below.0 in
+    let test : (s == own.id) ≡ false = grind (arith, nat_tests) in rw test (len_last ids ns own below.1)
+
+count_with : (ids ns : List ℕ) → length (listed_with ids ns) ≡ length ids
+count_with [] ns = refl
+count_with (s ∷ ids) [] = ap (λ (k : ℕ). suc k) (count_with ids [])
+count_with (s ∷ ids) (n ∷ ns) = ap (λ (k : ℕ). suc k) (count_with ids ns)
+
+-- how long an opening is whose digest lists lengths
+opening_text : (h : Header) (ss : List Listed) (safe : ℕ)
+    → length (text_of (entry.Header h ∷ entry.Digest (digest.Lengths ss) ∷ entry.Safe safe ∷ []))
+    ≡ opening_len (length ss)
+opening_text h ss safe =
+    let rest = entry.Digest (digest.Lengths ss) ∷ entry.Safe safe ∷ [] in
+    let one = length-append (spelling (entry.Header h)) (text_of rest) in
+    let two = length-append (spelling (entry.Digest (digest.Lengths ss))) (text_of (entry.Safe safe ∷ [])) in
+    let three = length-append (spelling (entry.Safe safe)) (text_of []) in
+    omega (arith, one, two, three, length-header h, length-lengths ss, length-safe safe)
+
+opening_with : (master : ℕ) (n : Start) (lens : Option (List ℕ)) → AreBelow n
+    → lists_lengths (digest_with n.others lens n.id) ≡ true
+    → listed_len n.id (digest_with n.others lens n.id)
+    ≡ Some (length (text_of (start_entries master (record n { lens = lens }))))
+opening_with master n None below lists = absurd (cc)
+opening_with master n (Some ns) below lists =
+    let own = own_listed n.others n.id in
+    let count : length (listed_with n.others ns ++ own ∷ []) ≡ suc (length n.others) =
+    simp length-append (omega (arith, count_with n.others ns)) in
+    let whole = opening_text (record { master = master; segment = n.id; role = role.Head })
+    (listed_with n.others ns ++ own ∷ []) n.safe in
+    len_last n.others ns own below
+    ∙ ap (λ (k : ℕ). Some k) (sym (whole ∙ ap opening_len count))
+
+pub opening_is_listed : OpeningIsListed
+opening_is_listed master n below lists = opening_with master n n.lens below lists
+
+-- ---- replicas of listed segments
 
 -- a replica with the whole text of a listed segment is as long as the digest says
 module _ (c : LogConfig) (texts : Texts) (n : Start) (lens : AreLens c texts n) (s : ℕ) (m : IsAmong s n.others)

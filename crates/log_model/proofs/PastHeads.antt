@@ -39,8 +39,8 @@ first_only : (number : ℕ) (u : List Entry) → with_first number u [] ≡ with
 first_only number [] = refl
 first_only number (e ∷ es) = refl
 
-numbered_push : (st : State) (number : ℕ) (cs : List Command) (us : List LogUnit) (segment : ℕ) (c : Command) (n : ℕ)
-    → n ≡ number + length cs → AreNumbered st number cs us
+pub numbered_push : (st : State) (number : ℕ) (cs : List Command) (us : List LogUnit) (segment : ℕ) (c : Command)
+    (n : ℕ) → n ≡ number + length cs → AreNumbered st number cs us
     → AreNumbered st number (cs ++ c ∷ []) (with_unit us n (unit_of (after st cs) segment c))
 numbered_push st number [] us segment c n is are =
     let here : n ≡ number = omega arith in (
@@ -58,7 +58,7 @@ numbered_push st number (b ∷ cs) us segment c n is are =
       numbered_push (after_command st b) (suc number) cs are.1 segment c n (omega arith) are.3,
     )
 
-with_later : (vs us : List LogUnit) (n : ℕ) (u : List Entry) → with_unit (vs ++ us) n u ≡ vs ++ with_unit us n u
+pub with_later : (vs us : List LogUnit) (n : ℕ) (u : List Entry) → with_unit (vs ++ us) n u ≡ vs ++ with_unit us n u
 with_later vs us n [] = refl
 with_later vs us n (e ∷ es) = append_assoc vs us (record { number = n; entries = e ∷ es } ∷ [])
 

@@ -7,7 +7,7 @@ use Rattle.entry.specs.Bag.{IsAmong}
 use Rattle.entry.specs.Meaning.{among}
 use Rattle.entry.specs.Text.{text_of, is_data, data_in, Opening, opening_in, opening_of}
 use Rattle.entry.proofs.BagLemmas.{among_right, among_push}
-use Rattle.replica.specs.Picture.{Replica, Picture, shown_by}
+use Rattle.replica.specs.Picture.{Replica, Picture, Shown}
 use Rattle.replica.specs.Survival.{HoldsHead}
 use Rattle.log_model.specs.Data.{Start, Phase, Ready, Opened, Closed, LogData, IsHome, digest_for}
 use Rattle.log_model.specs.Data.{start_entries}
@@ -186,8 +186,8 @@ module _ (d : LogData) (texts : Texts) (p : Picture) (held : IsLogHeld d texts p
   bears_one b s r some (inr (inl is)) = inr (inl (is.0, r, is.1, is.2))
   bears_one b s r some (inr (inr is)) = inr (inr (is.closed (subst IsSome (older_bears s r is) some)).0)
 
-  pub bearing : (b t : ℕ) → HoldsHead (shown_by p) master b t → Bearing b t
-  bearing b t holds =
+  pub bearing : (least b t : ℕ) → HoldsHead (record { holds = p; least = least }) master b t → Bearing b t
+  bearing least b t holds =
       let given = some_given (p b master t) (λ (r : Replica). IsSome (opening_in r.bytes)) holds in
       bears_one b t given.0 given.2 (mir.each b t given.0 given.1)
 

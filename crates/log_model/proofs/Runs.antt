@@ -32,7 +32,8 @@ pub log_runs_are_sound : LogRunsAreSound
 log_runs_are_sound v w es kept is =
     let then_kept = runs_on es v w kept is in
     record {
-      sound = kept_is_sound w.knows w.picture then_kept;
+      sound = λ least usable.
+          kept_is_sound w.knows (record { holds = w.picture; least = least }) then_kept usable;
       past = then_kept.past;
       durable = kept_is_durable w.knows w.picture then_kept;
       replicated = kept_is_replicated w.knows w.picture then_kept;

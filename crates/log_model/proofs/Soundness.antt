@@ -11,17 +11,17 @@ use Rattle.log_model.proofs.NewestOpened.{newest_on_homes}
 use Rattle.log_model.proofs.Survivors.{surviving_choice}
 
 pub kept_is_sound : KeptIsSound
-kept_is_sound d p kept =
+kept_is_sound d shown kept usable =
     let t = kept.texts in
     let mir = kept.held.mirrored in
     record {
-      texts = λ b s r is. any_text d t p kept.held b s r (mir.each b s r is);
+      texts = λ b s r is. any_text d t shown.holds kept.held b s r (mir.each b s r is);
       digests = λ b c s r q here there.
-          any_bears d t p kept.held b s r (mir.each b s r here)
-          ∙ sym (any_bears d t p kept.held c s q (mir.each c s q there));
-      clean = λ keep c choice. (choice_stands d t p kept.held kept.standing keep c choice).represents.clean;
-      keys = λ keep c choice. (choice_stands d t p kept.held kept.standing keep c choice).keys;
-      prefix = λ keep c choice. let stands = choice_stands d t p kept.held kept.standing keep c choice in (
+          any_bears d t shown.holds kept.held b s r (mir.each b s r here)
+          ∙ sym (any_bears d t shown.holds kept.held c s q (mir.each c s q there));
+      clean = λ keep c choice. (choice_stands d t shown kept.held kept.standing keep c choice).represents.clean;
+      keys = λ keep c choice. (choice_stands d t shown kept.held kept.standing keep c choice).keys;
+      prefix = λ keep c choice. let stands = choice_stands d t shown kept.held kept.standing keep c choice in (
         stands.count,
         record {
           durable = stands.durable;
@@ -31,6 +31,6 @@ kept_is_sound d p kept =
               stands.represents;
         },
       );
-      choice = λ keep survive.
-          surviving_choice d t p kept.held keep (newest_opened d) (newest_on_homes d t p kept.held) survive;
+      choice = λ keep survive. surviving_choice d t shown kept.held usable keep (newest_opened d)
+          (newest_on_homes d t shown.holds kept.held) survive;
     }

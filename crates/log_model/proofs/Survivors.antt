@@ -10,7 +10,7 @@ use Rattle.entry.specs.Bag.{IsAmong}
 use Rattle.entry.specs.Text.{Opening, opening_in, listed_len}
 use Rattle.entry.proofs.BagLemmas.{among_left}
 use Rattle.replica.specs.declared.holding.Holding.{Holding}
-use Rattle.replica.specs.Picture.{Replica, Picture, left_on, shown_by, IsHeld}
+use Rattle.replica.specs.Picture.{Replica, Picture, Shown, left_on, IsHeld}
 use Rattle.replica.specs.Choice.{Choice, IsUsableOf}
 use Rattle.replica.specs.Survival.{HoldsHead, IsHeadLeft, HeadSurvives, SegmentsSurvive, BothSurvive}
 use Rattle.log_model.specs.Data.{Start, LogData, IsHome, digest_for, new_of, opened_of, closed_of}
@@ -64,9 +64,9 @@ left_or_not keep (x ∷ homes) (suc limit) = first (keep x) refl (left_or_not ke
 
 -- ---- heads that are left
 
-holds : (p : Picture) (master b s : ℕ) (r : Replica) (o : Opening) → p b master s ≡ Some r
-    → opening_in r.bytes ≡ Some o → HoldsHead (shown_by p) master b s
-holds p master b s r o is bears =
+holds : (shown : Shown) (master b s : ℕ) (r : Replica) (o : Opening) → shown.holds b master s ≡ Some r
+    → opening_in r.bytes ≡ Some o → HoldsHead shown master b s
+holds shown master b s r o is bears =
     subst (λ (x : Option Replica). IsSomeAnd x (λ (q : Replica). IsSome (opening_in q.bytes))) (sym is)
     (subst IsSome (sym bears) refl)
 
@@ -121,26 +121,28 @@ module _ (p : Picture) (master : ℕ) (n : Start) (keep : ℕ → Bool) where
       }
 
 -- a head that is left, open, and the newest
-record HeadFound (d : LogData) (p : Picture) (keep : ℕ → Bool) : Type 0 where
+record HeadFound (d : LogData) (shown : Shown) (keep : ℕ → Bool) : Type 0 where
   n : Start
   b : ℕ
   r : Replica
   is_kept : keep b ≡ true
-  there : p b d.config.master n.id ≡ Some r
+  there : shown.holds b d.config.master n.id ≡ Some r
+  usable : shown.least ≤ n.id
   is_open : r.is_open ≡ true
   bears : opening_in r.bytes ≡ Some (opening_for n)
-  newest : (t : ℕ) → IsHeadLeft (shown_by p) d.config.master keep t → t ≤ n.id
-  others : (id b : ℕ) → IsAmong id n.others → IsHome d id b → (q : Replica) × (p b d.config.master id ≡ Some q)
+  newest : (t : ℕ) → IsHeadLeft shown d.config.master keep t → t ≤ n.id
+  others : (id b : ℕ) → IsAmong id n.others → IsHome d id b
+      → (q : Replica) × (shown.holds b d.config.master id ≡ Some q)
   below : (id : ℕ) → IsAmong id n.others → id < n.id
   -- each replica of another id is as long as the digest says
-  long : (b id : ℕ) (q : Replica) → IsAmong id n.others → p b d.config.master id ≡ Some q
-      → IsLong p d.config.master n keep id q
+  long : (b id : ℕ) (q : Replica) → IsAmong id n.others → shown.holds b d.config.master id ≡ Some q
+      → IsLong shown.holds d.config.master n keep id q
 
-module _ (d : LogData) (p : Picture) (keep : ℕ → Bool)
-    (segments : SegmentsSurvive (IsHome d) (shown_by p) d.config.master keep)
-    (h : HeadFound d p keep) where
+module _ (d : LogData) (shown : Shown) (keep : ℕ → Bool)
+    (segments : SegmentsSurvive (IsHome d) shown d.config.master keep)
+    (h : HeadFound d shown keep) where
   -- one replica of each other id is left
-  other_left : (id : ℕ) → IsAmong id h.n.others → Found p d.config.master keep id
+  other_left : (id : ℕ) → IsAmong id h.n.others → Found shown.holds d.config.master keep id
   other_left id m =
       let lt = h.below id m in
       let left = segments h.n.id (opening_for h.n) (record {
@@ -154,22 +156,22 @@ module _ (d : LogData) (p : Picture) (keep : ℕ → Bool)
       let there = h.others id left.0 m left.1 in
       record { b = left.0; r = there.0; is_kept = left.2; there = there.1 }
 
-  chosen : Others p d.config.master h.n keep h.n.others
-  chosen = others_found p d.config.master h.n keep h.n.others other_left h.long
+  chosen : Others shown.holds d.config.master h.n keep h.n.others
+  chosen = others_found shown.holds d.config.master h.n keep h.n.others other_left h.long
 
-  choose : (c : Choice) × IsSurvivingChoice d (shown_by p) keep c
+  choose : (c : Choice) × IsSurvivingChoice d shown keep c
   choose = (
     record { opening = opening_for h.n; head = shown_as h.b d.config.master h.n.id h.r; others = chosen.hs },
     record {
-      held = shown_held p keep h.b d.config.master h.n.id h.r h.is_kept h.there;
+      held = shown_held shown.holds keep h.b d.config.master h.n.id h.r h.is_kept h.there;
       of_master = refl;
       is_open = h.is_open;
       opening = h.bears;
-      usable = omega arith;
+      usable = h.usable;
       newest = λ g held head.
-          let there = held_by p keep d.config.master g held head.0 in
+          let there = held_by shown.holds keep d.config.master g held head.0 in
           let opening = some_is (opening_in g.bytes) head.1 in
-          let heads = holds p d.config.master g.backup g.segment (shown_in g) opening.0 there.1 opening.1 in
+          let heads = holds shown d.config.master g.backup g.segment (shown_in g) opening.0 there.1 opening.1 in
           h.newest g.segment (g.backup, there.0, heads);
       others = chosen.each;
       ids = ap (λ (l : List ℕ). l ++ h.n.id ∷ []) chosen.ids_are ∙ sym (ids_listed h.n);
@@ -187,7 +189,12 @@ IsOnHomes d p o =
     ⊎ ((closed_of d.phase ≡ 0) × (((d.config.replicas ≤ length d.head.taken) × (o ≡ Some d.head.start.id))
     ⊎ (HoldOnly p d.config.master d.head.start.id × (o ≡ None))))
 
-module _ (d : LogData) (texts : Texts) (p : Picture) (held : IsLogHeld d texts p) (keep : ℕ → Bool) where
+-- what is shown of a log, whose least head is none after the one in force
+module _ (d : LogData) (texts : Texts) (shown : Shown) (held : IsLogHeld d texts shown.holds)
+    (le : shown.least ≤ d.head.start.id) (keep : ℕ → Bool) where
+  abbrev p : Picture
+  p = shown.holds
+
   abbrev log : IsLogged d texts
   log = held.logged
 
@@ -211,8 +218,8 @@ module _ (d : LogData) (texts : Texts) (p : Picture) (held : IsLogHeld d texts p
   NoNew = (n : Start) → new_of d.phase ≡ Some n → NoneLeft keep (d.config.homes n.id) opened
 
   -- a head that is left is none that is newer
-  no_newer : (n : Start) → new_of d.phase ≡ Some n → (t : ℕ) → IsHeadLeft (shown_by p) master keep t → t ≤ n.id
-  no_newer n is_new t left = elim (bearing d texts p held left.0 t left.2) as (λ _. t ≤ n.id) [
+  no_newer : (n : Start) → new_of d.phase ≡ Some n → (t : ℕ) → IsHeadLeft shown master keep t → t ≤ n.id
+  no_newer n is_new t left = elim (bearing d texts p held shown.least left.0 t left.2) as (λ _. t ≤ n.id) [
     | inl x ↦ (let same = x.1 in let newer = (log.new n is_new).newer in omega arith)
     | inr (inl x) ↦ (
         let same = x.2 in
@@ -221,7 +228,7 @@ module _ (d : LogData) (texts : Texts) (p : Picture) (held : IsLogHeld d texts p
   ]
 
   -- the new head, a replica of which is left
-  new_found : (n : Start) → new_of d.phase ≡ Some n → Left keep (d.config.homes n.id) opened → HeadFound d p keep
+  new_found : (n : Start) → new_of d.phase ≡ Some n → Left keep (d.config.homes n.id) opened → HeadFound d shown keep
   new_found n is_new left =
       let lt = left.below in
       let replica : IsNewReplica d.config d.phase n left.b (new_replica master n) =
@@ -232,6 +239,7 @@ module _ (d : LogData) (texts : Texts) (p : Picture) (held : IsLogHeld d texts p
         r = new_replica master n;
         is_kept = left.is_kept;
         there = mir.new n left.j left.b is_new left.home left.below;
+        usable = (let newer = (log.new n is_new).newer in omega arith);
         is_open = refl;
         bears = new_bears d texts p held n left.b (new_replica master n) replica;
         newest = no_newer n is_new;
@@ -251,7 +259,7 @@ module _ (d : LogData) (texts : Texts) (p : Picture) (held : IsLogHeld d texts p
 
   -- the head in force, open, if no replica of a new one is left
   old_found : NoNew → closed ≡ 0 → (b : ℕ) (r : Replica) → keep b ≡ true → IsHeadReplica d.config d.head closed b r
-      → HeadFound d p keep
+      → HeadFound d shown keep
   old_found no_new shut b r is_kept is =
       let same : IsHeadReplica d.config d.head closed b (head_replica master d.head closed is.j is.count) =
       record { j = is.j; count = is.count; home = is.home; taken = is.taken; same = refl } in
@@ -261,9 +269,10 @@ module _ (d : LogData) (texts : Texts) (p : Picture) (held : IsLogHeld d texts p
         r = head_replica master d.head closed is.j is.count;
         is_kept = is_kept;
         there = mir.head is.j is.count b is.home is.taken;
+        usable = le;
         is_open = (let t : nat_lt is.j closed ≡ false = grind (arith, nat_tests) in rw t refl);
         bears = head_bears d texts p held b (head_replica master d.head closed is.j is.count) same;
-        newest = λ t left. elim (bearing d texts p held left.0 t left.2) as (λ _. t ≤ id) [
+        newest = λ t left. elim (bearing d texts p held shown.least left.0 t left.2) as (λ _. t ≤ id) [
           | inl x ↦ (let one = x.1 in omega arith)
           | inr (inl x) ↦ absurd (no_new x.0 x.3.is_new x.3.j left.0 x.3.home x.3.opened left.1)
           | inr (inr lt) ↦ omega arith
@@ -275,9 +284,9 @@ module _ (d : LogData) (texts : Texts) (p : Picture) (held : IsLogHeld d texts p
       }
 
   -- a head that is left is that in force, if no replica of a new one is left and it isn't older
-  old_left : NoNew → (t : ℕ) → id ≤ t → IsHeadLeft (shown_by p) master keep t
+  old_left : NoNew → (t : ℕ) → id ≤ t → IsHeadLeft shown master keep t
       → (b : ℕ) × (r : Replica) × (keep b ≡ true) × IsHeadReplica d.config d.head closed b r
-  old_left no_new t le left = elim (bearing d texts p held left.0 t left.2)
+  old_left no_new t le left = elim (bearing d texts p held shown.least left.0 t left.2)
       as (λ _. (b : ℕ) × (r : Replica) × (keep b ≡ true) × IsHeadReplica d.config d.head closed b r) [
         | inl x ↦ (left.0, x.0, left.1, x.2)
         | inr (inl x) ↦ absurd (no_new x.0 x.3.is_new x.3.j left.0 x.3.home x.3.opened left.1)
@@ -298,7 +307,7 @@ module _ (d : LogData) (texts : Texts) (p : Picture) (held : IsLogHeld d texts p
 
   -- a new head that all homes hold survives by a replica of it
   new_survives : NoNew → (n : Start) → new_of d.phase ≡ Some n → d.config.replicas ≤ opened
-      → HeadSurvives (IsHome d) (Some n.id) (shown_by p) master keep → ⊥
+      → HeadSurvives (IsHome d) (Some n.id) shown master keep → ⊥
   new_survives no_new n is_new all (inl left) =
       let home = left.1 in
       let size = slice_get_within (d.config.homes n.id) home.0 left.0 home.1 in
@@ -309,13 +318,13 @@ module _ (d : LogData) (texts : Texts) (p : Picture) (held : IsLogHeld d texts p
       let most = no_newer n is_new later.0 later.2 in omega arith
 
   -- a head that is left is that in force, which is open
-  old_by_left : NoNew → closed ≡ 0 → (t : ℕ) → id ≤ t → IsHeadLeft (shown_by p) master keep t → HeadFound d p keep
+  old_by_left : NoNew → closed ≡ 0 → (t : ℕ) → id ≤ t → IsHeadLeft shown master keep t → HeadFound d shown keep
   old_by_left no_new shut t le left =
       let is = old_left no_new t le left in old_found no_new shut is.0 is.1 is.2 is.3
 
   -- the head in force, that all homes hold, survives by a replica of it or of a new one
   old_survives : NoNew → closed ≡ 0 → d.config.replicas ≤ length d.head.taken
-      → HeadSurvives (IsHome d) (Some id) (shown_by p) master keep → HeadFound d p keep
+      → HeadSurvives (IsHome d) (Some id) shown master keep → HeadFound d shown keep
   old_survives no_new shut all (inl left) =
       let home = left.1 in
       let there = home_held d texts p held all left.0 home in
@@ -326,27 +335,27 @@ module _ (d : LogData) (texts : Texts) (p : Picture) (held : IsLogHeld d texts p
 
   -- a first head survives by a replica of it
   first_survives : NoNew → closed ≡ 0 → HoldOnly p master id
-      → HeadSurvives (IsHome d) None (shown_by p) master keep → HeadFound d p keep
+      → HeadSurvives (IsHome d) None shown master keep → HeadFound d shown keep
   first_survives no_new shut only survives =
       let left = survives.2 in
       let given = some_given (p left.0 master survives.0) (λ (r : Replica). IsSome (opening_in r.bytes)) left.2 in
       let same = only left.0 survives.0 given.0 given.1 in old_by_left no_new shut survives.0 (omega arith) left
 
-  module _ (o : Option ℕ) (survives : HeadSurvives (IsHome d) o (shown_by p) master keep) where
+  module _ (o : Option ℕ) (survives : HeadSurvives (IsHome d) o shown master keep) where
     -- the head is that of which all homes hold a replica
-    survives_as : (s : Option ℕ) → o ≡ s → HeadSurvives (IsHome d) s (shown_by p) master keep
+    survives_as : (s : Option ℕ) → o ≡ s → HeadSurvives (IsHome d) s shown master keep
     survives_as s same =
-        subst (λ (x : Option ℕ). HeadSurvives (IsHome d) x (shown_by p) master keep) same survives
+        subst (λ (x : Option ℕ). HeadSurvives (IsHome d) x shown master keep) same survives
 
-    old_found_by : NoNew → IsOnHomes d p o → HeadFound d p keep
+    old_found_by : NoNew → IsOnHomes d p o → HeadFound d shown keep
     old_found_by no_new (inl x) = absurd (new_survives no_new x.0 x.1 x.2 (survives_as (Some x.0.id) x.3))
     old_found_by no_new (inr (shut, inl x)) = old_survives no_new shut x.0 (survives_as (Some id) x.1)
     old_found_by no_new (inr (shut, inr x)) = first_survives no_new shut x.0 (survives_as None x.1)
 
-  pub surviving_choice : (o : Option ℕ) → IsOnHomes d p o → BothSurvive (IsHome d) o (shown_by p) master keep
-      → (c : Choice) × IsSurvivingChoice d (shown_by p) keep c
-  surviving_choice o on survive = choose d p keep survive.segments
-      (elim (new_left_or_not (new_of d.phase) refl) as (λ _. HeadFound d p keep) [
+  pub surviving_choice : (o : Option ℕ) → IsOnHomes d p o → BothSurvive (IsHome d) o shown master keep
+      → (c : Choice) × IsSurvivingChoice d shown keep c
+  surviving_choice o on survive = choose d shown keep survive.segments
+      (elim (new_left_or_not (new_of d.phase) refl) as (λ _. HeadFound d shown keep) [
         | inl x ↦ new_found x.0 x.1 x.2
         | inr no_new ↦ old_found_by o survive.head no_new on
       ])

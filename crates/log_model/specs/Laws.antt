@@ -1,20 +1,22 @@
 -- What holds through every step.
-use Rattle.std.specs.Prelude.{◌≡◌, ℕ, ◌+◌, ◌<◌, ◌≤◌, ◌⊎◌, List, length, Some}
+use Rattle.std.specs.Prelude.{◌≡◌, ℕ, ◌+◌, ◌<◌, ◌≤◌, ◌⊎◌, List, length, true, Some}
 use Rattle.entry.specs.declared.entry.Entry.{Entry}
 use Rattle.entry.specs.Bag.{IsAmong}
 use Rattle.entry.specs.Meaning.{among}
-use Rattle.entry.specs.Text.{text_of, data_in}
-use Rattle.replica.specs.Picture.{Replica, Picture, FleetState, shown_by}
+use Rattle.entry.specs.Text.{text_of, data_in, lists_lengths, listed_len}
+use Rattle.replica.specs.Picture.{Replica, Picture, Shown, FleetState}
+use Rattle.replica.specs.Choice.{IsUsableHead}
 use Rattle.replica.specs.Take.{taken as fleet_taken, Refuses}
 use Rattle.replica.specs.declared.op.TakeFault.TheVariants as take_fault
 use Rattle.versioned_map.specs.declared.command.Record.{Record}
 use Rattle.versioned_map.specs.Represents.{Represents}
 use Rattle.versioned_map.specs.Versioned.{State}
 use Rattle.log_model.specs.Adopt.{IsLoaded, adopted}
-use Rattle.log_model.specs.Data.{LogConfig, Start, Head, LogData, ids_of, head_entries, new_of, state_of, durable_of}
+use Rattle.log_model.specs.Data.{LogConfig, Start, Head, LogData, ids_of, digest_for, start_entries, head_entries}
+use Rattle.log_model.specs.Data.{new_of, state_of, durable_of}
 use Rattle.log_model.specs.Durable.{heads_of, IsDurable, IsReplicated, IsPastOf}
 use Rattle.log_model.specs.Kept.{IsLogHeld, IsPast, IsKept}
-use Rattle.log_model.specs.Log.{Texts, base_of, IsSegmentOf, IsStanding}
+use Rattle.log_model.specs.Log.{Texts, base_of, AreBelow, IsSegmentOf, IsStanding}
 use Rattle.log_model.specs.Ops.{LogOp, op_of, taken}
 use Rattle.log_model.specs.Sound.{IsSound}
 use Rattle.log_model.specs.Spares.{Seals, texts_sealed, Frees}
@@ -24,9 +26,10 @@ use Rattle.log_model.specs.Steps.{texts_taken, extend_act, Extends, IsNext, Goes
 
 -- ---- what is kept
 
--- Backups that hold a log hold a sound picture of it, in every phase of a roll.
+-- Backups that hold a log show a sound picture of it, in every phase of a roll, if the head in force may be used.
 abbrev pub KeptIsSound : Type 0
-KeptIsSound = (d : LogData) (p : Picture) → IsKept d p → IsSound d (shown_by p)
+KeptIsSound = (d : LogData) (shown : Shown) → IsKept d shown.holds → IsUsableHead shown.least d.head.start.id
+    → IsSound d shown
 
 -- The count of the records before the first unit that some replica lacks is the durable count.
 abbrev pub KeptIsDurable : Type 0
@@ -49,6 +52,11 @@ ReplicasAreTexts = (d : LogData) (texts : Texts) (p : Picture) (b s : ℕ) (r : 
 abbrev pub DigestIsWhole : Type 0
 DigestIsWhole = (d : LogData) (texts : Texts) (p : Picture) (s : ℕ) → IsLogHeld d texts p
     → IsAmong s (ids_of d.head.start) → IsSegmentOf d.config s (texts s)
+
+-- A head whose digest lists lengths opens with as many bytes as its digest lists for it.
+abbrev pub OpeningIsListed : Type 0
+OpeningIsListed = (master : ℕ) (n : Start) → AreBelow n → lists_lengths (digest_for n) ≡ true
+    → listed_len n.id (digest_for n) ≡ Some (length (text_of (start_entries master n)))
 
 -- ---- a new master
 
@@ -181,8 +189,8 @@ NextIsNeverWrong = (d e : LogData) (f g : FleetState) (o : LogOp) → IsKept d f
 
 -- If an op was taken and nobody knows it, the picture is sound for what the master knew.
 abbrev pub NextIsSound : Type 0
-NextIsSound = (d e : LogData) (p q : Picture) (o : LogOp) → IsKept d p → IsNext d o e
-    → taken p d.config.master o ≡ Some q → IsSound d (shown_by q)
+NextIsSound = (d e : LogData) (p : Picture) (shown : Shown) (o : LogOp) → IsKept d p → IsNext d o e
+    → taken p d.config.master o ≡ Some shown.holds → IsUsableHead shown.least d.head.start.id → IsSound d shown
 
 -- And what the master knew to be durable is on the backups.
 abbrev pub NextIsReplicated : Type 0

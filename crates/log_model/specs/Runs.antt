@@ -1,6 +1,7 @@
 -- Lists of events of a log.
 use Rattle.std.specs.Prelude.{◌≡◌, ℕ, List, [], ◌∷◌, Some}
-use Rattle.replica.specs.Picture.{Picture, shown_by}
+use Rattle.replica.specs.Choice.{IsUsableHead}
+use Rattle.replica.specs.Picture.{Picture}
 use Rattle.versioned_map.specs.declared.command.Record.{Record}
 use Rattle.log_model.specs.Data.{Head, LogData, durable_of}
 use Rattle.log_model.specs.Durable.{IsDurable, IsReplicated, IsPastOf}
@@ -33,9 +34,11 @@ abbrev pub IsLogRun : LogWorld → List LogEvent → LogWorld → Type 0
 IsLogRun w [] v = v ≡ w
 IsLogRun w (e ∷ es) v = (u : LogWorld) × LogBecomes e w u × IsLogRun u es v
 
--- What holds at a stop: the picture is sound, and what is durable is on the backups, with the heads that went before.
+-- What holds at a stop: the picture is sound with any least head under which the head in force may be used, and what is
+-- durable is on the backups, with the heads that went before.
 pub record IsLogStop (w : LogWorld) : Type 0 where
-  pub sound : IsSound w.knows (shown_by w.picture)
+  pub sound : (least : ℕ) → IsUsableHead least w.knows.head.start.id
+      → IsSound w.knows (record { holds = w.picture; least = least })
   pub past : List Head
   pub durable : IsDurable w.knows past (durable_of w.knows)
   pub replicated : IsReplicated w.knows past w.picture

@@ -11,7 +11,8 @@ use Rattle.versioned_map.specs.declared.command.Record.{Record}
 use Rattle.versioned_map.specs.Command.{command_key}
 use Rattle.versioned_map.specs.Represents.{unit_of, empty_state}
 use Rattle.log_model.specs.Data.{LogConfig, Start, LogUnit, Head, Phase, Ready, Opened, Closed, LogData, IsHomeAt}
-use Rattle.log_model.specs.Data.{IsHome, ids_of, digest_for, len_next, lens_next, start_entries, entries_of, head_entries, new_of, opened_of, state_of}
+use Rattle.log_model.specs.Data.{IsHome, ids_of, digest_for, len_next, lens_next, start_entries, entries_of}
+use Rattle.log_model.specs.Data.{head_entries, new_of, opened_of, state_of}
 use Rattle.log_model.specs.Log.{Texts, with_text, AreOfTablets, IsPlaced, AreBelow, AreLens}
 use Rattle.log_model.specs.Ops.{LogOp}
 

@@ -1,17 +1,19 @@
 -- A pass that begins keeps what holds of a master.
-use Rattle.std.proofs.Common.{◌≡◌, ℕ, ◌+◌, ◌<◌, Bool, true, false, List, [], ◌∷◌, ◌++◌, map, length, drop, refl, sym}
+use Rattle.std.proofs.Common.{◌≡◌, ℕ, ◌+◌, ◌-◌, ◌<◌, ◌≤◌, Bool, true, false, List, [], ◌∷◌, ◌++◌, map, length, drop, refl, sym}
 use Rattle.std.proofs.Common.{ap, subst, ◌∙◌, arith}
 use Rattle.std.specs.Prelude.{Option, Some, None, IfSome, is_some, unwrap_or, ◌==◌, if◌then◌else◌}
-use Rattle.std.specs.List.{AllByRecursion}
-use Rattle.std.specs.Option.{option_map, option_map_or}
-use Rattle.std.proofs.lemmas.Bool.{eqb-true, eqb-false}
+use Rattle.std.specs.List.{AllByRecursion, range_with_len}
+use Rattle.std.specs.Option.{option_map_or}
+use Rattle.std.proofs.lemmas.Bool.{eqb-true, le-ltb}
 use Rattle.std.proofs.lemmas.List.{append-nil}
 use Rattle.cleaner.specs.declared.fault.PassFault.{PassFault}
 use Rattle.cleaner.specs.declared.fault.PassFault.TheVariants.{PassOpen}
 use Rattle.cleaner.specs.declared.pass.Cursor.{Cursor}
 use Rattle.cleaner.specs.declared.pass.Pass.{Pass as OpenPass}
 use Rattle.cleaner.specs.Passes.{images_in, places_of, rest_of}
+use Rattle.cleaner.specs.Seals.{none_sealed, sealed_of}
 use Rattle.cleaner.proofs.Places.{place_at, on_same, among_drop}
+use Rattle.cleaner.proofs.SurvivorIds.{among_ids}
 use Rattle.entry.specs.declared.entry.Entry.{Entry}
 use Rattle.entry.specs.Bag.{IsAmong}
 use Rattle.entry.specs.Text.{text_of, is_data}
@@ -19,30 +21,30 @@ use Rattle.entry.proofs.BagLemmas.{among_image}
 use Rattle.entry.proofs.ListLemmas.{all_among}
 use Rattle.places.specs.declared.place.Place.{Place}
 use Rattle.images.specs.Image.{Image}
-use Rattle.images.specs.Sorted.{AreBelow, image_of, segment_of}
-use Rattle.images.proofs.Adding.{newest_last, segment_found}
+use Rattle.images.specs.Sorted.{segment_of}
 use Rattle.log_head.specs.declared.head.Roll.{Roll}
 use Rattle.log_head.specs.Log.{head_of}
 use Rattle.replica.specs.Picture.{FleetState}
 use Rattle.log_model.specs.Data.{LogData}
-use Rattle.log_model.specs.Ids.{all_inserted}
-use Rattle.log_model.specs.Steps.{id_taken}
+use Rattle.log_model.specs.Ids.{has, all_inserted}
 use Rattle.clean_model.specs.Intact.{IsIntact, survivor_entries}
-use Rattle.clean_model.specs.Memory.{Place as EntryPlace, Pass, Memory, StandsAt, IsAt, with_image}
-use Rattle.clean_model.specs.Steps.{pass_begun, MayBeginClean}
+use Rattle.clean_model.specs.Memory.{Place as EntryPlace, Pass, Memory, StandsAt, IsAt}
+use Rattle.clean_model.specs.Steps.{ids_taken, survivors_begun, pass_begun, MayBeginClean}
 use Rattle.clean_model.proofs.Beginning.{begin_keeps}
+use Rattle.clean_model.proofs.KeptEntries.{has_is, is_has}
 use Rattle.master_state.specs.declared.step.Refusal.{Refusal}
 use Rattle.master_state.specs.declared.step.Refusal.TheVariants.{Halted, Pass as PassRefused}
 use Rattle.master_state.specs.declared.step.StepAnswer.{StepAnswer}
 use Rattle.master_state.specs.Budget.{victims_of, survivors_of}
-use Rattle.master_state.specs.Causes.{victims_fault, space_refusal}
+use Rattle.master_state.specs.declared.config.Config.{Config}
+use Rattle.master_state.specs.Causes.{victims_fault, survivors_for, space_refusal}
 use Rattle.master_state.specs.Data.{MasterData}
-use Rattle.master_state.specs.Images.{survivor_image as new_image}
+use Rattle.master_state.specs.Images.{survivor_images}
 use Rattle.master_state.specs.Invariant.{IsRollOf, IsCore}
 use Rattle.master_state.specs.Log.{log_of, memory_of, images_of, entry_place, position_of}
 use Rattle.master_state.specs.Steps.{fresh_pass, BeginsPass}
 use Rattle.master_state.proofs.Finding.{each_of}
-use Rattle.master_state.proofs.Imaging.{ids_in, same_id, other_id}
+use Rattle.master_state.proofs.Imaging.{ids_in, other_id, none_above}
 use Rattle.master_state.proofs.Indexing.{Grow}
 use Rattle.master_state.proofs.Refusals.{passes}
 use Rattle.master.specs.Invariant.{IsWellKept}
@@ -66,28 +68,83 @@ no_pass_open : (o : Option OpenPass) → is_some o ≡ false → o ≡ None
 no_pass_open None is = refl
 no_pass_open (Some p) is = absurd (cc)
 
+-- ---- images of new survivors
+
+-- an image behind others is found if none of those has its id
+segment_append : (cs more : List Image) (s : ℕ) → segment_of cs s ≡ None → segment_of (cs ++ more) s ≡ segment_of more s
+segment_append [] more s none = refl
+segment_append (c ∷ cs) more s none = go (c.id == s) refl none (segment_append cs more s) where
+  go : (t : Bool) → (c.id == s) ≡ t → segment_of (c ∷ cs) s ≡ None
+      → (segment_of cs s ≡ None → segment_of (cs ++ more) s ≡ segment_of more s)
+      → segment_of (c ∷ (cs ++ more)) s ≡ segment_of more s
+  go true here none later = (let never = rw here at none in absurd (cc))
+  go false away none later = (let rest : segment_of cs s ≡ None = rw away at none in rw away (later rest))
+
+segment_still : (cs more : List Image) (s : ℕ) → segment_of more s ≡ None → segment_of (cs ++ more) s ≡ segment_of cs s
+segment_still [] more s none = none
+segment_still (c ∷ cs) more s none = go (c.id == s) refl (segment_still cs more s none) where
+  go : (t : Bool) → (c.id == s) ≡ t → segment_of (cs ++ more) s ≡ segment_of cs s
+      → segment_of (c ∷ (cs ++ more)) s ≡ segment_of (c ∷ cs) s
+  go true here later = rw here refl
+  go false away later = rw away later
+
+segment_new : (c : Config) (ids : List ℕ) (s : ℕ) → segment_of (survivor_images c ids) s
+    ≡ (if has ids s then Some (survivor_entries c.master s) else None)
+segment_new c [] s = refl
+segment_new c (z ∷ ids) s = go (z == s) refl (segment_new c ids s) where
+  go : (t : Bool) → (z == s) ≡ t
+      → segment_of (survivor_images c ids) s ≡ (if has ids s then Some (survivor_entries c.master s) else None)
+      → segment_of (survivor_images c (z ∷ ids)) s
+      ≡ (if has (z ∷ ids) s then Some (survivor_entries c.master s) else None)
+  go true here later = rw here (ap (λ (y : ℕ). Some (survivor_entries c.master y)) (eqb-true z s here))
+  go false away later = rw away later
+
+-- no replica of a new survivor is sealed
+unsealed : (replicas first s : ℕ) → sealed_of replicas none_sealed first s ≡ 0
+unsealed replicas first s =
+    let t = le-ltb (s - first) 0 (omega arith) in rw t (go ((s - first) == 0))
+  where
+    go : (t : Bool) → (if t then none_sealed.replicas else none_sealed.replicas) ≡ none_sealed.replicas
+    go true = refl
+    go false = refl
+
+-- ---- what a core becomes
+
 abbrev ids_of : Option OpenPass → Pass
 ids_of o = record { victims = victims_of o; survivors = survivors_of o }
 
--- what a core becomes when a pass over these begins
-abbrev begun_data : MasterData → List ℕ → Cursor → MasterData
-begun_data d victims cursor = record d {
-  closed = d.closed ++ new_image d.config d.next ∷ [];
-  next = d.next + 1;
-  pass = Some (fresh_pass victims d.next cursor);
+-- a pass over these begins, with so many survivors
+abbrev begun_data : MasterData → List ℕ → ℕ → Cursor → MasterData
+begun_data d victims count cursor = record d {
+  closed = d.closed ++ survivor_images d.config (range_with_len d.next count);
+  next = d.next + count;
+  pass = Some (fresh_pass victims (record { first = d.next; count = count }) cursor);
 }
 
-module _ (d : MasterData) (core : IsCore d) (victims : List ℕ) (cursor : Cursor) (none : d.pass ≡ None)
-    (then_core : IsCore (begun_data d victims cursor))
-    (begins : rest_of (images_in d.closed) (fresh_pass victims d.next cursor)
+module _ (d : MasterData) (core : IsCore d) (victims : List ℕ) (count : ℕ) (cursor : Cursor) (none : d.pass ≡ None)
+    (then_core : IsCore (begun_data d victims count cursor))
+    (begins : rest_of (images_in d.closed) (fresh_pass victims (record { first = d.next; count = count }) cursor)
     ≡ places_of (images_in d.closed) victims) where
   abbrev x : MasterData
-  x = begun_data d victims cursor
+  x = begun_data d victims count cursor
 
   abbrev fresh : OpenPass
-  fresh = fresh_pass victims d.next cursor
+  fresh = fresh_pass victims (record { first = d.next; count = count }) cursor
 
-  -- ---- the new segment
+  abbrev news : List ℕ
+  news = range_with_len d.next count
+
+  -- ---- the new segments
+
+  not_below : (s : ℕ) → IsAmong s (range_with_len d.next count) → d.next ≤ s
+  not_below s among = (among_ids d.next count s among).0
+
+  -- an older segment is none of them
+  older_out : (s : ℕ) → s < d.next → has (range_with_len d.next count) s ≡ false
+  older_out s lt = go (has news s) refl where
+    go : (t : Bool) → has news s ≡ t → t ≡ false
+    go true is = absurd (let le = not_below s (is_has news s is) in omega (arith, lt, le))
+    go false is = refl
 
   closed_below : AllByRecursion (λ (id : ℕ). id < d.next) (ids_in d.closed)
   closed_below =
@@ -102,82 +159,85 @@ module _ (d : MasterData) (core : IsCore d) (victims : List ℕ) (cursor : Curso
       lower (s ∷ ids) all =
           (let lt = all.0 in let same = core.image.id in let used = core.used in omega arith, lower ids all.1)
 
-  are_below : AreBelow d.next d.closed
-  are_below = go d.closed closed_below where
-    go : (cs : List Image) → AllByRecursion (λ (id : ℕ). id < d.next) (ids_in cs) → AreBelow d.next cs
-    go [] all = tt
-    go (c ∷ cs) all = (all.0, go cs all.1)
+  segment_then : (s : ℕ) → segment_of x.closed s
+      ≡ (if has news s then Some (survivor_entries d.config.master s) else segment_of d.closed s)
+  segment_then s = go (has news s) refl where
+    new_is : segment_of (survivor_images d.config news) s
+        ≡ (if has news s then Some (survivor_entries d.config.master s) else None)
+    new_is = segment_new d.config news s
 
-  segment_then : (s : ℕ) → segment_of x.closed s ≡ (if d.next == s then Some (survivor_entries d.config.master d.next)
-      else segment_of d.closed s)
-  segment_then s =
-      let last = newest_last (new_image d.config d.next) d.closed are_below in
-      ap (λ (cs : List Image). segment_of cs s) (sym last.1)
-      ∙ segment_found (new_image d.config d.next) d.closed s last.0
+    go : (t : Bool) → has news s ≡ t → segment_of x.closed s
+        ≡ (if t then Some (survivor_entries d.config.master s) else segment_of d.closed s)
+    go true is =
+        segment_append d.closed (survivor_images d.config news) s
+        (none_above d.closed d.next s closed_below (not_below s (is_has news s is)))
+        ∙ new_is ∙ ap (λ (b : Bool). if b then Some (survivor_entries d.config.master s) else None) is
+    go false is =
+        segment_still d.closed (survivor_images d.config news) s
+        (new_is ∙ ap (λ (b : Bool). if b then Some (survivor_entries d.config.master s) else None) is)
 
-  not_head : d.head.id ≡ d.next → ⊥
-  not_head same = let lt = core.used in omega arith
+  module _ (z : ℕ) (among : IsAmong z (range_with_len d.next count)) where
+    not_head : d.head.id ≡ z → ⊥
+    not_head same = let lt = core.used in let le = not_below z among in omega (arith, lt, le, same)
 
-  not_new : IfSome d.head.roll (λ (r : Roll). (r.id == d.next) ≡ false)
-  not_new = go d.head.roll core.roll where
-    go : (o : Option Roll) → IfSome o (IsRollOf d) → IfSome o (λ (r : Roll). (r.id == d.next) ≡ false)
-    go None is = tt
-    go (Some r) is = other_id r.id d.next (λ same. (let lt = is.used in omega arith))
+    not_new : IfSome d.head.roll (λ (r : Roll). (r.id == z) ≡ false)
+    not_new = go d.head.roll core.roll where
+      go : (o : Option Roll) → IfSome o (IsRollOf d) → IfSome o (λ (r : Roll). (r.id == z) ≡ false)
+      go None is = tt
+      go (Some r) is = other_id r.id z (λ same.
+          let lt = is.used in let le = not_below z among in omega (arith, lt, le, same))
 
-  images_own : images_of x d.next ≡ survivor_entries d.config.master d.next
-  images_own =
-      closed_among d.head x.closed d.next not_head not_new ∙ ap (λ (o : Option (List Entry)). unwrap_or o []) own
-    where
-      own : segment_of x.closed d.next ≡ Some (survivor_entries d.config.master d.next)
-      own = let yes = same_id d.next in segment_then d.next ∙ (rw yes refl)
+    images_own : images_of x z ≡ survivor_entries d.config.master z
+    images_own =
+        closed_among d.head x.closed z not_head not_new
+        ∙ ap (λ (o : Option (List Entry)). unwrap_or o [])
+        (segment_then z ∙ ap (λ (b : Bool). if b then Some (survivor_entries d.config.master z)
+        else segment_of d.closed z) (has_is news z among))
 
-  segment_other : (s : ℕ) → (d.next ≡ s → ⊥) → segment_of x.closed s ≡ segment_of d.closed s
-  segment_other s other = let away = other_id d.next s other in segment_then s ∙ (rw away refl)
+    -- there was none of that id
+    images_none : images_of d z ≡ []
+    images_none =
+        closed_among d.head d.closed z not_head not_new
+        ∙ ap (λ (o : Option (List Entry)). unwrap_or o [])
+        (none_above d.closed d.next z closed_below (not_below z among))
 
-  images_other : (s : ℕ) → (d.next ≡ s → ⊥) → images_of x s ≡ images_of d s
-  images_other s other = same_among d.head d.closed x.closed s (segment_other s other)
+  segment_other : (s : ℕ) → has news s ≡ false → segment_of x.closed s ≡ segment_of d.closed s
+  segment_other s out =
+      segment_then s
+      ∙ ap (λ (b : Bool). if b then Some (survivor_entries d.config.master s) else segment_of d.closed s) out
 
-  -- there was none of that id
-  images_none : images_of d d.next ≡ []
-  images_none =
-      closed_among d.head d.closed d.next not_head not_new
-      ∙ ap (λ (o : Option (List Entry)). unwrap_or o []) (go
-      (newest_last (new_image d.config d.next) d.closed are_below).0)
-    where
-      go : image_of d.closed d.next ≡ None → segment_of d.closed d.next ≡ None
-      go is = ap (option_map (λ (c : Image). c.segment)) is
+  images_other : (s : ℕ) → has news s ≡ false → images_of x s ≡ images_of d s
+  images_other s out = same_among d.head d.closed x.closed s (segment_other s out)
 
-  images_then : (s : ℕ) → images_of x s ≡ with_image (images_of d) d.next (survivor_entries d.config.master d.next) s
-  images_then s = go (s == d.next) refl where
-    go : (t : Bool) → (s == d.next) ≡ t → images_of x s ≡ with_image (images_of d) d.next
-        (survivor_entries d.config.master d.next) s
-    go true here = let same = eqb-true s d.next here in rw here (ap (images_of x) same ∙ images_own)
-    go false away = rw away (images_other s (λ same. eqb-false s d.next away (sym same)))
+  images_then : (s : ℕ) → images_of x s ≡ survivors_begun d.config.master news (images_of d) s
+  images_then s = go (has news s) refl where
+    go : (t : Bool) → has news s ≡ t → images_of x s ≡ survivors_begun d.config.master news (images_of d) s
+    go true is = rw is (images_own s (is_has news s is))
+    go false is = rw is (images_other s is)
 
   grow : Grow (images_of d) (images_of x)
-  grow s = go (s == d.next) refl where
-    go : (t : Bool) → (s == d.next) ≡ t → (more : List Entry) × (images_of x s ≡ images_of d s ++ more)
-    go true here =
-        let same = eqb-true s d.next here in (
-          survivor_entries d.config.master d.next,
-          ap (images_of x) same ∙ images_own
-              ∙ ap (λ (es : List Entry). es ++ survivor_entries d.config.master d.next)
-              (sym (ap (images_of d) same ∙ images_none)),
+  grow s = go (has news s) refl where
+    go : (t : Bool) → has news s ≡ t → (more : List Entry) × (images_of x s ≡ images_of d s ++ more)
+    go true is =
+        let among = is_has news s is in (
+          survivor_entries d.config.master s,
+          images_own s among
+              ∙ ap (λ (es : List Entry). es ++ survivor_entries d.config.master s) (sym (images_none s among)),
         )
-    go false away = ([], images_other s (λ same. eqb-false s d.next away (sym same)) ∙ sym (append-nil (images_of d s)))
+    go false is = ([], images_other s is ∙ sym (append-nil (images_of d s)))
 
   -- ---- the victims
 
   older : (s : ℕ) → IsAmong s victims → IsAmong s (head_of d.head).start.others
   older s victim = victim_older x then_core s victim
 
-  not_next : (s : ℕ) → IsAmong s victims → d.next ≡ s → ⊥
-  not_next s victim same =
+  victim_out : (s : ℕ) → IsAmong s victims → has (range_with_len d.next count) s ≡ false
+  victim_out s victim =
       let lt = all_among (λ (id : ℕ). id < (head_of d.head).start.id) (head_of d.head).start.others s core.below
       (older s victim) in
       let own = core.image.id in
       let used = core.used in
-      omega arith
+      older_out s (omega (arith, lt, own, used))
 
   victim_image : (s : ℕ) → IsAmong s victims → images_of d s ≡ images_in d.closed s
   victim_image s victim = older_image d core s (older s victim)
@@ -186,7 +246,7 @@ module _ (d : MasterData) (core : IsCore d) (victims : List ℕ) (cursor : Curso
   rest_then =
       on_same (images_in d.closed) (images_in x.closed) (drop cursor.victim victims) cursor.at
       (λ s among. ap (λ (o : Option (List Entry)). unwrap_or o [])
-      (segment_other s (not_next s (among_drop cursor.victim victims s among))))
+      (segment_other s (victim_out s (among_drop cursor.victim victims s among))))
       ∙ begins
 
   may : MayBeginClean (log_of d) (memory_of d) victims
@@ -195,22 +255,22 @@ module _ (d : MasterData) (core : IsCore d) (victims : List ℕ) (cursor : Curso
     no_commit = ap (λ (o : Option OpenPass). option_map_or (λ (p : OpenPass). p.is_committing) o false) none;
     some = λ empty. (
         let some = (open_now x then_core fresh refl).victims.some in
-        let count = ap (λ (ids : List ℕ). length ids) empty in
-        omega arith);
+        let size = ap (λ (ids : List ℕ). length ids) empty in
+        omega (arith, some, size));
     older = older;
   }
 
   -- ---- memory then
 
   abbrev then_memory : Memory
-  then_memory = pass_begun (log_of d) (memory_of d) victims
+  then_memory = pass_begun (log_of d) (memory_of d) victims count
 
   -- an object or a tombstone of a victim is to come
   rest_has : (q : EntryPlace) (e : Entry) → IsAmong q.segment victims → StandsAt (images_of d) q e → is_data e ≡ true
       → IsAmong q (map (entry_place x) (places_of (images_in d.closed) victims))
   rest_has q e victim stands of_data =
       let b = is_behind (images_of d q.segment) q.position e stands in
-      let image = images_other q.segment (not_next q.segment victim) in
+      let image = images_other q.segment (victim_out q.segment victim) in
       let there = place_there q.segment (images_in d.closed q.segment) b.before b.after e
       (sym (victim_image q.segment victim) ∙ b.split) of_data in
       let among = place_of (images_in d.closed) victims q.segment
@@ -224,7 +284,7 @@ module _ (d : MasterData) (core : IsCore d) (victims : List ℕ) (cursor : Curso
       (among_image (entry_place x) (places_of (images_in d.closed) victims)
       (place_at q.segment (length (text_of b.before))) among)
 
-  agree : Agree (id_taken (log_of d)) then_memory (memory_of x)
+  agree : Agree (ids_taken count (log_of d)) then_memory (memory_of x)
   agree = record {
     pass = refl;
     images = λ s counts. images_then s;
@@ -232,10 +292,10 @@ module _ (d : MasterData) (core : IsCore d) (victims : List ℕ) (cursor : Curso
     rest = λ q e victim stands of_data coming.
         subst (λ (ps : List Place). IsAmong q (map (entry_place x) ps)) (sym rest_then)
         (rest_has q e victim (subst (λ (es : List Entry). IsAt es q.position e)
-        (sym (images_then q.segment) ∙ images_other q.segment (not_next q.segment victim)) stands) of_data);
+        (sym (images_then q.segment) ∙ images_other q.segment (victim_out q.segment victim)) stands) of_data);
     done = λ empty. ap (map (entry_place x)) (rest_then ∙ no_places (images_of d)
         (images_in d.closed) victims victim_image empty);
-    sealed = λ s survivor. refl;
+    sealed = λ s survivor. unsealed d.config.replicas d.next s;
     commits = sym may.no_commit;
     waiting = λ s waits. waits;
     freed = λ s waits. omega arith;
@@ -246,24 +306,27 @@ module _ (d : MasterData) (core : IsCore d) (victims : List ℕ) (cursor : Curso
 module _ (d e : MasterData) (f : FleetState) (victims : List ℕ) (answer : StepAnswer) (kept : IsWellKept d f)
     (is : BeginsPass d victims answer e)
     (core : IsCore e) where
+  abbrev count : ℕ
+  count = survivors_for d victims
+
   admitted : (d.is_halted ≡ false) × (d.pass ≡ None)
   admitted =
       let a = passes d.is_halted Halted _ is.passed in
       let fault = no_fault (victims_fault d victims) (space_refusal d victims) a.1 in
       (a.0, no_pass_open d.pass (passes (is_some d.pass) PassOpen _ fault).0)
 
-  then_core : IsCore (begun_data d victims is.cursor)
+  then_core : IsCore (begun_data d victims (survivors_for d victims) is.cursor)
   then_core = subst IsCore is.rest core
 
   intact : IsIntact (log_of e) (memory_of e) kept.before
   intact =
       subst (λ (l : LogData). IsIntact l (memory_of e) kept.before) (sym is.log)
-      (subst (λ (y : MasterData). IsIntact (id_taken (log_of d)) (memory_of y) kept.before) (sym is.rest)
-      (agreeing_is_intact (id_taken (log_of d)) (pass_begun (log_of d) (memory_of d) victims)
-      (memory_of (begun_data d victims is.cursor)) kept.before
-      (begin_keeps (log_of d) (memory_of d) kept.before victims kept.holds
-      (may d kept.core victims is.cursor admitted.1 then_core is.begins))
-      (agree d kept.core victims is.cursor admitted.1 then_core is.begins)))
+      (subst (λ (y : MasterData). IsIntact (ids_taken count (log_of d)) (memory_of y) kept.before) (sym is.rest)
+      (agreeing_is_intact (ids_taken count (log_of d)) (pass_begun (log_of d) (memory_of d) victims count)
+      (memory_of (begun_data d victims count is.cursor)) kept.before
+      (begin_keeps (log_of d) (memory_of d) kept.before victims count kept.holds
+      (may d kept.core victims count is.cursor admitted.1 then_core is.begins))
+      (agree d kept.core victims count is.cursor admitted.1 then_core is.begins)))
 
   pub begun_kept : IsWellKept e f
   begun_kept =

@@ -1,5 +1,5 @@
 -- An entry that is treated keeps what holds of a master.
-use Rattle.std.proofs.Common.{◌≡◌, ℕ, Bool, true, false, inl, inr, List, [], ◌∷◌, ◌++◌, map, length, drop, refl, sym}
+use Rattle.std.proofs.Common.{◌≡◌, ℕ, ◌+◌, Bool, true, false, inl, inr, List, [], ◌∷◌, ◌++◌, map, length, drop, refl, sym}
 use Rattle.std.proofs.Common.{ap, subst, ◌∙◌, arith}
 use Rattle.std.specs.Prelude.{Option, Some, ◌==◌, if◌then◌else◌}
 use Rattle.std.specs.Option.{option_map, option_map_or}
@@ -7,9 +7,11 @@ use Rattle.std.proofs.lemmas.Bool.{eqb-true, eqb-false}
 use Rattle.std.proofs.lemmas.List.{append-nil}
 use Rattle.std.proofs.lemmas.Option.{same_Some}
 use Rattle.cleaner.specs.declared.pass.Pass.{Pass}
-use Rattle.cleaner.specs.Passes.{images_in, rest_of, copy_place, images_with, held_with}
+use Rattle.cleaner.specs.Passes.{images_in, survivor_ids, rest_of, copy_place, images_with, held_with}
+use Rattle.cleaner.specs.Seals.{sealed_of}
 use Rattle.cleaner.proofs.Images.{len_is, with_other, grown_own}
 use Rattle.cleaner.proofs.Places.{on_segment, among_drop}
+use Rattle.cleaner.proofs.SurvivorIds.{id_among}
 use Rattle.compactor.specs.Kept.{kept as is_kept}
 use Rattle.compactor.specs.Moved.{moved_one}
 use Rattle.compactor.specs.Places.{LiesAt, IsAtPlace, keys_in}
@@ -48,8 +50,8 @@ use Rattle.master.proofs.GrownImages.{index_then}
 use Rattle.master.proofs.Handed.{unhanded_kept}
 use Rattle.master.proofs.KeptByEntries.{position_is, stands_by_entries, kept_same}
 use Rattle.master.proofs.LogSets.{same_set}
-use Rattle.master.proofs.OpenPasses.{closed_among, same_among, open_now, rest_is, victim_image, below_survivor}
-use Rattle.master.proofs.OpenPasses.{not_head, survivor_image}
+use Rattle.master.proofs.OpenPasses.{closed_among, same_among, rest_is, victim_image, below_survivor, not_head, not_new}
+use Rattle.master.proofs.OpenPasses.{survivor_image, survivor_whole}
 
 -- ---- what is kept, by entries and by offsets
 
@@ -76,11 +78,15 @@ module _ (d : MasterData) (core : IsCore d) (u : Place) where
 
 -- ---- an open pass
 
--- the entry is copied to the survivor, and its place follows it
-abbrev copied_data : MasterData → Pass → Place → Entry → Pass → MasterData
-copied_data d p u e q = record d {
-  closed = changed d.closed p.survivor (with_unit (e ∷ []));
-  index = moved_one u (copy_place p.survivor d.closed) e d.index;
+-- the survivor that a copy goes to: the one that is filled then
+abbrev target : Pass → Pass → ℕ
+target p q = p.survivors.first + q.filling
+
+-- the entry is copied to a survivor, and its place follows it
+abbrev copied_data : MasterData → ℕ → Place → Entry → Pass → MasterData
+copied_data d z u e q = record d {
+  closed = changed d.closed z (with_unit (e ∷ []));
+  index = moved_one u (copy_place z d.closed) e d.index;
   pass = Some q;
 }
 
@@ -95,52 +101,53 @@ maps_same f g (u ∷ us) same = λ i. same u (inl refl) i ∷ maps_same f g us (
 
 -- ---- a kept entry
 
-module _ (d : MasterData) (core : IsCore d) (p : Pass) (opened : d.pass ≡ Some p) (u : Place) (e : Entry) (q : Pass)
-    (then_core : IsCore (copied_data d p u e q)) where
+module _ (d : MasterData) (core : IsCore d) (p : Pass) (opened : d.pass ≡ Some p) (z : ℕ)
+    (survivor : IsAmong z (survivor_ids p.survivors)) (u : Place) (e : Entry) (q : Pass)
+    (then_core : IsCore (copied_data d z u e q)) where
   abbrev x : MasterData
-  x = copied_data d p u e q
+  x = copied_data d z u e q
 
   abbrev to : Place
-  to = copy_place p.survivor d.closed
+  to = copy_place z d.closed
 
-  images_own : images_of x p.survivor ≡ images_of d p.survivor ++ e ∷ []
+  images_own : images_of x z ≡ images_of d z ++ e ∷ []
   images_own =
-      closed_among d.head x.closed p.survivor (not_head d core p opened) (open_now d core p opened).survivor.not_new
-      ∙ grown_own d.closed p.survivor e (open_now d core p opened).pass.whole
-      ∙ ap (λ (es : List Entry). es ++ e ∷ []) (sym (survivor_image d core p opened))
+      closed_among d.head x.closed z (not_head d core p opened z survivor) (not_new d core p opened z survivor)
+      ∙ grown_own d.closed z e (survivor_whole d core p opened z survivor)
+      ∙ ap (λ (es : List Entry). es ++ e ∷ []) (sym (survivor_image d core p opened z survivor))
 
-  images_other : (s : ℕ) → (s ≡ p.survivor → ⊥) → images_of x s ≡ images_of d s
-  images_other s other = same_among d.head d.closed x.closed s (with_other d.closed p.survivor e true s other)
+  images_other : (s : ℕ) → (s ≡ z → ⊥) → images_of x s ≡ images_of d s
+  images_other s other = same_among d.head d.closed x.closed s (with_other d.closed z e true s other)
 
-  images_then : (s : ℕ) → images_of x s ≡ grown (images_of d) p.survivor e s
-  images_then s = go (s == p.survivor) refl where
-    go : (t : Bool) → (s == p.survivor) ≡ t → images_of x s ≡ grown (images_of d) p.survivor e s
-    go true here = let same = eqb-true s p.survivor here in rw here (ap (images_of x) same ∙ images_own)
-    go false away = rw away (images_other s (eqb-false s p.survivor away))
+  images_then : (s : ℕ) → images_of x s ≡ grown (images_of d) z e s
+  images_then s = go (s == z) refl where
+    go : (t : Bool) → (s == z) ≡ t → images_of x s ≡ grown (images_of d) z e s
+    go true here = let same = eqb-true s z here in rw here (ap (images_of x) same ∙ images_own)
+    go false away = rw away (images_other s (eqb-false s z away))
 
   grow : Grow (images_of d) (images_of x)
-  grow s = go (s == p.survivor) refl where
-    go : (t : Bool) → (s == p.survivor) ≡ t → (more : List Entry) × (images_of x s ≡ images_of d s ++ more)
+  grow s = go (s == z) refl where
+    go : (t : Bool) → (s == z) ≡ t → (more : List Entry) × (images_of x s ≡ images_of d s ++ more)
     go true here =
-        let same = eqb-true s p.survivor here in
-        (e ∷ [], ap (images_of x) same ∙ images_own ∙ ap (λ (z : ℕ). images_of d z ++ e ∷ []) (sym same))
-    go false away = ([], images_other s (eqb-false s p.survivor away) ∙ sym (append-nil (images_of d s)))
+        let same = eqb-true s z here in
+        (e ∷ [], ap (images_of x) same ∙ images_own ∙ ap (λ (y : ℕ). images_of d y ++ e ∷ []) (sym same))
+    go false away = ([], images_other s (eqb-false s z away) ∙ sym (append-nil (images_of d s)))
 
   -- where the copy lies
   lies_to : IsAtPlace (images_of x) to e
   lies_to = record {
-    before = images_of d p.survivor;
+    before = images_of d z;
     after = [];
     split = images_own;
-    offset = len_is d.closed p.survivor ∙ ap (λ (es : List Entry). length (text_of es))
-        (sym (survivor_image d core p opened));
+    offset = len_is d.closed z ∙ ap (λ (es : List Entry). length (text_of es))
+        (sym (survivor_image d core p opened z survivor));
   }
 
-  to_place : entry_place x to ≡ next_place (images_of d) p.survivor
+  to_place : entry_place x to ≡ next_place (images_of d) z
   unfolding lies_to
   to_place =
-      let at = position_is (images_of x p.survivor) to.at e (each_of x then_core p.survivor) lies_to in
-      λ i. record { segment = p.survivor; position = at i }
+      let at = position_is (images_of x z) to.at e (each_of x then_core z) lies_to in
+      λ i. record { segment = z; position = at i }
 
   -- what is named where it was is found there, and the object of the copy where that lies
   index_as : (k : Key) → ((w : Place) → keys_in (images_of d) w ≡ Some k
@@ -148,7 +155,7 @@ module _ (d : MasterData) (core : IsCore d) (p : Pass) (opened : d.pass ≡ Some
   index_as k named = index_then d x core then_core (λ j. refl) grow k named
 
   index_to : (o : Object) → e ≡ entry.Object o → names x.index o.key to ≡ true
-      → (memory_of x).index o.key ≡ Some (next_place (images_of d) p.survivor)
+      → (memory_of x).index o.key ≡ Some (next_place (images_of d) z)
   index_to o is named =
       let stands = subst (λ (y : Entry). IsAtPlace (images_of x) to y) is lies_to in
       let key = key_seen (images_of x) (each_of x then_core) to o.key
@@ -156,38 +163,39 @@ module _ (d : MasterData) (core : IsCore d) (p : Pass) (opened : d.pass ≡ Some
       let found = named_found (keys_in (images_of x)) o.key to key x.index then_core.index.kept named in
       ap (option_map (entry_place x)) found ∙ ap (λ (w : EntryPlace). Some w) to_place
 
-index_kept : (d : MasterData) (core : IsCore d) (p : Pass) (opened : d.pass ≡ Some p) (u : Place) (e : Entry) (q : Pass)
-    (then_core : IsCore (copied_data d p u e q)) → IsAtPlace (images_of d) u e
+index_kept : (d : MasterData) (core : IsCore d) (p : Pass) (opened : d.pass ≡ Some p) (z : ℕ)
+    (survivor : IsAmong z (survivor_ids p.survivors)) (u : Place) (e : Entry) (q : Pass)
+    (then_core : IsCore (copied_data d z u e q)) → IsAtPlace (images_of d) u e
     → is_kept (log_set_ids d) d.index u e ≡ true
-    → (k : Key) → (memory_of (copied_data d p u e q)).index k ≡ index_moved (memory_of d) p.survivor e k
-index_kept d core p opened u (entry.Header h) q then_core l is k =
-    index_as d core p opened u (entry.Header h) q then_core k (λ w key named. named)
-index_kept d core p opened u (entry.Digest ids) q then_core l is k =
-    index_as d core p opened u (entry.Digest ids) q then_core k (λ w key named. named)
-index_kept d core p opened u (entry.Safe version) q then_core l is k =
-    index_as d core p opened u (entry.Safe version) q then_core k (λ w key named. named)
-index_kept d core p opened u (entry.Tombstone t) q then_core l is k =
-    index_as d core p opened u (entry.Tombstone t) q then_core k (λ w key named. named)
-index_kept d core p opened u (entry.Object o) q then_core l is k =
+    → (k : Key) → (memory_of (copied_data d z u e q)).index k ≡ index_moved (memory_of d) z e k
+index_kept d core p opened z survivor u (entry.Header h) q then_core l is k =
+    index_as d core p opened z survivor u (entry.Header h) q then_core k (λ w key named. named)
+index_kept d core p opened z survivor u (entry.Digest ids) q then_core l is k =
+    index_as d core p opened z survivor u (entry.Digest ids) q then_core k (λ w key named. named)
+index_kept d core p opened z survivor u (entry.Safe version) q then_core l is k =
+    index_as d core p opened z survivor u (entry.Safe version) q then_core k (λ w key named. named)
+index_kept d core p opened z survivor u (entry.Tombstone t) q then_core l is k =
+    index_as d core p opened z survivor u (entry.Tombstone t) q then_core k (λ w key named. named)
+index_kept d core p opened z survivor u (entry.Object o) q then_core l is k =
     elim (key_eq-tells k o.key) as (λ _. (memory_of x).index k
-    ≡ index_moved (memory_of d) p.survivor (entry.Object o) k) [
+    ≡ index_moved (memory_of d) z (entry.Object o) k) [
       | inl t ↦ (let yes = t.0 in rw yes (ap (memory_of x).index t.1 ∙ there))
-      | inr n ↦ (let no = n.0 in rw no (index_as d core p opened u (entry.Object o) q then_core k
+      | inr n ↦ (let no = n.0 in rw no (index_as d core p opened z survivor u (entry.Object o) q then_core k
           (λ w key named. still n.1 w key named)))
     ]
   where
     x : MasterData
-    x = copied_data d p u (entry.Object o) q
+    x = copied_data d z u (entry.Object o) q
 
-    there : (memory_of (copied_data d p u (entry.Object o) q)).index o.key ≡ Some (next_place (images_of d) p.survivor)
+    there : (memory_of (copied_data d z u (entry.Object o) q)).index o.key ≡ Some (next_place (images_of d) z)
     there =
-        index_to d core p opened u (entry.Object o) q then_core o refl
-        (names_moved o.key u (copy_place p.survivor d.closed) d.index is)
+        index_to d core p opened z survivor u (entry.Object o) q then_core o refl
+        (names_moved o.key u (copy_place z d.closed) d.index is)
 
     still : (k ≡ o.key → ⊥) → (w : Place) → keys_in (images_of d) w ≡ Some k
-        → names d.index k w ≡ true → names (copied_data d p u (entry.Object o) q).index k w ≡ true
+        → names d.index k w ≡ true → names (copied_data d z u (entry.Object o) q).index k w ≡ true
     still differ w key named =
-        names_still o.key k u (copy_place p.survivor d.closed) w other d.index named
+        names_still o.key k u (copy_place z d.closed) w other d.index named
       where
         other : w ≡ u → ⊥
         other same =
@@ -199,7 +207,7 @@ index_kept d core p opened u (entry.Object o) q then_core l is k =
 
 module _ (d : MasterData) (core : IsCore d) (p : Pass) (opened : d.pass ≡ Some p) (u : Place) (later : List Place)
     (first : rest_of (images_in d.closed) p ≡ u ∷ later) (e : Entry) (q : Pass)
-    (pass_is : q ≡ record p { cursor = q.cursor }) where
+    (pass_is : q ≡ record p { cursor = q.cursor; filling = q.filling }) where
   victim_rest : (w : Place) → IsAmong w later → IsAmong w.segment p.victims
   victim_rest w among =
       among_drop p.cursor.victim p.victims w.segment
@@ -209,9 +217,12 @@ module _ (d : MasterData) (core : IsCore d) (p : Pass) (opened : d.pass ≡ Some
   same_ids : ids_of (Some q) ≡ ids_of d.pass
   same_ids = ap (λ (r : Pass). ids_of (Some r)) pass_is ∙ ap ids_of (sym opened)
 
-  same_sealed : q.sealed ≡ option_map_or (λ (r : Pass). r.sealed) d.pass 0
-  same_sealed = ap (λ (r : Pass). r.sealed) pass_is ∙ ap
-      (λ (o : Option Pass). option_map_or (λ (r : Pass). r.sealed) o 0) (sym opened)
+  same_sealed : (s : ℕ) → sealed_of d.config.replicas q.sealed q.survivors.first s
+      ≡ option_map_or (λ (r : Pass). sealed_of d.config.replicas r.sealed r.survivors.first s) d.pass 0
+  same_sealed s =
+      ap (λ (r : Pass). sealed_of d.config.replicas r.sealed r.survivors.first s) pass_is
+      ∙ ap (λ (o : Option Pass). option_map_or
+      (λ (r : Pass). sealed_of d.config.replicas r.sealed r.survivors.first s) o 0) (sym opened)
 
   same_commits : q.is_committing ≡ option_map_or (λ (r : Pass). r.is_committing) d.pass false
   same_commits =
@@ -229,36 +240,36 @@ module _ (d : MasterData) (core : IsCore d) (p : Pass) (opened : d.pass ≡ Some
     rest = λ w y victim stands data_is coming. subst (λ (ps : List Place). IsAmong w (map (entry_place d) ps))
         (sym left) coming;
     done = λ none. ap (map (entry_place d)) left ∙ none;
-    sealed = λ s survivor. same_sealed;
+    sealed = λ s survivor. same_sealed s;
     commits = same_commits;
     waiting = λ s waits. waits;
     freed = λ s waits. omega arith;
   }
 
   -- it was copied
-  module _ (l : IsAtPlace (images_of d) u e) (is : is_kept (log_set_ids d) d.index u e ≡ true)
-      (then_core : IsCore (copied_data d p u e q))
-      (left : rest_of (images_in (changed d.closed p.survivor (with_unit (e ∷ [])))) q ≡ later) where
-    same_place : (w : Place) → IsAmong w later → entry_place (copied_data d p u e q) w ≡ entry_place d w
+  module _ (z : ℕ) (survivor : IsAmong z (survivor_ids p.survivors)) (l : IsAtPlace (images_of d) u e)
+      (is : is_kept (log_set_ids d) d.index u e ≡ true) (then_core : IsCore (copied_data d z u e q))
+      (left : rest_of (images_in (changed d.closed z (with_unit (e ∷ [])))) q ≡ later) where
+    same_place : (w : Place) → IsAmong w later → entry_place (copied_data d z u e q) w ≡ entry_place d w
     same_place w among =
-        let lt = below_survivor d core p opened w.segment (victim_rest w among) in
-        let same = images_other d core p opened u e q then_core w.segment (λ is. omega (arith, is, lt)) in
+        let lt = below_survivor d core p opened z survivor w.segment (victim_rest w among) in
+        let same = images_other d core p opened z survivor u e q then_core w.segment (λ is. omega (arith, is, lt)) in
         λ i. record { segment = w.segment; position = position_of (same i) w.at }
 
-    same_rest : (memory_of (copied_data d p u e q)).rest ≡ map (entry_place d) later
+    same_rest : (memory_of (copied_data d z u e q)).rest ≡ map (entry_place d) later
     same_rest =
-        ap (map (entry_place (copied_data d p u e q))) left
-        ∙ maps_same (entry_place (copied_data d p u e q)) (entry_place d) later same_place
+        ap (map (entry_place (copied_data d z u e q))) left
+        ∙ maps_same (entry_place (copied_data d z u e q)) (entry_place d) later same_place
 
-    agree_kept : Agree (log_of d) (with_copy (memory_of d) (map (entry_place d) later) p.survivor e)
-        (memory_of (copied_data d p u e q))
+    agree_kept : Agree (log_of d) (with_copy (memory_of d) (map (entry_place d) later) z e)
+        (memory_of (copied_data d z u e q))
     agree_kept = record {
       pass = same_ids;
-      images = λ s counts. images_then d core p opened u e q then_core s;
-      index = index_kept d core p opened u e q then_core l is;
+      images = λ s counts. images_then d core p opened z survivor u e q then_core s;
+      index = index_kept d core p opened z survivor u e q then_core l is;
       rest = λ w y victim stands data_is coming. subst (λ (ps : List EntryPlace). IsAmong w ps) (sym same_rest) coming;
       done = λ none. same_rest ∙ none;
-      sealed = λ s survivor. same_sealed;
+      sealed = λ s survivor. same_sealed s;
       commits = same_commits;
       waiting = λ s waits. waits;
       freed = λ s waits. omega arith;
@@ -274,6 +285,13 @@ module _ (d e : MasterData) (f : FleetState) (answer : StepAnswer) (kept : IsWel
   abbrev u : Place
   u = is.treats.place
 
+  -- the survivor that is filled
+  abbrev z : ℕ
+  z = target is.pass is.after
+
+  among : IsAmong (target is.pass is.after) (survivor_ids is.pass.survivors)
+  among = id_among is.pass.survivors.first is.pass.survivors.count is.after.filling is.treats.within
+
   abbrev rest : List EntryPlace
   rest = map (entry_place d) is.treats.later
 
@@ -282,51 +300,50 @@ module _ (d e : MasterData) (f : FleetState) (answer : StepAnswer) (kept : IsWel
       subst (λ (es : List Entry). LiesAt es is.treats.place.at is.treats.entry)
       (sym (victim_image d kept.core is.pass is.opened is.treats.place.segment is.treats.victim)) is.treats.stands
 
-  may : MayCopy (log_of d) (memory_of d) (entry_place d is.treats.place) rest is.pass.survivor is.treats.entry
+  may : MayCopy (log_of d) (memory_of d) (entry_place d is.treats.place) rest (target is.pass is.after) is.treats.entry
   may = record {
     cursor = ap (map (entry_place d)) (rest_is d kept.core is.pass is.opened ∙ is.treats.first);
     victim = subst (λ (o : Option Pass). IsAmong is.treats.place.segment (victims_of o))
         (sym is.opened) is.treats.victim;
-    survivor = subst (λ (o : Option Pass). IsAmong is.pass.survivor (survivors_of o)) (sym is.opened) (inl refl);
+    survivor = subst (λ (o : Option Pass). IsAmong (target is.pass is.after) (survivors_of o)) (sym is.opened) among;
     at = stands_by_entries (images_of d is.treats.place.segment) is.treats.place.at is.treats.entry
         (each_of d kept.core is.treats.place.segment) lies;
   }
 
   intact_if : (t : Bool) → is_kept (log_set_ids d) d.index is.treats.place is.treats.entry ≡ t
       → IsIntact (log_of d)
-      (if t then with_copy (memory_of d) rest is.pass.survivor is.treats.entry
+      (if t then with_copy (memory_of d) rest (target is.pass is.after) is.treats.entry
       else record (memory_of d) { rest = rest }) kept.before
   intact_if t test =
       subst (λ (b : Bool). IsIntact (log_of d)
-      (if b then with_copy (memory_of d) rest is.pass.survivor is.treats.entry
+      (if b then with_copy (memory_of d) rest (target is.pass is.after) is.treats.entry
       else record (memory_of d) { rest = rest }) kept.before)
       (copied_is_kept d kept.core is.treats.place is.treats.entry lies is.treats.of_data ∙ test)
-      (copy_keeps (log_of d) (memory_of d) kept.before (entry_place d is.treats.place) rest is.pass.survivor
+      (copy_keeps (log_of d) (memory_of d) kept.before (entry_place d is.treats.place) rest (target is.pass is.after)
       is.treats.entry kept.holds may)
 
   intact_then : (t : Bool) → is_kept (log_set_ids d) d.index is.treats.place is.treats.entry ≡ t
       → IsIntact (log_of e) (memory_of e) kept.before
   intact_then true test =
       subst (λ (y : MasterData). IsIntact (log_of y) (memory_of y) kept.before) (sym whole)
-      (agreeing_is_intact (log_of d) (with_copy (memory_of d) rest is.pass.survivor is.treats.entry)
-      (memory_of (copied_data d is.pass is.treats.place is.treats.entry is.after)) kept.before (intact_if true test)
+      (agreeing_is_intact (log_of d) (with_copy (memory_of d) rest (target is.pass is.after) is.treats.entry)
+      (memory_of (copied_data d (target is.pass is.after) is.treats.place is.treats.entry is.after)) kept.before (intact_if true test)
       (agree_kept d kept.core is.pass is.opened is.treats.place is.treats.later is.treats.first is.treats.entry
-      is.after is.treats.pass
-      lies test (subst IsCore whole core) left))
+      is.after is.treats.pass (target is.pass is.after) among lies test (subst IsCore whole core) left))
     where
-      closed_is : e.closed ≡ changed d.closed is.pass.survivor (with_unit (is.treats.entry ∷ []))
-      closed_is = is.treats.survivor ∙ ap (λ (b : Bool). images_with b is.pass.survivor is.treats.entry d.closed) test
+      closed_is : e.closed ≡ changed d.closed (target is.pass is.after) (with_unit (is.treats.entry ∷ []))
+      closed_is = is.treats.survivor ∙ ap (λ (b : Bool). images_with b (target is.pass is.after) is.treats.entry d.closed) test
 
-      index_is : e.index ≡ moved_one is.treats.place (copy_place is.pass.survivor d.closed) is.treats.entry d.index
+      index_is : e.index ≡ moved_one is.treats.place (copy_place (target is.pass is.after) d.closed) is.treats.entry d.index
       index_is =
           is.treats.index
-          ∙ ap (λ (b : Bool). held_with b is.treats.place (copy_place is.pass.survivor d.closed)
+          ∙ ap (λ (b : Bool). held_with b is.treats.place (copy_place (target is.pass is.after) d.closed)
           is.treats.entry d.index) test
 
-      whole : e ≡ copied_data d is.pass is.treats.place is.treats.entry is.after
+      whole : e ≡ copied_data d (target is.pass is.after) is.treats.place is.treats.entry is.after
       whole = is.rest ∙ (λ i. record d { closed = closed_is i; index = index_is i; pass = Some is.after })
 
-      left : rest_of (images_in (changed d.closed is.pass.survivor (with_unit (is.treats.entry ∷ []))))
+      left : rest_of (images_in (changed d.closed (target is.pass is.after) (with_unit (is.treats.entry ∷ []))))
           is.after ≡ is.treats.later
       left = ap (λ (cs : List Image). rest_of (images_in cs) is.after) (sym closed_is) ∙ is.treats.rest
   intact_then false test =
@@ -338,12 +355,12 @@ module _ (d e : MasterData) (f : FleetState) (answer : StepAnswer) (kept : IsWel
       is.after is.treats.pass left))
     where
       closed_is : e.closed ≡ d.closed
-      closed_is = is.treats.survivor ∙ ap (λ (b : Bool). images_with b is.pass.survivor is.treats.entry d.closed) test
+      closed_is = is.treats.survivor ∙ ap (λ (b : Bool). images_with b (target is.pass is.after) is.treats.entry d.closed) test
 
       index_is : e.index ≡ d.index
       index_is =
           is.treats.index
-          ∙ ap (λ (b : Bool). held_with b is.treats.place (copy_place is.pass.survivor d.closed)
+          ∙ ap (λ (b : Bool). held_with b is.treats.place (copy_place (target is.pass is.after) d.closed)
           is.treats.entry d.index) test
 
       whole : e ≡ record d { pass = Some is.after }

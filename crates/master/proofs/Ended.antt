@@ -6,6 +6,7 @@ use Rattle.std.specs.List.{AllByRecursion}
 use Rattle.std.specs.Option.{option_map, option_map_or}
 use Rattle.std.proofs.lemmas.Option.{same_Some}
 use Rattle.cleaner.specs.declared.pass.Pass.{Pass as OpenPass}
+use Rattle.cleaner.specs.Seals.{sealed_of}
 use Rattle.entry.specs.declared.key.Key.{Key}
 use Rattle.entry.specs.declared.entry.Entry.{Entry}
 use Rattle.entry.specs.Bag.{IsAmong}
@@ -45,8 +46,8 @@ use Rattle.master.proofs.Victims.{victim_below, never_both}
 -- ---- the same images
 
 -- the model's memory stays, if images and the index do
-module _ (d e : MasterData) (core : IsCore d) (later : IsCore e) (images : (s : ℕ) → image_of e s ≡ image_of d s)
-    (index : e.index ≡ d.index) (pass : e.pass ≡ d.pass) (waiting : e.waiting ≡ d.waiting) (freed : e.freed ≡ d.freed)
+module _ (d e : MasterData) (core : IsCore d) (later : IsCore e) (config : e.config ≡ d.config)
+    (images : (s : ℕ) → image_of e s ≡ image_of d s) (index : e.index ≡ d.index) (pass : e.pass ≡ d.pass) (waiting : e.waiting ≡ d.waiting) (freed : e.freed ≡ d.freed)
     (newer : d.head.id ≤ e.head.id) where
   same_at : (s : ℕ) → images_of e s ≡ images_of d s
   same_at s = ap (λ (o : Option (List Entry)). unwrap_or o []) (images s)
@@ -57,7 +58,8 @@ module _ (d e : MasterData) (core : IsCore d) (later : IsCore e) (images : (s : 
   leaves : LeavesPass d e
   leaves = record {
     pass = λ i. record { victims = victims_of (pass i); survivors = survivors_of (pass i) };
-    sealed = λ s. ap (λ (o : Option OpenPass). option_map_or (λ (p : OpenPass). p.sealed) o 0) pass;
+    sealed = λ s. (λ i. option_map_or
+        (λ (p : OpenPass). sealed_of (config i).replicas p.sealed p.survivors.first s) (pass i) 0);
     waiting = waiting;
     freed = freed;
     rest = rest_stays d e core later pass newer (λ s victim. same_at s);
@@ -152,7 +154,7 @@ module _ {Holds : LogData → Memory → Picture → Type 0} (d : MasterData) (f
   -- an ordinary roll
   pub rolled_model : IsCore rolled → IsModel rolled (memory_of d)
   rolled_model core =
-      same_model d rolled kept.core core (closed_images d kept.core r rolls) refl refl refl refl
+      same_model d rolled kept.core core refl (closed_images d kept.core r rolls) refl refl refl refl
       (let lt = newer in omega arith)
 
   -- ---- a commit

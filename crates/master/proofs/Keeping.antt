@@ -12,7 +12,7 @@ use Rattle.versioned_map.specs.declared.command.Command.{Command}
 use Rattle.log_model.specs.Data.{LogData, durable_of}
 use Rattle.log_model.specs.Kept.{IsKept as IsLogKept}
 use Rattle.log_model.specs.Ops.{LogOp, op_of}
-use Rattle.log_model.specs.Steps.{IsNext, id_taken}
+use Rattle.log_model.specs.Steps.{IsNext}
 use Rattle.log_model.proofs.DurableSteps.{durable_stays_applied, durable_stays_rolling, durable_stays_next}
 use Rattle.log_model.proofs.Pictures.{place_tells}
 use Rattle.master_state.specs.declared.step.Refusal.{Refusal}
@@ -24,7 +24,8 @@ use Rattle.master_state.specs.declared.step.StepAnswer.{StepAnswer}
 use Rattle.master_state.specs.declared.step.StepAnswer.TheVariants.{Applied, Opened, Extended, Closed, Rolling}
 use Rattle.master_state.specs.declared.step.StepAnswer.TheVariants.{Compacted}
 use Rattle.master_state.specs.declared.step.StepAnswer.TheVariants.{Begun, Moved, Carried, Dropped, Sealed, Freed}
-use Rattle.master_state.specs.Causes.{dead_segment}
+use Rattle.clean_model.specs.Steps.{ids_taken}
+use Rattle.master_state.specs.Causes.{dead_segment, survivors_for}
 use Rattle.master_state.specs.Data.{MasterData}
 use Rattle.master_state.specs.Log.{log_of}
 use Rattle.master_state.specs.Steps.{Applies, BeginsRoll, Compacts, BeginsPass, Copies, next_now, record_now}
@@ -227,7 +228,8 @@ module _ (old new : World) (kept : IsWellKept old.knows old.fleet) where
   begun : (ids : List ℕ) (answer : StepAnswer) → BeginsPass old.knows ids answer new.knows
       → new.fleet ≡ old.fleet → Keeps 1 old new
   begun ids answer b fleet =
-      let same : durable_of (id_taken (log_of old.knows)) ≡ durable_of (log_of old.knows) = refl in
+      let later = ids_taken (survivors_for old.knows ids) (log_of old.knows) in
+      let same : durable_of later ≡ durable_of (log_of old.knows) = refl in
       silent (ap (λ (x : MasterData). x.config) b.rest) (ap (λ (x : MasterData). x.origin) b.rest)
       (ap (λ (x : MasterData). x.history) b.rest) (quiet fleet)
       (subst (λ (l : LogData). durable_of (log_of old.knows) ≤ durable_of l) (sym b.log) (omega arith))

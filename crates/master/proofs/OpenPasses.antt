@@ -1,16 +1,17 @@
 -- What a core with an open pass has of the pass's segments.
-use Rattle.std.proofs.Common.{◌≡◌, ℕ, ◌<◌, Bool, true, false, List, [], ◌∷◌, drop, length, refl, sym, ap, subst, ◌∙◌}
+use Rattle.std.proofs.Common.{◌≡◌, ℕ, ◌<◌, ◌≤◌, Bool, true, false, List, [], ◌∷◌, drop, length, refl, sym, ap, subst, ◌∙◌}
 use Rattle.std.proofs.Common.{arith}
 use Rattle.std.specs.Prelude.{Option, Some, None, IfSome, unwrap_or, ◌==◌, if◌then◌else◌}
 use Rattle.std.specs.List.{AllByRecursion}
 use Rattle.std.specs.Option.{option_map_or}
 use Rattle.std.proofs.lemmas.Bool.{eqb-true}
 use Rattle.cleaner.specs.declared.pass.Pass.{Pass}
-use Rattle.cleaner.specs.Passes.{images_in, places_on, rest_of, is_at_end}
+use Rattle.cleaner.specs.Passes.{images_in, survivor_ids, places_on, rest_of, is_at_end}
 use Rattle.cleaner.proofs.Images.{is_victim}
+use Rattle.cleaner.proofs.SurvivorIds.{among_ids}
 use Rattle.entry.specs.declared.entry.Entry.{Entry}
 use Rattle.entry.specs.Bag.{IsAmong}
-use Rattle.entry.specs.Text.{IsSegment}
+use Rattle.entry.specs.Text.{text_of, IsSegment}
 use Rattle.entry.proofs.ListLemmas.{all_among}
 use Rattle.images.specs.Image.{Image}
 use Rattle.images.specs.Sorted.{IsWhole, segment_of}
@@ -23,7 +24,7 @@ use Rattle.entry.proofs.BagLemmas.{among_last}
 use Rattle.master_state.specs.Budget.{victims_of}
 use Rattle.master_state.specs.Data.{MasterData}
 use Rattle.master_state.specs.Images.{new_image_or, images_among}
-use Rattle.master_state.specs.Invariant.{IsRollOf, IsOpenPass, IsCore}
+use Rattle.master_state.specs.Invariant.{IsRollOf, IsSurvivor, IsOpenPass, IsCore}
 use Rattle.master_state.specs.Log.{images_of, rest_now}
 use Rattle.master_state.proofs.Imaging.{other_id}
 use Rattle.master.proofs.Victims.{victim_older}
@@ -89,24 +90,8 @@ module _ (d : MasterData) (core : IsCore d) where
         older_image s (victim_older d core s (subst (λ (o : Option Pass). IsAmong s (victims_of o))
         (sym opened) victim))
 
-    pub below_survivor : (s : ℕ) → IsAmong s p.victims → s < p.survivor
-    below_survivor s victim = (is_victim d.closed p.survivor p.victims s open_now.pass.victims victim).1
-
-    pub not_head : d.head.id ≡ p.survivor → ⊥
-    not_head same =
-        let ids = ids_of (head_of d.head).start in
-        let among : IsAmong p.survivor ids =
-        subst (λ (z : ℕ). IsAmong z ids) (core.image.id ∙ same)
-        (among_last (head_of d.head).start.others (head_of d.head).start.id) in
-        let never : true ≡ false = sym (has_is ids p.survivor among) ∙ open_now.survivor.outside in
-        cc
-
-    pub survivor_image : images_of d p.survivor ≡ images_in d.closed p.survivor
-    survivor_image = closed_among d.head d.closed p.survivor not_head open_now.survivor.not_new
-
-    pub survivor_segment : IsSegment (images_of d p.survivor)
-    survivor_segment =
-        subst IsSegment (sym survivor_image) (segment_in d.closed p.survivor core.segments open_now.pass.whole)
+    pub below_survivors : (s : ℕ) → IsAmong s p.victims → s < p.survivors.first
+    below_survivors s victim = (is_victim d.closed p.survivors.first p.victims s open_now.pass.victims victim).1
 
     pub none_left : is_at_end p ≡ true → rest_of (images_in d.closed) p ≡ []
     none_left end =
@@ -117,3 +102,40 @@ module _ (d : MasterData) (core : IsCore d) where
         all : (xs : List ℕ) → drop (length xs) xs ≡ []
         all [] = refl
         all (x ∷ xs) = all xs
+
+    -- ---- a survivor of it
+
+    module _ (z : ℕ) (survivor : IsAmong z (survivor_ids p.survivors)) where
+      is_survivor : IsSurvivor d z
+      is_survivor = open_now.survivors.each z survivor
+
+      pub below_survivor : (s : ℕ) → IsAmong s p.victims → s < z
+      below_survivor s victim =
+          let lt = below_survivors s victim in
+          let le = (among_ids p.survivors.first p.survivors.count z survivor).0 in omega arith
+
+      pub not_head : d.head.id ≡ z → ⊥
+      not_head same =
+          let ids = ids_of (head_of d.head).start in
+          let among : IsAmong z ids =
+          subst (λ (y : ℕ). IsAmong y ids) (core.image.id ∙ same)
+          (among_last (head_of d.head).start.others (head_of d.head).start.id) in
+          let never : true ≡ false = sym (has_is ids z among) ∙ is_survivor.outside in
+          cc
+
+      pub not_new : IfSome d.head.roll (λ (r : Roll). (r.id == z) ≡ false)
+      not_new = is_survivor.not_new
+
+      pub survivor_image : images_of d z ≡ images_in d.closed z
+      survivor_image = closed_among d.head d.closed z not_head is_survivor.not_new
+
+      pub survivor_whole : IsWhole d.closed z
+      survivor_whole = all_among (IsWhole d.closed) (survivor_ids p.survivors) z open_now.pass.whole survivor
+
+      pub survivor_segment : IsSegment (images_of d z)
+      survivor_segment = subst IsSegment (sym survivor_image) (segment_in d.closed z core.segments survivor_whole)
+
+      pub survivor_within : length (text_of (images_of d z)) ≤ d.config.segment
+      survivor_within =
+          let same = ap (λ (es : List Entry). length (text_of es)) survivor_image in
+          let fits = is_survivor.within in omega arith

@@ -129,7 +129,7 @@ module _ {Holds : LogData → Memory → Picture → Type 0} (d : MasterData) (f
       → IsTaken d (record d { head = record d.head { taken = ks } })
   head_taken ks core =
       let e : MasterData = record d { head = record d.head { taken = ks } } in
-      counted e (same_model d e kept.core core (λ s. refl) refl refl refl refl (omega arith)) refl refl
+      counted e (same_model d e kept.core core refl (λ s. refl) refl refl refl refl (omega arith)) refl refl
 
   -- ---- a roll goes on
 
@@ -145,7 +145,7 @@ module _ {Holds : LogData → Memory → Picture → Type 0} (d : MasterData) (f
           head = record d.head
               { roll = Some (record r { opened = opened; closed = closed }) };
         } in
-        counted e (same_model d e kept.core core (same_roll d.head d.closed r q rolls refl refl) refl refl refl
+        counted e (same_model d e kept.core core refl (same_roll d.head d.closed r q rolls refl refl) refl refl refl
         refl (omega arith))
         (new_is d.head.replicas q ∙ sym (new_now d r rolls)) refl
 

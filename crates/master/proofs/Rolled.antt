@@ -7,6 +7,7 @@ use Rattle.std.proofs.lemmas.Bool.{eqb-true}
 use Rattle.std.proofs.lemmas.Option.{same_Some}
 use Rattle.cleaner.specs.declared.pass.Pass.{Pass as OpenPass}
 use Rattle.cleaner.specs.Passes.{images_in, rest_of, is_ready as is_ready_pass}
+use Rattle.cleaner.specs.Seals.{sealed_of}
 use Rattle.entry.specs.declared.key.Key.{Key}
 use Rattle.entry.specs.declared.entry.Entry.{Entry}
 use Rattle.entry.specs.Bag.{IsAmong}
@@ -28,7 +29,7 @@ use Rattle.master_state.specs.Budget.{victims_of, survivors_of, is_ready, is_com
 use Rattle.master_state.specs.Data.{MasterData}
 use Rattle.master_state.specs.Invariant.{IsCore}
 use Rattle.master_state.specs.Log.{log_of, state_now, images_of, find, entry_place, rest_now, memory_of}
-use Rattle.master_state.specs.Steps.{survivor_bytes, start_now, rolling_data, next_now, BeginsRoll, MayRollNow}
+use Rattle.master_state.specs.Steps.{listed_in, start_now, rolling_data, next_now, BeginsRoll, MayRollNow}
 use Rattle.master_space.proofs.RollStarts.{start_has}
 use Rattle.master_state.proofs.Finding.{each_of, index_of}
 use Rattle.master_state.proofs.Imaging.{same_id, rolled_own, rolled_other, rolled_grow}
@@ -44,32 +45,32 @@ use Rattle.master.proofs.Victims.{victim_below, never_both}
 
 -- ---- the open pass, once it says whether its commit is under way
 
-module _ (replicas : ℕ) where
-  abbrev told : Option OpenPass → Option OpenPass
-  told o = option_map (λ (p : OpenPass). record p { is_committing = is_ready_pass replicas p }) o
+abbrev told : Option OpenPass → Option OpenPass
+told o = option_map (λ (p : OpenPass). record p { is_committing = is_ready_pass p }) o
 
-  same_victims : (o : Option OpenPass) → victims_of (told o) ≡ victims_of o
-  same_victims None = refl
-  same_victims (Some p) = refl
+same_victims : (o : Option OpenPass) → victims_of (told o) ≡ victims_of o
+same_victims None = refl
+same_victims (Some p) = refl
 
-  same_survivors : (o : Option OpenPass) → survivors_of (told o) ≡ survivors_of o
-  same_survivors None = refl
-  same_survivors (Some p) = refl
+same_survivors : (o : Option OpenPass) → survivors_of (told o) ≡ survivors_of o
+same_survivors None = refl
+same_survivors (Some p) = refl
 
-  same_sealed : (o : Option OpenPass) → option_map_or (λ (p : OpenPass). p.sealed) (told o) 0
-      ≡ option_map_or (λ (p : OpenPass). p.sealed) o 0
-  same_sealed None = refl
-  same_sealed (Some p) = refl
+same_sealed : (replicas s : ℕ) (o : Option OpenPass)
+    → option_map_or (λ (p : OpenPass). sealed_of replicas p.sealed p.survivors.first s) (told o) 0
+    ≡ option_map_or (λ (p : OpenPass). sealed_of replicas p.sealed p.survivors.first s) o 0
+same_sealed replicas s None = refl
+same_sealed replicas s (Some p) = refl
 
-  same_rest : (images : ℕ → List Entry) (o : Option OpenPass)
-      → option_map_or (rest_of images) (told o) [] ≡ option_map_or (rest_of images) o []
-  same_rest images None = refl
-  same_rest images (Some p) = refl
+same_rest : (images : ℕ → List Entry) (o : Option OpenPass)
+    → option_map_or (rest_of images) (told o) [] ≡ option_map_or (rest_of images) o []
+same_rest images None = refl
+same_rest images (Some p) = refl
 
-  committing : (o : Option OpenPass) → option_map_or (λ (p : OpenPass). p.is_committing) (told o) false
-      ≡ option_map_or (is_ready_pass replicas) o false
-  committing None = refl
-  committing (Some p) = refl
+committing : (o : Option OpenPass) → option_map_or (λ (p : OpenPass). p.is_committing) (told o) false
+    ≡ option_map_or is_ready_pass o false
+committing None = refl
+committing (Some p) = refl
 
 -- the commit of a pass that is ready keeps what holds
 abbrev pub CommitKeeps : (LogData → Memory → Picture → Type 0) → MasterData → Picture → Type 0
@@ -91,8 +92,8 @@ module _ {Holds : LogData → Memory → Picture → Type 0} (lasts : Lasts Hold
 
   abbrev start_by : Bool → Start
   start_by ready =
-      if ready then start_after d.head (victims_of d.pass) (survivors_of d.pass) (survivor_bytes d) d.next d.safe
-      else start_after d.head [] [] 0 d.next d.safe
+      if ready then start_after d.head (victims_of d.pass) (listed_in d.closed (survivors_of d.pass)) d.next d.safe
+      else start_after d.head [] [] d.next d.safe
 
   abbrev n : Start
   n = next_now d
@@ -166,13 +167,13 @@ module _ {Holds : LogData → Memory → Picture → Type 0} (lasts : Lasts Hold
   leaves = record {
     pass = ap (λ (x : MasterData). (memory_of x).pass) is.rest
         ∙ (λ i. record {
-          victims = same_victims d.config.replicas d.pass i;
-          survivors = same_survivors d.config.replicas d.pass i;
+          victims = same_victims d.pass i;
+          survivors = same_survivors d.pass i;
         });
-    sealed = λ s. ap (λ (x : MasterData). (memory_of x).sealed s) is.rest ∙ same_sealed d.config.replicas d.pass;
+    sealed = λ s. ap (λ (x : MasterData). (memory_of x).sealed s) is.rest ∙ same_sealed d.config.replicas s d.pass;
     waiting = ap (λ (x : MasterData). x.waiting) is.rest;
     freed = ap (λ (x : MasterData). x.freed) is.rest;
-    rest = ap rest_now is.rest ∙ same_rest d.config.replicas (images_in d.closed) d.pass;
+    rest = ap rest_now is.rest ∙ same_rest (images_in d.closed) d.pass;
     victims = λ s victim.
         others_same s (λ own. (let lt = victim_below d kept.core s victim in let used = kept.core.used in omega arith));
   }
@@ -204,7 +205,7 @@ module _ {Holds : LogData → Memory → Picture → Type 0} (lasts : Lasts Hold
 
   model : IsModel e then_memory
   model = is_model d e leaves then_memory.images m.index (is_ready d)
-      (ap is_committing is.rest ∙ committing d.config.replicas d.pass) (λ s counts. same_images s) behind
+      (ap is_committing is.rest ∙ committing d.pass) (λ s counts. same_images s) behind
 
   pub rolled_kept_as : IsKeptAs Holds e f
   rolled_kept_as =

@@ -147,5 +147,5 @@ rolled_loaded d e f answer loaded is may core =
     unready : is_ready d ≡ true → ⊥
     unready ready =
         let never : false ≡ true = sym (ap (λ (o : Option OpenPass). option_map_or
-        (is_ready_pass d.config.replicas) o false) loaded.bare.pass) ∙ ready in
+        is_ready_pass o false) loaded.bare.pass) ∙ ready in
         cc

@@ -1,9 +1,8 @@
 -- What is kept is valid.
-use Rattle.std.proofs.Common.{ℕ, sym, subst}
-use Rattle.replica.specs.Picture.{FleetState}
+use Rattle.std.proofs.Common.{arith}
+use Rattle.replica.specs.Picture.{FleetState, shown_of}
 use Rattle.clean_model.proofs.Coverage.{intact_is_durable}
 use Rattle.clean_model.proofs.Faults.{fault_is_sound, fault_is_covered, fault_is_replicated, fault_holds_past}
-use Rattle.log_model.specs.Sound.{IsSound}
 use Rattle.master_state.specs.Data.{MasterData}
 use Rattle.master_state.specs.Log.{log_of, memory_of}
 use Rattle.master_commands.proofs.AllPushed.{all_durable}
@@ -11,7 +10,6 @@ use Rattle.master_state.proofs.Finding.{indexed}
 use Rattle.master.specs.Invariant.{IsWellKept}
 use Rattle.master.specs.Valid.{IsValid}
 use Rattle.master.proofs.LogSets.{imaged}
-use Rattle.master.proofs.Unraised.{own_least}
 
 pub valid : (d : MasterData) (f : FleetState) → IsWellKept d f → IsValid d f
 valid d f kept = record {
@@ -22,9 +20,8 @@ valid d f kept = record {
   safe = kept.core.index.safe;
   imaged = imaged d kept.core;
   budget = kept.core.budget;
-  sound = subst (λ (n : ℕ). IsSound (log_of d) (record { holds = f.picture; least = n }))
-      (sym (own_least d.config.master f kept.least))
-      (fault_is_sound (log_of d) (memory_of d) kept.before f.picture kept.holds kept.now);
+  sound = fault_is_sound (log_of d) (memory_of d) kept.before (shown_of f d.config.master) kept.holds kept.now
+      (let own = kept.least in omega arith);
   least = kept.least;
   covered = fault_is_covered (log_of d) (memory_of d) kept.before f.picture kept.holds kept.now;
   durable = record {

@@ -1,5 +1,5 @@
--- Where victims and the survivor of an open pass are in the log.
-use Rattle.std.proofs.Common.{◌≡◌, ℕ, ◌<◌, true, false, inl, inr, [], ◌∷◌, sym, subst, ◌∙◌}
+-- Where victims and survivors of an open pass are in the log.
+use Rattle.std.proofs.Common.{◌≡◌, ℕ, ◌<◌, true, [], ◌∷◌, sym, subst, ◌∙◌}
 use Rattle.std.specs.Prelude.{Option, Some, None, IfSome}
 use Rattle.cleaner.specs.declared.pass.Pass.{Pass as OpenPass}
 use Rattle.entry.specs.Bag.{IsAmong}
@@ -36,11 +36,10 @@ module _ (d : MasterData) (core : IsCore d) (s : ℕ) where
   out_of_force : (o : Option OpenPass) → IfSome o (IsOpenPass d) → IsAmong s (survivors_of o)
       → IsAmong s (ids_of (head_of d.head).start) → ⊥
   out_of_force None pass survivor listed = survivor
-  out_of_force (Some p) pass (inl same) listed =
+  out_of_force (Some p) pass survivor listed =
       let there = has_is (ids_of (head_of d.head).start) s listed in
-      let out = subst (λ (z : ℕ). has (ids_of (head_of d.head).start) z ≡ false) same pass.survivor.outside in
+      let out = (pass.survivors.each s survivor).outside in
       cc
-  out_of_force (Some p) pass (inr none) listed = none
 
   -- a survivor is of no digest yet, so it is no head
   pub survivor_outside : IsAmong s (survivors_of d.pass) → IsAmong s (ids_of (head_of d.head).start) → ⊥

@@ -1,6 +1,5 @@
 -- The op that a seal or a free hands to a backup.
-use Rattle.std.specs.Prelude.{◌≡◌, None, Some, slice_get}
-use Rattle.cleaner.specs.declared.pass.Pass.{Pass}
+use Rattle.std.specs.Prelude.{◌≡◌, ℕ, None, Some, slice_get}
 use Rattle.clean_model.specs.Steps.{seal_op, free_op}
 use Rattle.log_model.specs.Data.{IsHomeAt}
 use Rattle.log_model.specs.Ops.{LogOp, op_of}
@@ -11,14 +10,16 @@ use Rattle.master_state.specs.Causes.{seal_refusal, free_refusal}
 use Rattle.master_state.specs.Data.{MasterData}
 use Rattle.master_state.specs.Log.{log_of, memory_of}
 use Rattle.master_state.specs.Steps.{sealed_data, freed_data}
+use Rattle.master_state.specs.Waits.{next_seal}
 use Rattle.master.specs.World.{World}
 
--- The op seals the next replica of the open pass's survivor: its image is written whole to the replica's home.
+-- The op seals the next replica of the survivors of the open pass, which go one after the other: the survivor's image
+-- is written whole to the replica's home.
 pub record IsSealOp (d : MasterData) (o : LogOp) : Type 0 where
-  pub pass : Pass
-  pub opened : d.pass ≡ Some pass
-  pub home : IsHomeAt (log_of d) pass.survivor pass.sealed o.backup
-  pub is : o ≡ seal_op (memory_of d) pass.survivor o.backup
+  pub replica : ℕ
+  pub next : next_seal d ≡ Some (o.segment, replica)
+  pub home : IsHomeAt (log_of d) o.segment replica o.backup
+  pub is : o ≡ seal_op (memory_of d) o.segment o.backup
 
 -- A seal that is accepted: one op, which the fleet took.
 pub record Seals (old : World) (answer : StepAnswer) (new : World) : Type 0 where

@@ -1,7 +1,11 @@
--- What a master that runs needs of the registry.
-use Rattle.std.specs.Prelude.{◌≡◌, ◌≤◌, ℕ}
+-- What masters need of the registry.
+use Rattle.std.specs.Prelude.{◌≡◌, ◌<◌, ℕ}
 use Rattle.replica.specs.Picture.{FleetState}
 
--- Any head of the master may be used, and any of a master with a greater number.
-pub record IsUnraised (master : ℕ) (f : FleetState) : Type 0 where
-  pub least : (m : ℕ) → master ≤ m → f.least m ≡ 0
+-- any head of the master may be used
+abbrev pub IsUnraised : ℕ → FleetState → Type 0
+IsUnraised master f = f.least master ≡ 0
+
+-- any head may be used of each master with a greater number
+abbrev pub AreUnraisedAbove : ℕ → FleetState → Type 0
+AreUnraisedAbove number f = (m : ℕ) → number < m → f.least m ≡ 0

@@ -46,7 +46,7 @@ pub record IsValid (d : MasterData) (f : FleetState) : Type 0 where
   pub budget : used_seglets d ≤ d.config.seglets
   -- whatever backups are left, they hold a prefix that has each durable command, or a loss is named
   pub sound : IsSound (log_of d) (shown_of f d.config.master)
-  -- any head of the master may be used, and any of a later one
+  -- any head of the master may be used
   pub least : IsUnraised d.config.master f
   -- memory and the replicas of the log hold the map
   pub covered : IsCovered (log_of d) (memory_of d) f.picture

@@ -14,8 +14,9 @@ use master_core::{Chooses, Cleans, Measures, Refusal, Step, StepAnswer};
 use replica::{Act, Fleet, Op};
 
 impl<F: Fleet> Master<F> {
-    /// The segments that keep the fewest bytes, as many as fit one survivor, and at most 8; of as many bytes the lowest
-    /// number first. They are of the digest in force, and no heads. Nothing changes.
+    /// The victims of the next pass: the segments that keep the fewest bytes, of as many bytes the lowest number first.
+    /// They are at most 32, and as many as fill four survivors or as there is memory for. They are of the digest in
+    /// force, and no heads. Nothing changes.
     pub fn choose(&self) -> Result<Vec<u64>, NoMemory>
         ensures { IfOk result (λ ids. ids.items ≡ chosen self.now.knows) }
     {
@@ -59,7 +60,7 @@ impl<F: Fleet> Master<F> {
         self.core.copy()
     }
 
-    /// Seals the next replica of the open pass's survivor.
+    /// Seals the next replica of the open pass's survivors.
     pub(crate) fn seal(&mut self) -> Result<StepAnswer, Refusal>
         ensures accepted { IfOk result (λ a. Accepts (world F.state self.old) Step.Seal a (world F.state self.new)) }
         ensures refused { IfErr result (λ r. Declines (world F.state self.old) Step.Seal r (world F.state self.new)) }
@@ -67,11 +68,11 @@ impl<F: Fleet> Master<F> {
         if self.core.is_halted() {
             return Err(Refusal::Halted);
         }
-        let Some(replica) = self.core.to_seal() else {
+        let Some((survivor, replica)) = self.core.to_seal() else {
             return Err(Refusal::Nothing);
         };
-        let op = self.core.seal_op();
-        let backup = self.core.home(op.segment, replica);
+        let op = self.core.seal_op(survivor);
+        let backup = self.core.home(survivor, replica);
         match self.fleet.take(backup, &op) {
             Ok(()) => {
                 self.core.sealed();

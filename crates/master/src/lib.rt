@@ -24,7 +24,7 @@ pub use history::{CommandRef, History, RecordRef, ReplyRef, ValueRef};
 pub use loading::Loading;
 pub use master::Master;
 pub use master_core::{
-    Config, ConfigFault, Core, KeyHasher, PassFault, Refusal, Secret, Step, StepAnswer,
+    Config, ConfigFault, Core, KeyHasher, PassFault, Refusal, Secret, Step, StepAnswer, Survivors,
 };
 pub use segment::{Segment, SegmentFault, read_segment};
 pub use showing::{Look, Shown};

@@ -65,8 +65,8 @@ impl<F: Fleet> Master<F> {
 }
 
 impl<F: Fleet> Loading<F> {
-    /// Makes the index as large as it is to be for so many objects, as far as memory is given: it then doesn't grow while
-    /// they are loaded. Nothing else changes, and an index that has a key stays as it is.
+    /// Makes the index as large as it is to be for so many objects, as far as memory is given: it then doesn't grow
+    /// while they are loaded. Nothing else changes, and an index that has a key stays as it is.
     pub fn presize(&mut self, objects: usize)
         ensures { self.new ≡ self.old }
     {

@@ -37,7 +37,8 @@ pub(crate) fn push_for<F: Fleet>(
 ) -> Result<bool, Refusal>
     requires within { place < length core.old.history }
     requires served { IsServed core.old (F.state fleet.old) }
-    ensures gives { PushesFor place (world_of core.old (F.state fleet.old)) result (world_of core.new (F.state fleet.new)) }
+    ensures gives { PushesFor place (world_of core.old (F.state fleet.old)) result
+        (world_of core.new (F.state fleet.new)) }
     ensures served { StaysServed core.old (F.state fleet.old) core.new (F.state fleet.new) }
 {
     let Some(next) = core.next_push_for(place) else {

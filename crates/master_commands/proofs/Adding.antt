@@ -18,7 +18,7 @@ use Rattle.places.specs.declared.place.Place.{Place}
 use Rattle.places.specs.Map.{Places}
 use Rattle.cleaner.specs.declared.pass.Pass.{Pass as OpenPass}
 use Rattle.cleaner.specs.Laws.{KeepsNoMore}
-use Rattle.cleaner.specs.Passes.{images_in, rest_of, kept_left, ids_in as log_ids, IsPass}
+use Rattle.cleaner.specs.Passes.{images_in, rest_of, ids_in as log_ids, IsPass}
 use Rattle.segment.proofs.RowLemmas.{text_of-append}
 use Rattle.versioned_map.specs.declared.command.Command.{Command}
 use Rattle.versioned_map.specs.declared.command.Record.{Record}
@@ -61,7 +61,6 @@ use Rattle.master_state.proofs.Holding.{kept_again}
 use Rattle.master_state.proofs.Naming.{dead_below}
 use Rattle.master_state.proofs.Passing.{GoesOn, goes_on as goes_on_pass, victim_below}
 use Rattle.cleaner.proofs.Ends.{rest_segment}
-use Rattle.cleaner.proofs.Keeping.{kept_no_more}
 use Rattle.master_state.proofs.Refusals.{IsAdmitted, is_admitted, passed_early, unit_fits, unit_open, open_parts}
 
 -- ---- the head with a unit, where there is one
@@ -367,16 +366,14 @@ module _ (d : MasterData) (core : IsCore d) (command : Command) (change : Change
           let same = same_appended d.head (length d.history) unit in record {
             config = refl;
             start = ap (λ (l : Head). l.start) head_then;
-            roll = subst (λ (o : Option Roll). IfSome o (λ (r : Roll). (r.id == p.survivor) ≡ false))
-                (sym same.2) is.survivor.not_new;
+            roll = λ s m. subst (λ (o : Option Roll). IfSome o (λ (r : Roll). (r.id == s) ≡ false))
+                (sym same.2) (is.survivors.each s m).not_new;
             next = omega arith;
             pass = subst (λ (s : List ℕ). IsPass s d.closed p) (sym others_on.seed) is.pass;
-            survivor = refl;
-            rest = refl;
-            left = subst (λ (ids : List ℕ). kept_left ids new (images_in d.closed) rest
-                ≤ kept_left (log_set_ids d) d.index (images_in d.closed) rest)
-                (sym ids_then) (kept_no_more (log_set_ids d) (log_set_ids d) d.index new
-                (images_in d.closed) rest keeps_no_more);
+            victims = λ s m. refl;
+            survivors = λ s m. refl;
+            keeps = subst (λ (ids : List ℕ). KeepsNoMore (log_set_ids d) ids d.index new (images_in d.closed) rest)
+                (sym ids_then) keeps_no_more;
             live = λ k q finds victim. others_on.found_on k q (λ same. not_victim q victim same) finds;
             free = λ early. (let used = used_then in omega arith);
             listed = λ early. (let ids = ap (λ (l : List ℕ). length l) newest_then in omega arith);

@@ -324,7 +324,7 @@ pub rolling_bare : (d : MasterData) → IsBare d → IsBare (rolling_data d)
 rolling_bare d is = record {
   history = is.history;
   pass = ap (λ (o : Option OpenPass). option_map (λ (p : OpenPass). record p
-      { is_committing = is_ready_pass d.config.replicas p }) o) is.pass;
+      { is_committing = is_ready_pass p }) o) is.pass;
   waiting = is.waiting;
 }
 

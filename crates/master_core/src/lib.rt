@@ -3,7 +3,7 @@
 //! does to it, and how it is loaded) and `master_space` (rolls, compaction and cleaning).
 #![tactic(auto)]
 
-pub use cleaner::PassFault;
+pub use cleaner::{PassFault, Survivors};
 pub use hash_index::Place;
 pub use master_commands::{Commands, Loads, loading_goes_on};
 pub use master_space::{Chooses, Cleans, Compacts, Measures, Rolls};

@@ -4,8 +4,10 @@ use Rattle.std.proofs.Common.{sym, ap, subst, ◌∙◌, arith}
 use Rattle.std.specs.Prelude.{Option, Some, None, IfSome, ◌==◌, ◌^◌, ◌||◌}
 use Rattle.std.specs.Option.{option_map, option_to_list}
 use Rattle.cleaner.specs.declared.pass.Pass.{Pass}
-use Rattle.cleaner.specs.Passes.{images_in, rest_of, kept_left, is_ready as is_ready_pass}
+use Rattle.cleaner.specs.KeptLengths.{HasRoomsIn}
+use Rattle.cleaner.specs.Passes.{images_in, survivor_ids, is_ready as is_ready_pass}
 use Rattle.cleaner.proofs.Ends.{rest_segment}
+use Rattle.cleaner.proofs.RoomLaws.{rooms_stay}
 use Rattle.compactor.specs.Kept.{has_id}
 use Rattle.entry.specs.declared.entry.Entry.{Entry}
 use Rattle.entry.specs.declared.entry.Entry.TheVariants as entry
@@ -25,14 +27,14 @@ use Rattle.std.proofs.Math.Nat.{mul-div-le}
 use Rattle.std.proofs.lemmas.List.{length-append}
 use Rattle.master_state.specs.Budget.{most_segments, used_seglets, survivors_of}
 use Rattle.master_state.specs.Data.{MasterData}
-use Rattle.master_state.specs.Invariant.{IsOpenPass, IsCore, IsSpare, NameBelow, listed_now}
+use Rattle.master_state.specs.Invariant.{IsOpenPass, IsSurvivor, IsCore, IsSpare, NameBelow, listed_now}
 use Rattle.master_state.specs.Log.{images_of, log_set_ids, find, state_now}
 use Rattle.master_state.proofs.Finding.{each_among, index_again, index_of}
 use Rattle.master_state.proofs.Imaging.{ids_in, other_id, rolled_grow}
 use Rattle.master_state.proofs.Indexing.{Grow, found_grown}
 use Rattle.master_state.proofs.LogIds.{no_segment, no_next, older_image}
 use Rattle.master_state.proofs.Passing.{victim_below}
-use Rattle.master_space.proofs.Placed.{closed_each, left_less}
+use Rattle.master_space.proofs.Placed.{closed_each, no_more}
 use Rattle.master_state.proofs.Refusals.{sizes_of}
 
 -- the next head of a core
@@ -41,7 +43,8 @@ next_with d ids lens = record { id = d.next; others = ids; lens = lens; safe = d
 
 -- a core that rolls to a head which lists these ids with these lengths, with this pass
 abbrev pub begun : MasterData → List ℕ → Option (List ℕ) → Option Pass → MasterData
-begun d ids lens o = record d { head = with_roll d.head d.config.master (next_with d ids lens); next = d.next + 1; pass = o }
+begun d ids lens o =
+    record d { head = with_roll d.head d.config.master (next_with d ids lens); next = d.next + 1; pass = o }
 
 -- an id more in the log set is none below it
 one_more : (xs : List ℕ) (h : ℕ) (o : Option Roll) (next z : ℕ) → o ≡ None → z < next
@@ -77,37 +80,45 @@ module _ (d : MasterData) (core : IsCore d) (ids : List ℕ) (lens : Option (Lis
 
   -- ---- an open pass
 
-  pub left_then : (p : Pass) → IsOpenPass d p
-      → kept_left (log_set_ids e) d.index (images_in d.closed) (rest_of (images_in d.closed) p)
-      ≤ kept_left (log_set_ids d) d.index (images_in d.closed) (rest_of (images_in d.closed) p)
-  left_then p opens =
-      left_less (log_set_ids d) (log_set_ids e) d.index (images_in d.closed)
+  rooms_then : (p : Pass) → IsOpenPass d p → HasRoomsIn d.config.segment (log_set_ids e) p d.closed d.index
+  rooms_then p opens =
+      rooms_stay d.config.segment (log_set_ids d) (log_set_ids e) p d.closed d.closed d.index d.index
+      (λ s m. refl) (λ s m. refl)
+      (no_more (log_set_ids d) (log_set_ids e) d.index (images_in d.closed)
       (closed_each d.closed core.segments) p d.next
       (λ q t m stands. (let lt = victim_below d core p opens q.segment (rest_segment (images_in d.closed) p q m) in
       core.named q.segment t (subst (λ (image : List Entry). IsAmong (entry.Tombstone t) image)
       (sym (older_image d core q.segment lt)) stands)))
-      (λ z lt is. one_more (ids_in d.closed) d.head.id d.head.roll d.next z none lt is)
+      (λ z lt is. one_more (ids_in d.closed) d.head.id d.head.roll d.next z none lt is))
+      opens.rooms
 
-  pub pass_then : (p : Pass) (b : Bool) → IsOpenPass d p → (b ≡ false → IsSpare e (length p.victims))
-      → (b ≡ true → is_ready_pass d.config.replicas p ≡ true) → IsOpenPass e (record p { is_committing = b })
+  survivor_then : (p : Pass) → IsOpenPass d p → (s : ℕ) → IsAmong s (survivor_ids p.survivors) → IsSurvivor e s
+  survivor_then p opens s m =
+      let is = opens.survivors.each s m in record {
+        outside = is.outside;
+        not_new = (let lt = is.used in other_id d.next s (λ same. omega arith));
+        used = (let lt = is.used in omega arith);
+        begins = is.begins;
+        within = is.within;
+      }
+
+  pub pass_then : (p : Pass) (b : Bool) → IsOpenPass d p
+      → (b ≡ false → IsSpare e (length p.victims) p.survivors.count)
+      → (b ≡ true → is_ready_pass p ≡ true) → IsOpenPass e (record p { is_committing = b })
   pass_then p b opens spare ready = record {
     pass = (let is = opens.pass in record {
       victims = is.victims;
       whole = is.whole;
+      numbers = is.numbers;
       within = is.within;
       cursor = is.cursor;
     });
     victims = (let is = opens.victims in record { some = is.some; few = is.few; apart = is.apart; older = is.older });
-    survivor = (let is = opens.survivor in record {
-      outside = is.outside;
-      not_new = (let lt = is.used in other_id d.next p.survivor (λ same. omega arith));
-      used = (let lt = is.used in omega arith);
-      begins = is.begins;
-    });
-    fits = (let less = left_then p opens in let fits = opens.fits in omega arith);
+    survivors = (let is = opens.survivors in record { some = is.some; few = is.few; each = survivor_then p opens });
+    rooms = (let is = rooms_then p opens in record { rooms = is.rooms; blank = is.blank });
     sealed = opens.sealed;
     live = λ k q finds victim. opens.live k q (sym (finds_same k) ∙ finds) victim;
-    text = opens.text;
+    unsealed = opens.unsealed;
     spare = spare;
     commits = λ is. (refl, ready is);
   }

@@ -9,10 +9,10 @@ use Rattle.entry.specs.Bag.{IsAmong}
 use Rattle.entry.specs.Text.{text_of, is_data}
 use Rattle.entry.proofs.BagLemmas.{among_image}
 use Rattle.entry.proofs.ListLemmas.{all_among, all_from_among}
-use Rattle.cleaner.specs.declared.pass.Pass.{Pass}
 use Rattle.compactor.specs.Kept.{has_id, kept_of}
 use Rattle.images.specs.Image.{Image}
 use Rattle.images.specs.Sorted.{AreRising, segment_of}
+use Rattle.clean_model.proofs.KeptEntries.{is_has, has_is}
 use Rattle.log_head.specs.declared.head.Roll.{Roll}
 use Rattle.log_head.specs.Log.{head_of}
 use Rattle.log_head.proofs.RollLog.{digest_is}
@@ -22,10 +22,12 @@ use Rattle.master_state.specs.Budget.{survivors_of}
 use Rattle.master_state.specs.Causes.{is_head}
 use Rattle.master_space.specs.Choosing.{placed, sorted, older_ids, kept_bytes, candidates}
 use Rattle.master_state.specs.Data.{MasterData}
-use Rattle.master_state.specs.Invariant.{IsCore, IsRollOf, IsOpenPass}
+use Rattle.master_state.specs.Invariant.{IsCore, IsRollOf}
 use Rattle.master_state.specs.Log.{log_set_ids, images_of}
 use Rattle.master_state.proofs.Imaging.{same_id, other_id}
-use Rattle.master_state.proofs.Naming.{among_inserted}
+use Rattle.master_state.proofs.LogIds.{apart}
+use Rattle.master_state.proofs.Rising.{has_all}
+use Rattle.master_space.proofs.FreeVictims.{has_id_is}
 use Rattle.master_space.proofs.Ordering.{best_placed}
 use Rattle.master_space.proofs.PassIds.{IsNotNew, closed_only, others, others_below}
 
@@ -36,14 +38,14 @@ abbrev pub candidate_of : MasterData → Image → Candidate
 candidate_of d c =
     record { id = c.id; kept = length (text_of (filter is_data (kept_of (log_set_ids d) d.index c.id c.segment))) }
 
--- the candidates among some closed segments: all but the survivor
+-- the candidates among some closed segments: all but the survivors
 abbrev pub of_images : MasterData → List Image → List Candidate
 of_images d [] = []
 of_images d (c ∷ cs) = if has_id (survivors_of d.pass) c.id then of_images d cs else candidate_of d c ∷ of_images d cs
 
 -- the best of those from a place on
 abbrev pub best_from : MasterData → List Image → ℕ → List Candidate
-best_from d cs i = take 8 (sorted (of_images d (drop i cs)))
+best_from d cs i = take 32 (sorted (of_images d (drop i cs)))
 
 -- one more of them, a place before
 module _ (d : MasterData) (cs : List Image) (i : ℕ) (z : Image) (lt : i < length cs) where
@@ -55,21 +57,21 @@ module _ (d : MasterData) (cs : List Image) (i : ℕ) (z : Image) (lt : i < leng
 
   best_passed : has_id (survivors_of d.pass) c.id ≡ true → best_from d cs (i + 1) ≡ best_from d cs i
   best_passed is =
-      ap (λ (b : Bool). take 8 (sorted (cond b (of_images d (drop (i + 1) cs))
+      ap (λ (b : Bool). take 32 (sorted (cond b (of_images d (drop (i + 1) cs))
       (candidate_of d c ∷ of_images d (drop (i + 1) cs))))) (sym is)
-      ∙ ap (λ (xs : List Image). take 8 (sorted (of_images d xs))) (sym split)
+      ∙ ap (λ (xs : List Image). take 32 (sorted (of_images d xs))) (sym split)
 
-  best_with : has_id (survivors_of d.pass) c.id ≡ false → take 8 (placed (candidate_of d c) (best_from d cs (i + 1)))
+  best_with : has_id (survivors_of d.pass) c.id ≡ false → take 32 (placed (candidate_of d c) (best_from d cs (i + 1)))
       ≡ best_from d cs i
   best_with isnt =
-      best_placed 8 (candidate_of d c) (sorted (of_images d (drop (i + 1) cs)))
-      ∙ ap (λ (b : Bool). take 8 (sorted (cond b (of_images d (drop (i + 1) cs))
+      best_placed 32 (candidate_of d c) (sorted (of_images d (drop (i + 1) cs)))
+      ∙ ap (λ (b : Bool). take 32 (sorted (cond b (of_images d (drop (i + 1) cs))
       (candidate_of d c ∷ of_images d (drop (i + 1) cs))))) (sym isnt)
-      ∙ ap (λ (xs : List Image). take 8 (sorted (of_images d xs))) (sym split)
+      ∙ ap (λ (xs : List Image). take 32 (sorted (of_images d xs))) (sym split)
 
 -- nothing is taken at the end
 pub best_end : (d : MasterData) (cs : List Image) → best_from d cs (length cs) ≡ []
-best_end d cs = ap (λ (xs : List Image). take 8 (sorted (of_images d xs))) (none_left cs) where
+best_end d cs = ap (λ (xs : List Image). take 32 (sorted (of_images d xs))) (none_left cs) where
   none_left : (xs : List Image) → drop (length xs) xs ≡ []
   none_left [] = refl
   none_left (x ∷ xs) = none_left xs
@@ -86,9 +88,9 @@ module _ (d : MasterData) (cs : List Image) (n : ℕ) (z : Image) (some : 0 < n)
       ∙ best_passed d cs (n - 1) z (omega arith) (subst (λ (x : Image). has_id (survivors_of d.pass) x.id ≡ true) at is)
 
   pub walk_placed : (x : Candidate) → x ≡ candidate_of d z → has_id (survivors_of d.pass) z.id ≡ false
-      → take 8 (placed x (best_from d cs n)) ≡ best_from d cs (n - 1)
+      → take 32 (placed x (best_from d cs n)) ≡ best_from d cs (n - 1)
   walk_placed x is isnt =
-      (λ i. take 8 (placed ((is ∙ ap (candidate_of d) at) i) (best_from d cs (sym again i))))
+      (λ i. take 32 (placed ((is ∙ ap (candidate_of d) at) i) (best_from d cs (sym again i))))
       ∙ best_with d cs (n - 1) z (omega arith) (subst (λ (y : Image). has_id
       (survivors_of d.pass) y.id ≡ false) at isnt)
 
@@ -106,78 +108,63 @@ each_found (c ∷ cs) rising = (
       rw away found)),
 )
 
--- ids without the survivor's
-module _ (s : ℕ) where
-  abbrev test : ℕ → Bool
-  test id = not (has_id (s ∷ []) id)
-
-  or_false : (t : Bool) → (t || false) ≡ t
-  or_false true = refl
-  or_false false = refl
-
-  none_out : (ids : List ℕ) → has ids s ≡ false → filter (λ (id : ℕ). not (has_id (s ∷ []) id)) ids ≡ ids
-  none_out [] out = refl
-  none_out (z ∷ ids) out = go (z == s) refl out (none_out ids)
+-- ids without the survivors'
+module _ (stays : ℕ → Bool) where
+  one_out : (s : ℕ) (ids : List ℕ) → stays s ≡ false → filter stays (inserted s ids) ≡ filter stays ids
+  one_out s [] goes = ap (λ (b : Bool). cond b (s ∷ []) []) goes
+  one_out s (z ∷ ids) goes = go (nat_lt s z) (one_out s ids goes)
     where
-      go : (t : Bool) → (z == s) ≡ t → (t || has ids s) ≡ false
-          → (has ids s ≡ false → filter (λ (id : ℕ). not (has_id (s ∷ []) id)) ids ≡ ids)
-          → filter (λ (id : ℕ). not (has_id (s ∷ []) id)) (z ∷ ids) ≡ z ∷ ids
-      go true is never rest = absurd (cc)
-      go false is later rest =
-          let away : (s == z) ≡ false = other_id s z (λ same. (
-          let own = same_id z in let here : (z == s) ≡ true = ap (λ (x : ℕ). z == x) same ∙ own in cc)) in
-          rw away (ap (λ (xs : List ℕ). z ∷ xs) (rest later))
+      go : (b : Bool) → filter stays (inserted s ids) ≡ filter stays ids
+          → filter stays (cond b (s ∷ z ∷ ids) (z ∷ inserted s ids)) ≡ filter stays (z ∷ ids)
+      go true later = ap (λ (t : Bool). cond t (s ∷ filter stays (z ∷ ids)) (filter stays (z ∷ ids))) goes
+      go false later = ap (λ (zs : List ℕ). cond (stays z) (z ∷ zs) zs) later
 
-  pub survivor_out : (ids : List ℕ) → has ids s ≡ false → filter (λ (id : ℕ). not (has_id (s ∷ []) id))
-      (inserted s ids) ≡ ids
-  survivor_out [] out = let own = same_id s in rw own refl
-  survivor_out (z ∷ ids) out = go (nat_lt s z) (survivor_out ids)
-    where
-      front : filter (λ (id : ℕ). not (has_id (s ∷ []) id)) (s ∷ z ∷ ids) ≡ z ∷ ids
-      front = let own = same_id s in rw own (none_out (z ∷ ids) out)
+  more_out : (more ids : List ℕ) → ((s : ℕ) → IsAmong s more → stays s ≡ false)
+      → filter stays (all_inserted more ids) ≡ filter stays ids
+  more_out [] ids go = refl
+  more_out (s ∷ more) ids go =
+      one_out s (all_inserted more ids) (go s (inl refl)) ∙ more_out more ids (λ x m. go x (inr m))
 
-      later : (z == s) ≡ false → has ids s ≡ false → filter (λ (id : ℕ). not (has_id (s ∷ []) id))
-          (inserted s ids) ≡ ids
-          → filter (λ (id : ℕ). not (has_id (s ∷ []) id)) (z ∷ inserted s ids) ≡ z ∷ ids
-      later isnt out rest =
-          let away : (s == z) ≡ false = other_id s z (λ same. (
-          let own = same_id z in let here : (z == s) ≡ true = ap (λ (x : ℕ). z == x) same ∙ own in cc)) in
-          rw away (ap (λ (xs : List ℕ). z ∷ xs) rest)
+  all_stay : (ids : List ℕ) → ((s : ℕ) → IsAmong s ids → stays s ≡ true) → filter stays ids ≡ ids
+  all_stay [] stay = refl
+  all_stay (z ∷ ids) stay =
+      ap (λ (b : Bool). cond b (z ∷ filter stays ids) (filter stays ids)) (stay z (inl refl))
+      ∙ ap (λ (zs : List ℕ). z ∷ zs) (all_stay ids (λ s m. stay s (inr m)))
 
-      parts : (t : Bool) → (z == s) ≡ t → (t || has ids s) ≡ false → ((z == s) ≡ false) × (has ids s ≡ false)
-      parts true is never = absurd (cc)
-      parts false is out = (is, out)
+among_has : (ids : List ℕ) (s : ℕ) → IsAmong s ids → has_id ids s ≡ true
+among_has ids s m = has_id_is ids s ∙ has_is ids s m
 
-      go : (b : Bool) → (has ids s ≡ false → filter (λ (id : ℕ). not (has_id (s ∷ []) id)) (inserted s ids) ≡ ids)
-          → filter (λ (id : ℕ). not (has_id (s ∷ []) id)) (cond b (s ∷ z ∷ ids) (z ∷ inserted s ids)) ≡ z ∷ ids
-      go true rest = front
-      go false rest = let both = parts (z == s) refl out in later both.0 both.1 (rest both.1)
+-- none of the survivors is one of the others
+not_both : (more ids : List ℕ) → ((s : ℕ) → IsAmong s more → has ids s ≡ false) → (s : ℕ) → IsAmong s ids
+    → has_id more s ≡ false
+not_both more ids out s m = go (has_id more s) refl
+  where
+    go : (b : Bool) → has_id more s ≡ b → b ≡ false
+    go false is = refl
+    go true is =
+        let there = is_has more s (sym (has_id_is more s) ∙ is) in
+        let never : false ≡ true = sym (out s there) ∙ sym (has_id_is ids s) ∙ among_has ids s m in
+        absurd (cc)
 
-all_stay : (ids : List ℕ) → filter (λ (id : ℕ). not (has_id [] id)) ids ≡ ids
-all_stay [] = refl
-all_stay (z ∷ ids) = ap (λ (xs : List ℕ). z ∷ xs) (all_stay ids)
+survivors_out : (more ids : List ℕ) → ((s : ℕ) → IsAmong s more → has ids s ≡ false)
+    → filter (λ (id : ℕ). not (has_id more id)) (all_inserted more ids) ≡ ids
+survivors_out more ids out =
+    more_out (λ (id : ℕ). not (has_id more id)) more ids (λ s m. ap (λ (b : Bool). not b) (among_has more s m))
+    ∙ all_stay (λ (id : ℕ). not (has_id more id)) ids (λ s m. ap (λ (b : Bool). not b) (not_both more ids out s m))
+
+-- what is there but is no survivor is one of the others
+among_rest : (more ids : List ℕ) (s : ℕ) → IsAmong s (all_inserted more ids) → has_id more s ≡ false → IsAmong s ids
+among_rest more ids s m away =
+    is_has ids s (sym (ap (λ (b : Bool). b || has ids s) (sym (has_id_is more s) ∙ away)) ∙ sym (has_all more ids s)
+    ∙ sym (has_id_is (all_inserted more ids) s) ∙ among_has (all_inserted more ids) s m)
 
 module _ (d : MasterData) (core : IsCore d) (rising : AreRising d.closed) where
-  -- the closed segments but the survivor are the older ones of the digest
+  -- the closed segments but the survivors are the older ones of the digest
   closed_others : filter (λ (id : ℕ). not (has_id (survivors_of d.pass) id))
       (map (λ (c : Image). c.id) d.closed) ≡ others d core
-  closed_others = ap (filter (λ (id : ℕ). not (has_id (survivors_of d.pass) id))) core.closed
-      ∙ go d.pass core.pass where
-        go : (o : Option Pass) → IfSome o (IsOpenPass d)
-            → filter (λ (id : ℕ). not (has_id (survivors_of o) id))
-            (all_inserted (survivors_of o) (others d core)) ≡ others d core
-        go None opened = all_stay (others d core)
-        go (Some p) opened = survivor_out p.survivor (others d core)
-            (front (others d core) opened.survivor.outside) where
-              front : (ids : List ℕ) → has (ids ++ (head_of d.head).start.id ∷ []) p.survivor ≡ false
-                  → has ids p.survivor ≡ false
-              front [] out = refl
-              front (z ∷ ids) out = by (z == p.survivor) out (front ids) where
-                by : (t : Bool) → (t || has (ids ++ (head_of d.head).start.id ∷ []) p.survivor) ≡ false
-                    → (has (ids ++ (head_of d.head).start.id ∷ []) p.survivor ≡ false → has ids p.survivor ≡ false)
-                    → (t || has ids p.survivor) ≡ false
-                by true out rest = absurd (cc)
-                by false out rest = rest out
+  closed_others =
+      ap (filter (λ (id : ℕ). not (has_id (survivors_of d.pass) id))) core.closed
+      ∙ survivors_out (survivors_of d.pass) (others d core) (λ s m. (apart d core s m).0)
 
   no_head : (s : ℕ) → s < d.head.id → is_head d.head s ≡ false
   no_head s lt = let away : (d.head.id == s) ≡ false = other_id d.head.id s (λ same. omega arith) in
@@ -206,30 +193,16 @@ module _ (d : MasterData) (core : IsCore d) (rising : AreRising d.closed) where
       front (z ∷ ids) all =
           let away = no_head z all.0 in rw away (ap (λ (xs : List ℕ). z ∷ xs) (front ids all.1))
 
-  -- what memory has of a segment that isn't the survivor
+  -- what memory has of a segment that is no survivor
   kept_is : (c : Image) → IsAmong c d.closed → has_id (survivors_of d.pass) c.id ≡ false
       → kept_bytes d c.id ≡ (candidate_of d c).kept
   kept_is c m away =
       ap (λ (es : List Entry). length (text_of (filter is_data (kept_of (log_set_ids d) d.index c.id es)))) image
     where
-      among_older : (o : Option Pass) → IsAmong c.id (all_inserted (survivors_of o) (others d core))
-          → has_id (survivors_of o) c.id ≡ false
-          → IsAmong c.id (others d core)
-      among_older None among away = among
-      among_older (Some p) among away = elim (among_inserted p.survivor c.id
-          (others d core) among) as (λ _. IsAmong c.id (others d core)) [
-            | inl same ↦ (
-                let own = same_id c.id in
-                let here : (p.survivor == c.id) ≡ true = ap (λ (z : ℕ). z == c.id) same ∙ own in
-                let there : has_id (p.survivor ∷ []) c.id ≡ true = rw here refl in
-                absurd (cc))
-            | inr older ↦ older
-          ]
-
       below : c.id < d.head.id
       below =
           all_among (λ (id : ℕ). id < d.head.id) (others d core) c.id (others_below d core)
-          (among_older d.pass
+          (among_rest (survivors_of d.pass) (others d core) c.id
           (subst (λ (ids : List ℕ). IsAmong c.id ids) core.closed
           (among_image (λ (x : Image). x.id) d.closed c m)) away)
 

@@ -1,13 +1,13 @@
 -- The roll of a commit ends, and its pass with it: what a core keeps.
 use Rattle.std.proofs.Common.{◌≡◌, ℕ, ◌<◌, ◌≤◌, Bool, true, false, List, [], ◌∷◌, length, refl, sym, ap, subst, ◌∙◌}
 use Rattle.std.proofs.Common.{arith}
-use Rattle.std.specs.Prelude.{Option, Some, None, IfSome, ◌==◌, ◌%◌, unwrap_or, sum_by, if◌then◌else◌}
+use Rattle.std.specs.Prelude.{Option, Some, None, ◌==◌, unwrap_or, if◌then◌else◌}
 use Rattle.std.specs.List.{AllByRecursion}
 use Rattle.std.specs.Option.{option_map}
-use Rattle.std.proofs.lemmas.Bool.{eqb-true, and_parts}
-use Rattle.std.proofs.lemmas.List.Sums.{sum_by-cons}
+use Rattle.std.proofs.lemmas.Bool.{and_parts}
 use Rattle.cleaner.specs.declared.pass.Pass.{Pass}
-use Rattle.cleaner.specs.Passes.{images_in, rest_of, AreVictims as AreOlder}
+use Rattle.cleaner.specs.Passes.{images_in, survivor_ids, rest_of, AreVictims as AreOlder}
+use Rattle.cleaner.proofs.SurvivorIds.{among_ids}
 use Rattle.cleaner.proofs.Ends.{end_none}
 use Rattle.compactor.specs.Places.{LiesAt, object_in, keys_in}
 use Rattle.entry.specs.declared.entry.Entry.{Entry}
@@ -15,6 +15,7 @@ use Rattle.entry.specs.declared.entry.Entry.TheVariants as entry
 use Rattle.entry.specs.declared.entry.Object.{Object}
 use Rattle.entry.specs.declared.key.Key.{Key}
 use Rattle.entry.specs.Bag.{IsAmong}
+use Rattle.entry.proofs.ListLemmas.{all_from_among}
 use Rattle.entry.specs.Meaning.{Versioned, Contents, object_at}
 use Rattle.entry.specs.Text.{text_of, IsSegment}
 use Rattle.places.specs.declared.place.Place.{Place}
@@ -23,16 +24,13 @@ use Rattle.places.specs.Map.{Places, found}
 use Rattle.places.proofs.Words.{kept_again, found_again, HasKey, each_told, all_then}
 use Rattle.images.specs.Image.{Image}
 use Rattle.images.specs.Images.{count_of}
-use Rattle.images.specs.Sorted.{segment_of, changed}
-use Rattle.images.specs.Steps.{trimmed}
-use Rattle.images.proofs.Counts.{within_whole}
-use Rattle.images.proofs.Finding.{ids_changed}
+use Rattle.images.specs.Sorted.{segment_of}
 use Rattle.log_head.specs.declared.head.Roll.{Roll}
 use Rattle.log_head.specs.Head.{IsHeadValue}
 use Rattle.log_head.specs.Log.{head_of, start_of}
 use Rattle.log_head.specs.Steps.{in_force}
 use Rattle.log_model.specs.Data.{ids_of}
-use Rattle.log_model.specs.Ids.{has, inserted, all_inserted, without}
+use Rattle.log_model.specs.Ids.{has, all_inserted, without}
 use Rattle.master_state.specs.Budget.{used_seglets, survivors_of}
 use Rattle.master_state.specs.Data.{MasterData}
 use Rattle.master_state.specs.Images.{new_image_or, staying}
@@ -48,69 +46,8 @@ use Rattle.master_space.proofs.Leaving.{staying_ids, staying_all, staying_sum, s
 use Rattle.master_state.proofs.LogIds.{rises, apart}
 use Rattle.master_state.proofs.Passing.{has_among, victim_below}
 use Rattle.master_state.proofs.Refusals.{sizes_of}
-use Rattle.master_state.proofs.Rising.{Rise, has_not, rise_put, rise_left, without_put}
-
--- ---- the survivor is trimmed
-
-trimmed_segment : (cs : List Image) (id s : ℕ) → segment_of (changed cs id trimmed) s ≡ segment_of cs s
-trimmed_segment [] id s = refl
-trimmed_segment (c ∷ cs) id s = go (c.id == id) refl (c.id == s) refl (trimmed_segment cs id s) where
-  go : (t : Bool) → (c.id == id) ≡ t → (u : Bool) → (c.id == s) ≡ u
-      → segment_of (changed cs id trimmed) s ≡ segment_of cs s
-      → segment_of (changed (c ∷ cs) id trimmed) s ≡ segment_of (c ∷ cs) s
-  go true is true here later = rw (is, here) refl
-  go true is false away later = rw (is, away) later
-  go false is true here later = rw (is, here) refl
-  go false is false away later = rw (is, away) later
-
-trimmed_all : (cs : List Image) (id : ℕ) → AllByRecursion (λ (c : Image). IsSegment c.segment) cs
-    → AllByRecursion (λ (c : Image). IsSegment c.segment) (changed cs id trimmed)
-trimmed_all [] id all = tt
-trimmed_all (c ∷ cs) id all = go (c.id == id) refl (trimmed_all cs id all.1) where
-  go : (t : Bool) → (c.id == id) ≡ t → AllByRecursion (λ (x : Image). IsSegment x.segment) (changed cs id trimmed)
-      → AllByRecursion (λ (x : Image). IsSegment x.segment) (changed (c ∷ cs) id trimmed)
-  go true is later = rw is (all.0, later)
-  go false is later = rw is (all.0, later)
-
-trimmed_none : (cs : List Image) (id : ℕ) → AllByRecursion (λ (z : ℕ). id < z) (ids_in cs) → changed cs id trimmed ≡ cs
-trimmed_none [] id all = refl
-trimmed_none (c ∷ cs) id all =
-    let lt = all.0 in
-    let away = other_id c.id id (λ (same : c.id ≡ id). omega arith) in
-    rw away (ap (λ (xs : List Image). c ∷ xs) (trimmed_none cs id all.1))
-
--- it counts no more than before
-module _ (segment seglet : ℕ) (some : 0 < seglet) (multiple : segment % seglet ≡ 0) where
-  trimmed_count : (c : Image) → length (text_of c.segment) ≤ segment
-      → count_of segment seglet (trimmed c) ≤ count_of segment seglet c
-  trimmed_count c le = go c.is_whole refl where
-    go : (t : Bool) → c.is_whole ≡ t → count_of segment seglet (trimmed c) ≤ count_of segment seglet c
-    go true is = rw is (within_whole segment seglet (length (text_of c.segment)) some multiple le)
-    go false is = rw is (omega arith)
-
-  trimmed_sum : (cs : List Image) (id : ℕ) → Rise (ids_in cs) → length (text_of (images_in cs id)) ≤ segment
-      → sum_by (count_of segment seglet) (changed cs id trimmed) ≤ sum_by (count_of segment seglet) cs
-  trimmed_sum [] id rise le = omega arith
-  trimmed_sum (c ∷ cs) id rise le = go (c.id == id) refl (trimmed_sum cs id rise.1) where
-    go : (t : Bool) → (c.id == id) ≡ t
-        → (length (text_of (images_in cs id)) ≤ segment → sum_by (count_of segment seglet) (changed cs id trimmed)
-        ≤ sum_by (count_of segment seglet) cs)
-        → sum_by (count_of segment seglet) (changed (c ∷ cs) id trimmed) ≤ sum_by (count_of segment seglet) (c ∷ cs)
-    go true is later =
-        let own : length (text_of c.segment) ≤ segment = rw is at le in
-        let less = trimmed_count c own in
-        let same : c.id ≡ id = eqb-true c.id id is in
-        let above = subst (λ (n : ℕ). AllByRecursion (λ (z : ℕ). n < z) (ids_in cs)) same rise.0 in
-        let rest : changed cs id trimmed ≡ cs = trimmed_none cs id above in
-        let whole = sum_by-cons (count_of segment seglet) c cs in
-        let after = sum_by-cons (count_of segment seglet) (trimmed c) cs in
-        rw (is, rest) (omega arith)
-    go false is later =
-        let rest : length (text_of (images_in cs id)) ≤ segment = rw is at le in
-        let less = later rest in
-        let whole = sum_by-cons (count_of segment seglet) c cs in
-        let after = sum_by-cons (count_of segment seglet) c (changed cs id trimmed) in
-        rw is (omega arith)
+use Rattle.master_state.proofs.Rising.{Rise, AreOut, has_not, rise_range, rise_all, rise_left, without_all}
+use Rattle.master_space.proofs.Trimming.{trimmed_ids, trimmed_segment, trimmed_all, each_found, trimmed_sum}
 
 -- ---- an index of images that stay where it leads
 
@@ -154,41 +91,57 @@ module _ (d : MasterData) (core : IsCore d) (r : Roll) (is : d.head.roll ≡ Som
   ready : rest_of (images_in d.closed) p ≡ []
   ready = end_none (images_in d.closed) p (and_parts _ _ (own.commits commits).1).0
 
-  out : d.head.id ≡ p.survivor → ⊥
-  out = (subst (λ (o : Option Pass). IfSome o (λ (q : Pass). (has (head_of d.head).start.others q.survivor ≡ false)
-      × (d.head.id ≡ q.survivor → ⊥))) there
-      (apart d core)).1
+  abbrev survivors : List ℕ
+  survivors = survivor_ids p.survivors
 
-  stays : has p.victims p.survivor ≡ false
-  stays = has_not (λ (s : ℕ). s < p.survivor) p.victims p.survivor (each p.victims own.pass.victims)
-      (λ lt. omega arith) where
-        each : (vs : List ℕ) → AreOlder d.closed p.survivor vs → AllByRecursion (λ (s : ℕ). s < p.survivor) vs
-        each [] all = tt
-        each (v ∷ vs) all = (all.0.1, each vs all.1)
+  out : (s : ℕ) → IsAmong s survivors → d.head.id ≡ s → ⊥
+  out s m = (apart d core s (subst (λ (o : Option Pass). IsAmong s (survivors_of o)) (sym there) m)).1
 
-  g_ids : ids_in g.closed ≡ inserted p.survivor (ids_of (head_of d.head).start)
+  -- no survivor is a victim
+  stay_out : (s : ℕ) → IsAmong s survivors → has p.victims s ≡ false
+  stay_out s m =
+      let le = (among_ids p.survivors.first p.survivors.count s m).0 in
+      has_not (λ (z : ℕ). z < s) p.victims s (each p.victims le own.pass.victims) (λ lt. omega arith)
+    where
+      each : (vs : List ℕ) → p.survivors.first ≤ s → AreOlder d.closed p.survivors.first vs
+          → AllByRecursion (λ (z : ℕ). z < s) vs
+      each [] le all = tt
+      each (v ∷ vs) le all = (let lt = all.0.1 in (omega arith, each vs le all.1))
+
+  stays : AllByRecursion (λ (s : ℕ). has p.victims s ≡ false) survivors
+  stays = all_from_among (λ (s : ℕ). has p.victims s ≡ false) survivors stay_out
+
+  outside : AreOut survivors (ids_of (head_of d.head).start)
+  outside =
+      all_from_among (λ (s : ℕ). has (ids_of (head_of d.head).start) s ≡ false) survivors
+      (λ s m. (own.survivors.each s m).outside)
+
+  up : Rise survivors
+  up = rise_range p.survivors.first p.survivors.count
+
+  g_ids : ids_in g.closed ≡ all_inserted survivors (ids_of (head_of d.head).start)
   g_ids = closed_ids d core r is ∙ ap (λ (o : Option Pass). all_inserted (survivors_of o)
       (ids_of (head_of d.head).start)) there
 
-  listed_is : (start_of r).others ≡ inserted p.survivor (without p.victims (ids_of (head_of d.head).start))
+  listed_is : (start_of r).others ≡ all_inserted survivors (without p.victims (ids_of (head_of d.head).start))
   listed_is =
       (rolls_of d core r is).lists
       ∙ ap (λ (o : Option Pass). listed_now (record d { pass = o })) there
-      ∙ ap (λ (b : Bool). if b then listed_with d p.victims (p.survivor ∷ [])
+      ∙ ap (λ (b : Bool). if b then listed_with d p.victims survivors
       else ids_of (head_of d.head).start) commits
 
   ids_then : ids_in f.closed ≡ (start_of r).others
   ids_then =
-      ids_changed p.survivor trimmed (λ c. refl) (staying p.victims g.closed)
+      trimmed_ids survivors (staying p.victims g.closed)
       ∙ staying_ids p.victims g.closed
       ∙ ap (without p.victims) g_ids
-      ∙ without_put p.victims p.survivor (ids_of (head_of d.head).start) stays (rises d core)
+      ∙ without_all p.victims survivors (ids_of (head_of d.head).start) stays outside up (rises d core)
       ∙ sym listed_is
 
   -- ---- images
 
   closed_then : (s : ℕ) → segment_of f.closed s ≡ segment_of (staying p.victims g.closed) s
-  closed_then s = trimmed_segment (staying p.victims g.closed) p.survivor s
+  closed_then s = trimmed_segment survivors (staying p.victims g.closed) s
 
   -- a victim has no image any more
   pub image_gone : (s : ℕ) → has p.victims s ≡ true → image_now f s ≡ None
@@ -236,15 +189,17 @@ module _ (d : MasterData) (core : IsCore d) (r : Roll) (is : d.head.roll ≡ Som
 
   -- ---- seglets
 
-  survivor_text : length (text_of (images_in (staying p.victims g.closed) p.survivor)) ≤ d.config.segment
-  survivor_text =
-      let same : images_in (staying p.victims g.closed) p.survivor ≡ images_in d.closed p.survivor =
+  survivor_text : (s : ℕ) (es : List Entry) → has survivors s ≡ true
+      → segment_of (staying p.victims g.closed) s ≡ Some es → length (text_of es) ≤ d.config.segment
+  survivor_text s es has_it found =
+      let m = has_among survivors s has_it in
+      let same : images_in (staying p.victims g.closed) s ≡ images_in d.closed s =
       ap (λ (o : Option Image). unwrap_or (option_map (λ (c : Image). c.segment) o) [])
-      (stays_found p.victims p.survivor g.closed stays)
-      ∙ same_in d core r is p.survivor out in
-      let len = ap (λ (es : List Entry). length (text_of es)) same in
-      let fits = own.fits in
-      omega arith
+      (stays_found p.victims s g.closed (stay_out s m))
+      ∙ same_in d core r is s (out s m) in
+      let image : es ≡ images_in d.closed s =
+      sym (ap (λ (o : Option (List Entry)). unwrap_or o []) found) ∙ same in
+      subst (λ (xs : List Entry). length (text_of xs) ≤ d.config.segment) (sym image) (own.survivors.each s m).within
 
   budget_then : used_seglets f ≤ d.config.seglets
   budget_then =
@@ -253,9 +208,11 @@ module _ (d : MasterData) (core : IsCore d) (r : Roll) (is : d.head.roll ≡ Som
       let rise : Rise (ids_in (staying p.victims g.closed)) =
       subst Rise (sym (staying_ids p.victims g.closed))
       (rise_left p.victims (ids_in g.closed) (subst Rise (sym g_ids)
-      (rise_put p.survivor (ids_of (head_of d.head).start) own.survivor.outside (rises d core)))) in
-      let trim = trimmed_sum d.config.segment d.config.seglet (omega arith) sizes.multiple
-      (staying p.victims g.closed) p.survivor rise survivor_text in
+      (rise_all survivors (ids_of (head_of d.head).start) outside up (rises d core)))) in
+      let trim = trimmed_sum d.config.segment d.config.seglet (omega arith) sizes.multiple survivors
+      (staying p.victims g.closed)
+      (each_found (λ (es : List Entry). length (text_of es) ≤ d.config.segment) survivors
+      (staying p.victims g.closed) rise survivor_text) in
       let less = staying_sum (count_of d.config.segment d.config.seglet) p.victims g.closed in
       let used = closed_used d core r is in
       let budget = core.budget in
@@ -264,6 +221,6 @@ module _ (d : MasterData) (core : IsCore d) (r : Roll) (is : d.head.roll ≡ Som
   pub committed_core : IsHeadValue (in_force d.head r) → IsCore f
   committed_core valid =
       ended d core r is f.closed None f.waiting valid ids_then
-      (trimmed_all (staying p.victims g.closed) p.survivor
+      (trimmed_all IsSegment survivors (staying p.victims g.closed)
       (staying_all (λ (c : Image). IsSegment c.segment) p.victims g.closed (closed_segments d core r is)))
       budget_then tt named_then (let i = index_then in record { kept = i.kept; lies = i.lies; safe = core.index.safe })

@@ -7,6 +7,7 @@ use Rattle.std.specs.Option.{option_map_or}
 use Rattle.std.proofs.lemmas.Bool.{eqb-true, not-false, or_parts}
 use Rattle.std.proofs.Math.Bool.{or-false}
 use Rattle.cleaner.specs.declared.pass.Pass.{Pass as OpenPass}
+use Rattle.cleaner.specs.Passes.{survivor_ids}
 use Rattle.entry.specs.declared.entry.Entry.{Entry}
 use Rattle.entry.specs.declared.entry.Entry.TheVariants as entry
 use Rattle.entry.specs.Bag.{IsAmong}
@@ -37,7 +38,7 @@ use Rattle.master_state.specs.Log.{images_of, log_set_ids}
 use Rattle.master_state.specs.Steps.{kept_now, compacted_data}
 use Rattle.master_state.proofs.Imaging.{same_id, ids_in}
 use Rattle.master_state.proofs.Passing.{has_among}
-use Rattle.master_state.proofs.Rising.{has_more, has_put}
+use Rattle.master_state.proofs.Rising.{has_more, has_all}
 use Rattle.compactor.proofs.KeptEntries.{kept_length, kept_segment}
 use Rattle.master_state.proofs.Refusals.{passes, sizes_of}
 use Rattle.master_space.proofs.Replacing.{same_ids, changed_there, changed_here, changed_each, changed_count, each_one}
@@ -70,9 +71,9 @@ closed_listed (c ∷ cs) s = go (c.id == s) refl (closed_listed cs s) where
 
 others_have : (o : Option OpenPass) (ids : List ℕ) (id : ℕ) → has_id (survivors_of o) id ≡ false
     → has (all_inserted (survivors_of o) ids) id ≡ has ids id
-others_have None ids id away = refl
-others_have (Some p) ids id away =
-    has_put p.survivor ids id ∙ ap (λ (b : Bool). b || has ids id) (or_parts (p.survivor == id) false away).0
+others_have o ids id away =
+    has_all (survivors_of o) ids id
+    ∙ ap (λ (b : Bool). b || has ids id) (sym (has_any (survivors_of o) id) ∙ away)
 
 -- whether a segment is listed
 module _ (d : MasterData) (core : IsCore d) (id : ℕ) where
@@ -81,21 +82,15 @@ module _ (d : MasterData) (core : IsCore d) (id : ℕ) where
       has_any (digest_of d.head.image) id
       ∙ ap (λ (ids : List ℕ). has ids id) (digest_is d.config.master d.head (head_of d.head) core.image)
 
-  -- the survivor isn't
+  -- a survivor isn't
   survivor_unlisted : has_id (survivors_of d.pass) id ≡ true → has_id (digest_of d.head.image) id ≡ false
   survivor_unlisted = go d.pass core.pass where
-    own : (p : OpenPass) → (p.survivor == id) ≡ true → IsOpenPass d p → has_id (digest_of d.head.image) id ≡ false
-    own p here is =
-        listed_in ∙ ap (λ (z : ℕ). has (ids_of (head_of d.head).start) z) (sym (eqb-true p.survivor id here))
-        ∙ is.survivor.outside
-
     go : (o : Option OpenPass) → IfSome o (IsOpenPass d) → has_id (survivors_of o) id ≡ true
         → has_id (digest_of d.head.image) id ≡ false
     go None is has = absurd (cc)
-    go (Some p) is has = test (p.survivor == id) refl has where
-      test : (t : Bool) → (p.survivor == id) ≡ t → (t || false) ≡ true → has_id (digest_of d.head.image) id ≡ false
-      test true here has = own p here is
-      test false away has = absurd (cc)
+    go (Some p) is has =
+        let ids = survivor_ids p.survivors in
+        listed_in ∙ (is.survivors.each id (has_among ids id (sym (has_any ids id) ∙ has))).outside
 
   -- any other segment but a head is if there is an image
   module _ (older : is_head d.head id ≡ false) (away : has_id (survivors_of d.pass) id ≡ false) where

@@ -5,9 +5,8 @@ use Rattle.std.specs.Prelude.{Option, Some, None, IfSome, IsSome, IsSomeAnd, unw
 use Rattle.std.specs.Option.{option_map, option_to_list}
 use Rattle.cleaner.specs.declared.pass.Pass.{Pass as OpenPass}
 use Rattle.cleaner.specs.Laws.{AreSameAt, KeepsNoMore}
-use Rattle.cleaner.specs.Passes.{images_in, rest_of, kept_left, IsPass}
-use Rattle.cleaner.proofs.Ends.{rest_same, cursor_agrees, rest_segment}
-use Rattle.cleaner.proofs.Keeping.{kept_no_more, kept_same}
+use Rattle.cleaner.specs.Passes.{images_in, survivor_ids, rest_of, IsPass}
+use Rattle.cleaner.proofs.Ends.{cursor_agrees, rest_segment}
 use Rattle.entry.specs.declared.key.Key.{Key}
 use Rattle.entry.specs.declared.entry.Entry.{Entry}
 use Rattle.entry.specs.Bag.{IsAmong}
@@ -16,7 +15,7 @@ use Rattle.places.specs.declared.place.Place.{Place}
 use Rattle.places.specs.Relocation.{names}
 use Rattle.places.proofs.Words.{named_gone}
 use Rattle.images.specs.Image.{Image}
-use Rattle.images.specs.Sorted.{segment_of}
+use Rattle.images.specs.Sorted.{IsWhole, segment_of}
 use Rattle.images.specs.Steps.{replaced_by}
 use Rattle.images.proofs.Finding.{other_changed}
 use Rattle.compactor.specs.Kept.{has_id, moved_place}
@@ -65,11 +64,12 @@ module _ (follows : CompactionFollows) (d : MasterData) (core : IsCore d) (id : 
         let never : true ≡ false = sym has ∙ spared in
         cc
 
-    not_survivor : id ≡ p.survivor → ⊥
-    not_survivor same =
+    not_survivor : (s : ℕ) → IsAmong s (survivor_ids p.survivors) → id ≡ s → ⊥
+    not_survivor s survivor same =
+        let ids = survivor_ids p.survivors in
+        let has = among_has ids id (subst (λ (z : ℕ). IsAmong z ids) (sym same) survivor) in
         let away = ap (λ (o : Option OpenPass). has_id (survivors_of o) id) (sym own) ∙ no_survivor d core id is in
-        let here : (p.survivor == id) ≡ true = ap (λ (z : ℕ). z == id) (sym same) ∙ same_id id in
-        let never : true ≡ false = sym (ap (λ (b : Bool). b || false) here) ∙ away in
+        let never : true ≡ false = sym has ∙ away in
         cc
 
     same_at : AreSameAt (images_in d.closed) (images_in e.closed) p.victims
@@ -90,29 +90,22 @@ module _ (follows : CompactionFollows) (d : MasterData) (core : IsCore d) (id : 
         kept_again (log_set_ids d) d.index e.index q x
         (λ k named. named_elsewhere k q (not_victim q.segment (rest_segment (images_in d.closed) p q m)) named) keeps
 
-    left_then : kept_left (log_set_ids e) e.index (images_in e.closed) rest
-        ≤ kept_left (log_set_ids d) d.index (images_in d.closed) rest
-    left_then =
-        subst (λ (n : ℕ). n ≤ kept_left (log_set_ids d) d.index (images_in d.closed) rest)
-        (sym (ap (λ (ids : List ℕ). kept_left ids e.index (images_in e.closed) rest) ids_then
-        ∙ kept_same (log_set_ids d) e.index (images_in d.closed) (images_in e.closed) rest
-        (λ q m. same_at q.segment (rest_segment (images_in d.closed) p q m))))
-        (kept_no_more (log_set_ids d) (log_set_ids d) d.index e.index (images_in d.closed) rest keeps_no_more)
-
     pass_then : IsPass e.index.seed e.closed p
     pass_then = record {
-      victims = all_from_among (λ (s : ℕ). IsSome (segment_of e.closed s) × (s < p.survivor)) p.victims
+      victims = all_from_among (λ (s : ℕ). IsSome (segment_of e.closed s) × (s < p.survivors.first)) p.victims
           (λ s victim. (
           let was = all_among (λ (z : ℕ). IsSome (segment_of d.closed z)
-          × (z < p.survivor)) p.victims s pass.pass.victims victim in (
+          × (z < p.survivors.first)) p.victims s pass.pass.victims victim in (
             subst (λ (o : Option (List Entry)). IsSome o)
                 (sym (changed_there id (kept_now d id) d.closed s (not_victim s victim))) was.0,
             was.1,
           )));
-      whole = subst (λ (o : Option Image). IsSomeAnd o (λ (c : Image). c.is_whole ≡ true))
-          (sym (other_changed id (replaced_by (kept_now d id)) (λ c. refl) p.survivor
-          (λ same. not_survivor (sym same)) d.closed))
-          pass.pass.whole;
+      whole = all_from_among (IsWhole e.closed) (survivor_ids p.survivors)
+          (λ s survivor. subst (λ (o : Option Image). IsSomeAnd o (λ (c : Image). c.is_whole ≡ true))
+          (sym (other_changed id (replaced_by (kept_now d id)) (λ c. refl) s
+          (λ same. not_survivor s survivor (sym same)) d.closed))
+          (all_among (IsWhole d.closed) (survivor_ids p.survivors) s pass.pass.whole survivor));
+      numbers = pass.pass.numbers;
       within = pass.pass.within;
       cursor = cursor_agrees d.index.seed (images_in d.closed) (images_in e.closed) p same_at pass.pass.cursor;
     }
@@ -121,12 +114,13 @@ module _ (follows : CompactionFollows) (d : MasterData) (core : IsCore d) (id : 
     passes = record {
       config = refl;
       start = refl;
-      roll = pass.survivor.not_new;
+      roll = λ s m. (pass.survivors.each s m).not_new;
       next = omega arith;
       pass = pass_then;
-      survivor = stays p.survivor not_survivor;
-      rest = rest_same (images_in d.closed) (images_in e.closed) p same_at;
-      left = left_then;
+      victims = same_at;
+      survivors = λ s survivor. stays s (not_survivor s survivor);
+      keeps = subst (λ (ids : List ℕ). KeepsNoMore (log_set_ids d) ids d.index e.index (images_in d.closed) rest)
+          (sym ids_then) keeps_no_more;
       live = λ k q finds victim. found_elsewhere follows d core id is k q finds
           (λ same. not_victim q.segment victim (sym same));
       free = λ early. (let count = less in omega arith);

@@ -1,6 +1,6 @@
 -- A core of whose pass one entry was treated.
 use Rattle.std.proofs.Common.{◌≡◌, ℕ, ◌<◌, Bool, true, false, List, [], ◌∷◌, ◌++◌, length, refl, sym, ap, subst, ◌∙◌}
-use Rattle.std.proofs.Common.{inl, inr, append_assoc, arith}
+use Rattle.std.proofs.Common.{◌+◌, ◌≤◌, inl, inr, append_assoc, arith}
 use Rattle.std.specs.Prelude.{Option, Some, None, IfSome, unwrap_or, ◌==◌, ◌||◌, if◌then◌else◌}
 use Rattle.std.specs.List.{AllByRecursion}
 use Rattle.std.specs.Option.{option_map, option_map_or, option_to_list}
@@ -13,19 +13,22 @@ use Rattle.entry.specs.Bag.{IsAmong}
 use Rattle.entry.specs.Format.{IsEntry}
 use Rattle.entry.specs.Text.{text_of, is_data, IsSegment}
 use Rattle.entry.proofs.BagLemmas.{among_push}
+use Rattle.entry.proofs.ListLemmas.{all_among}
 use Rattle.clean_model.specs.Intact.{BeginAsSurvivor, survivor_entries}
 use Rattle.cleaner.specs.declared.pass.Copied.{Copied}
 use Rattle.cleaner.specs.declared.pass.Pass.{Pass}
-use Rattle.cleaner.specs.Passes.{images_in, images_with, held_with, copy_place, rest_of, is_at_end, HasRoom, IsPass}
-use Rattle.cleaner.specs.Passes.{CopiesOne}
+use Rattle.cleaner.specs.KeptLengths.{HasRoomsIn}
+use Rattle.cleaner.specs.Passes.{images_in, survivor_ids, images_with, held_with, copy_place, rest_of, is_at_end}
+use Rattle.cleaner.specs.Passes.{IsPass, CopiesOne}
 use Rattle.cleaner.proofs.Images.{with_other, len_is, is_victim}
-use Rattle.cleaner.proofs.Leaving.{left_room}
+use Rattle.cleaner.proofs.Leaving.{left_rooms}
+use Rattle.cleaner.proofs.SurvivorIds.{id_among}
 use Rattle.compactor.specs.Kept.{kept}
 use Rattle.compactor.specs.Places.{LiesAt, IsAtPlace}
 use Rattle.places.specs.declared.place.Place.{Place}
 use Rattle.places.specs.Map.{Places}
 use Rattle.images.specs.Image.{Image}
-use Rattle.images.specs.Sorted.{AreRising}
+use Rattle.images.specs.Sorted.{AreRising, IsWhole, segment_of}
 use Rattle.log_head.specs.declared.head.Roll.{Roll}
 use Rattle.log_head.specs.Log.{head_of}
 use Rattle.log_model.specs.Data.{ids_of}
@@ -33,7 +36,8 @@ use Rattle.log_model.specs.Ids.{has, all_inserted}
 use Rattle.master_state.specs.Budget.{victims_of, survivors_of, used_seglets}
 use Rattle.master_state.specs.Data.{MasterData}
 use Rattle.master_state.specs.Images.{images_among, new_image_or}
-use Rattle.master_state.specs.Invariant.{IsCore, IsIndex, IsRollOf, IsOpenPass, NameBelow, listed_with}
+use Rattle.master_state.specs.Invariant.{IsCore, IsIndex, IsRollOf, IsSurvivor, IsOpenPass, NameBelow}
+use Rattle.master_state.specs.Invariant.{listed_with}
 use Rattle.master_state.specs.Log.{log_set_ids, images_of, find, state_now}
 use Rattle.master_space.proofs.CopiedImages.{tail_of, ids_same, segments_then, count_same, own_then}
 use Rattle.master_space.proofs.CopiedPlaces.{index_treated, found_treated}
@@ -70,12 +74,7 @@ module _ (d : MasterData) (core : IsCore d) (p : Pass) (opened : d.pass ≡ Some
   pub open_pass : IsOpenPass d p
   open_pass = subst (λ (o : Option Pass). IfSome o (IsOpenPass d)) opened core.pass
 
-  -- ---- the survivor and the victims are no heads
-
-  not_head : (d.head.id == p.survivor) ≡ false
-  not_head =
-      ap (λ (z : ℕ). z == p.survivor) (sym core.image.id)
-      ∙ last_other (head_of d.head).start.others (head_of d.head).start.id p.survivor open_pass.survivor.outside
+  -- ---- the victims are no heads
 
   victim_not_head : (s : ℕ) → IsAmong s p.victims → (d.head.id == s) ≡ false
   victim_not_head s m = let lt = victim_below d core p open_pass s m in other_id d.head.id s (λ same. omega arith)
@@ -92,17 +91,29 @@ module _ (d : MasterData) (core : IsCore d) (p : Pass) (opened : d.pass ≡ Some
 
   -- ---- one entry
 
-  module _ (place : Place) (x : Entry) (victim : IsAmong place.segment p.victims)
-      (stands_in : IsAtPlace (images_in d.closed) place x)
+  -- it goes to this survivor, if it is kept
+  module _ (target : ℕ) (member : IsAmong target (survivor_ids p.survivors)) (place : Place) (x : Entry)
+      (victim : IsAmong place.segment p.victims) (stands_in : IsAtPlace (images_in d.closed) place x)
       (valid : IsEntry x) (of_data : is_data x ≡ true) where
+    abbrev survivor : IsSurvivor d target
+    survivor = open_pass.survivors.each target member
+
+    whole : IsWhole d.closed target
+    whole = all_among (IsWhole d.closed) (survivor_ids p.survivors) target open_pass.pass.whole member
+
+    not_head : (d.head.id == target) ≡ false
+    not_head =
+        ap (λ (z : ℕ). z == target) (sym core.image.id)
+        ∙ last_other (head_of d.head).start.others (head_of d.head).start.id target survivor.outside
+
     abbrev b : Bool
     b = kept (log_set_ids d) d.index place x
 
     abbrev pub closed : List Image
-    closed = images_with b p.survivor x d.closed
+    closed = images_with b target x d.closed
 
     abbrev to : Place
-    to = copy_place p.survivor d.closed
+    to = copy_place target d.closed
 
     abbrev pub held : Places
     held = held_with b place to x d.index
@@ -113,64 +124,72 @@ module _ (d : MasterData) (core : IsCore d) (p : Pass) (opened : d.pass ≡ Some
     stands : IsAtPlace (images_of d) place x
     stands = subst (λ (es : List Entry). LiesAt es place.at x) (sym (victim_image place.segment victim)) stands_in
 
-    own : later p.survivor ≡ images_of d p.survivor ++ tail_of b x
+    own : later target ≡ images_of d target ++ tail_of b x
     own =
-        closed_only d p.survivor not_head open_pass.survivor.not_new closed
-        ∙ own_then d.closed p.survivor x b open_pass.pass.whole
-        ∙ ap (λ (es : List Entry). es ++ tail_of b x) (sym (closed_only d p.survivor not_head
-        open_pass.survivor.not_new d.closed))
+        closed_only d target not_head survivor.not_new closed
+        ∙ own_then d.closed target x b whole
+        ∙ ap (λ (es : List Entry). es ++ tail_of b x) (sym (closed_only d target not_head survivor.not_new d.closed))
 
-    other : (s : ℕ) → (s == p.survivor) ≡ false → later s ≡ images_of d s
+    other_found : (s : ℕ) → (s == target) ≡ false → segment_of closed s ≡ segment_of d.closed s
+    other_found s away =
+        with_other d.closed target x b s (λ same. (
+        let test : (s == target) ≡ true = ap (λ (z : ℕ). z == target) same ∙ same_id target in cc))
+
+    other : (s : ℕ) → (s == target) ≡ false → later s ≡ images_of d s
     other s away =
         ap (λ (o : Option (List Entry)). unwrap_or (if d.head.id == s then Some d.head.image
         else new_image_or d.head.roll s o) [])
-        (with_other d.closed p.survivor x b s (λ same. (
-        let test : (s == p.survivor) ≡ true = ap (λ (z : ℕ). z == p.survivor) same ∙ same_id p.survivor in cc)))
+        (other_found s away)
 
     grow : Grow (images_of d) later
-    grow s = go (s == p.survivor) refl where
-      go : (t : Bool) → (s == p.survivor) ≡ t → (es : List Entry) × (later s ≡ images_of d s ++ es)
+    grow s = go (s == target) refl where
+      go : (t : Bool) → (s == target) ≡ t → (es : List Entry) × (later s ≡ images_of d s ++ es)
       go true here =
-          let same = eqb-true s p.survivor here in
+          let same = eqb-true s target here in
           (tail_of b x, ap later same ∙ own ∙ ap (λ (z : ℕ). images_of d z ++ tail_of b x) (sym same))
       go false away = ([], other s away ∙ sym (append-nil (images_of d s)))
 
     segments : AllByRecursion (λ (c : Image). IsSegment c.segment) closed
-    segments = segments_then d.closed p.survivor x b valid of_data core.segments
+    segments = segments_then d.closed target x b valid of_data core.segments
 
     each_later : (s : ℕ) → AllByRecursion IsEntry (later s)
     each_later = each_among d.head closed core.head segments
 
     copy_stands : b ≡ true → IsAtPlace later to x
     copy_stands is = record {
-      before = images_of d p.survivor;
+      before = images_of d target;
       after = [];
-      split = own ∙ ap (λ (t : Bool). images_of d p.survivor ++ tail_of t x) is;
-      offset = len_is d.closed p.survivor
+      split = own ∙ ap (λ (t : Bool). images_of d target ++ tail_of t x) is;
+      offset = len_is d.closed target
           ∙ ap (λ (es : List Entry). length (text_of es)) (sym
-          (closed_only d p.survivor not_head open_pass.survivor.not_new d.closed));
+          (closed_only d target not_head survivor.not_new d.closed));
     }
 
     -- ---- the core
 
-    module _ (q : Pass) (same : q ≡ record p { cursor = q.cursor }) (rest : List Place)
+    module _ (q : Pass) (same : q ≡ record p { cursor = q.cursor; filling = q.filling }) (rest : List Place)
         (first : rest_of (images_in d.closed) p ≡ place ∷ rest) (left : rest_of (images_in closed) q ≡ rest)
+        (at : target ≡ p.survivors.first + q.filling)
         (is_pass : IsPass d.index.seed closed q)
-        (room : HasRoom d.config.segment (log_set_ids d) q closed held) where
+        (rooms : HasRoomsIn d.config.segment (log_set_ids d) q closed held) where
       abbrev p' : Pass
-      p' = record p { cursor = q.cursor }
+      p' = record p { cursor = q.cursor; filling = q.filling }
 
       abbrev e : MasterData
-      e = record d { closed = closed; index = held; pass = Some (record p { cursor = q.cursor }) }
+      e = record d {
+        closed = closed;
+        index = held;
+        pass = Some (record p { cursor = q.cursor; filling = q.filling });
+      }
 
       ids_then : log_set_ids e ≡ log_set_ids d
       ids_then =
           ap (λ (ids : List ℕ). ids ++ d.head.id ∷ option_to_list (option_map (λ (r : Roll). r.id) d.head.roll))
-          (ids_same d.closed p.survivor x b)
+          (ids_same d.closed target x b)
 
       used_same : used_seglets e ≡ used_seglets d
       used_same =
-          let count = count_same d.closed p.survivor x d.config.segment d.config.seglet b rising open_pass.pass.whole in
+          let count = count_same d.closed target x d.config.segment d.config.seglet b rising whole in
           omega (arith, count)
 
       index_then : IsIndex e
@@ -183,11 +202,11 @@ module _ (d : MasterData) (core : IsCore d) (p : Pass) (opened : d.pass ≡ Some
       live : (k : Key) (r : Place) → find e k ≡ Some r → IsAmong r.segment p.victims
           → IsAmong r (rest_of (images_in closed) p')
       live k r is m =
-          let lt = (is_victim d.closed p.survivor p.victims r.segment open_pass.pass.victims m).1 in
+          let lt = (is_victim d.closed p.survivors.first p.victims r.segment open_pass.pass.victims m).1 in
           let there = found_treated (images_of d) later grow (each_of d core) each_later (log_set_ids d) d.index
           (state_now d).contents
           (index_of d core) place to b x k r refl stands copy_stands
-          (λ here. (let at = ap (λ (z : Place). z.segment) here in omega arith)) is in
+          (λ here. (let there = ap (λ (z : Place). z.segment) here in omega arith)) is in
           subst (λ (ps : List Place). IsAmong r ps) (sym left ∙ ap (rest_of (images_in closed)) same)
           (go there.1 (subst (λ (ps : List Place). IsAmong r ps) first (open_pass.live k r there.0 m)))
         where
@@ -195,13 +214,43 @@ module _ (d : MasterData) (core : IsCore d) (p : Pass) (opened : d.pass ≡ Some
           go away (inl here) = absurd (away (sym here))
           go away (inr behind) = behind
 
-      begins_then : BeginAsSurvivor d.config.master p.survivor (images_in closed p.survivor)
+      begins_then : BeginAsSurvivor d.config.master target (images_in closed target)
       begins_then =
-          let was = open_pass.survivor.begins in (
+          let was = survivor.begins in (
             was.0 ++ tail_of b x,
-            own_then d.closed p.survivor x b open_pass.pass.whole ∙ ap (λ (es : List Entry). es ++ tail_of b x) was.1
-                ∙ append_assoc (survivor_entries d.config.master p.survivor) was.0 (tail_of b x),
+            own_then d.closed target x b whole ∙ ap (λ (es : List Entry). es ++ tail_of b x) was.1
+                ∙ append_assoc (survivor_entries d.config.master target) was.0 (tail_of b x),
           )
+
+      within_then : length (text_of (images_in closed target)) ≤ d.config.segment
+      within_then =
+          let first_same = ap (λ (z : Pass). z.survivors.first) same in
+          subst (λ (s : ℕ). length (text_of (images_in closed s)) ≤ d.config.segment)
+          (ap (λ (n : ℕ). n + q.filling) first_same ∙ sym at) rooms.rooms.within
+
+      survivor_then : (s : ℕ) → IsAmong s (survivor_ids p.survivors) → IsSurvivor e s
+      survivor_then s m = go (s == target) refl where
+        was : IsSurvivor d s
+        was = open_pass.survivors.each s m
+
+        go : (t : Bool) → (s == target) ≡ t → IsSurvivor e s
+        go true here =
+            let own_id : target ≡ s = sym (eqb-true s target here) in record {
+              outside = was.outside;
+              not_new = was.not_new;
+              used = was.used;
+              begins = subst (λ (z : ℕ). BeginAsSurvivor d.config.master z (images_in closed z)) own_id begins_then;
+              within = subst (λ (z : ℕ). length (text_of (images_in closed z)) ≤ d.config.segment) own_id within_then;
+            }
+        go false away =
+            let stays : images_in closed s ≡ images_in d.closed s = ap (λ (o : Option (List Entry)). unwrap_or o [])
+            (other_found s away) in record {
+              outside = was.outside;
+              not_new = was.not_new;
+              used = was.used;
+              begins = subst (λ (es : List Entry). BeginAsSurvivor d.config.master s es) (sym stays) was.begins;
+              within = subst (λ (es : List Entry). length (text_of es) ≤ d.config.segment) (sym stays) was.within;
+            }
 
       not_ready : is_at_end p ≡ true → ⊥
       not_ready ended = cc
@@ -216,42 +265,41 @@ module _ (d : MasterData) (core : IsCore d) (p : Pass) (opened : d.pass ≡ Some
           apart = v.apart;
           older = v.older;
         });
-        survivor = (let s = open_pass.survivor in record {
-          outside = s.outside;
-          not_new = s.not_new;
-          used = s.used;
-          begins = begins_then;
-        });
-        fits = subst (λ (ids : List ℕ). HasRoom d.config.segment ids p' closed held) (sym ids_then)
-            (subst (λ (z : Pass). HasRoom d.config.segment (log_set_ids d) z closed held) same room);
+        survivors = record {
+          some = open_pass.survivors.some;
+          few = open_pass.survivors.few;
+          each = survivor_then;
+        };
+        rooms = subst (λ (ids : List ℕ). HasRoomsIn d.config.segment ids p' closed held) (sym ids_then)
+            (subst (λ (z : Pass). HasRoomsIn d.config.segment (log_set_ids d) z closed held) same rooms);
         sealed = open_pass.sealed;
         live = live;
-        text = λ some. absurd (not_ready (open_pass.text some));
+        unsealed = λ early. open_pass.unsealed more;
         spare = λ early. (let s = open_pass.spare early in let free = s.free in let listed = s.listed in
             record { free = omega (arith, used_same); listed = listed });
         commits = λ commits. absurd (not_ready (and_parts _ _ (open_pass.commits commits).1).0);
       }
 
       named_then : NameBelow (images_of e) d.next
-      named_then s t m = go (s == p.survivor) refl where
-        fresh : IsAmong (entry.Tombstone t) (images_of d p.survivor ++ tail_of b x) → t.segment < d.next
+      named_then s t m = go (s == target) refl where
+        fresh : IsAmong (entry.Tombstone t) (images_of d target ++ tail_of b x) → t.segment < d.next
         fresh among = by b among where
-          by : (c : Bool) → IsAmong (entry.Tombstone t) (images_of d p.survivor ++ tail_of c x) → t.segment < d.next
+          by : (c : Bool) → IsAmong (entry.Tombstone t) (images_of d target ++ tail_of c x) → t.segment < d.next
           by false among =
-              core.named p.survivor t (subst (λ (es : List Entry). IsAmong (entry.Tombstone t) es)
-              (append-nil (images_of d p.survivor)) among)
+              core.named target t (subst (λ (es : List Entry). IsAmong (entry.Tombstone t) es)
+              (append-nil (images_of d target)) among)
           by true among = elim (among_push (entry.Tombstone t)
-              (images_of d p.survivor) x among) as (λ _. t.segment < d.next) [
-                | inl before ↦ core.named p.survivor t before
+              (images_of d target) x among) as (λ _. t.segment < d.next) [
+                | inl before ↦ core.named target t before
                 | inr last ↦ core.named place.segment t (lies_among (images_of d place.segment) place.at
                     (entry.Tombstone t)
                     (subst (λ (y : Entry). IsAtPlace (images_of d) place y) last stands))
               ]
 
-        go : (u : Bool) → (s == p.survivor) ≡ u → t.segment < d.next
+        go : (u : Bool) → (s == target) ≡ u → t.segment < d.next
         go true here =
             fresh (subst (λ (es : List Entry). IsAmong (entry.Tombstone t) es)
-            (ap later (eqb-true s p.survivor here) ∙ own) m)
+            (ap later (eqb-true s target here) ∙ own) m)
         go false away = core.named s t (subst (λ (es : List Entry). IsAmong (entry.Tombstone t) es) (other s away) m)
 
       roll_then : (o : Option Roll) → IfSome o (IsRollOf d) → IfSome o (IsRollOf e)
@@ -277,7 +325,7 @@ module _ (d : MasterData) (core : IsCore d) (p : Pass) (opened : d.pass ≡ Some
             head = core.head;
             image = core.image;
             within = core.within;
-            closed = ids_same d.closed p.survivor x b ∙ core.closed
+            closed = ids_same d.closed target x b ∙ core.closed
                 ∙ ap (λ (o : Option Pass). all_inserted (survivors_of o) (head_of d.head).start.others) opened;
             segments = segments;
             below = core.below;
@@ -296,22 +344,24 @@ module _ (d : MasterData) (core : IsCore d) (p : Pass) (opened : d.pass ≡ Some
 pub copied_core : (d : MasterData) → IsCore d → (p q : Pass) (copied : Copied) (closed_after : List Image)
     (held_after : Places)
     → d.pass ≡ Some p → is_at_end p ≡ false → AreRising d.closed
-    → CopiesOne (log_set_ids d) p d.closed d.index copied q closed_after held_after
+    → CopiesOne d.config.segment (log_set_ids d) p d.closed d.index copied q closed_after held_after
     → IsPass held_after.seed closed_after q
     → IsCore (record d { closed = closed_after; index = held_after; pass = Some q })
 copied_core d core p q copied closed_after held_after opened more rising one valid =
     let is_open = open_pass d core p opened more rising in
-    let room = left_room d.config.segment (log_set_ids d) p q d.closed closed_after d.index held_after copied
-    is_open.pass one is_open.fits in
+    let target = p.survivors.first + q.filling in
+    let rooms = left_rooms d.config.segment (log_set_ids d) p q d.closed closed_after d.index held_after copied
+    is_open.pass one is_open.rooms in
     let seed : held_after.seed ≡ d.index.seed =
     ap (λ (hs : Places). hs.seed) one.index
-    ∙ with_seed (kept (log_set_ids d) d.index one.place one.entry) one.place (copy_place p.survivor d.closed) one.entry
+    ∙ with_seed (kept (log_set_ids d) d.index one.place one.entry) one.place (copy_place target d.closed) one.entry
     d.index in
     subst (λ (y : List Image × Places). IsCore (record d { closed = y.0; index = y.1; pass = Some q }))
     (λ i. (sym one.survivor i, sym one.index i))
-    (core_then d core p opened more rising one.place one.entry one.victim one.stands one.valid one.of_data q one.pass
-    one.later one.first
-    (subst (λ (cs : List Image). rest_of (images_in cs) q ≡ one.later) one.survivor one.rest)
+    (core_then d core p opened more rising target
+    (id_among p.survivors.first p.survivors.count q.filling one.within) one.place one.entry one.victim one.stands
+    one.valid one.of_data q one.pass one.later one.first
+    (subst (λ (cs : List Image). rest_of (images_in cs) q ≡ one.later) one.survivor one.rest) refl
     (subst (λ (y : List Image × List ℕ). IsPass y.1 y.0 q) (λ i. (one.survivor i, seed i)) valid)
-    (subst (λ (y : List Image × Places). HasRoom d.config.segment (log_set_ids d) q y.0 y.1)
-    (λ i. (one.survivor i, one.index i)) room))
+    (subst (λ (y : List Image × Places). HasRoomsIn d.config.segment (log_set_ids d) q y.0 y.1)
+    (λ i. (one.survivor i, one.index i)) rooms))

@@ -19,7 +19,7 @@ rising_ids (c ∷ cs) rising = (each cs rising.0, rising_ids cs rising.1) where
   each [] all = tt
   each (x ∷ xs) all = (all.0, each xs all.1)
 
-swapped : (a b : ℕ) → (a == b) ≡ (b == a)
+pub swapped : (a b : ℕ) → (a == b) ≡ (b == a)
 swapped a b = go (a == b) refl where
   go : (t : Bool) → (a == b) ≡ t → (a == b) ≡ (b == a)
   go true is = is ∙ sym (ap (λ (z : ℕ). b == z) (eqb-true a b is) ∙ same_id b)

@@ -1,13 +1,14 @@
 -- Which segments may be the victims of a pass.
 use Rattle.std.proofs.Common.{◌≡◌, ℕ, take, drop, get_or, add-one, drop-cons, ◌+◌, ◌<◌, ◌≤◌, Bool, true, false, cond}
 use Rattle.std.proofs.Common.{List, [], ◌∷◌, ◌++◌, length, refl, sym, ap, ◌∙◌, arith}
-use Rattle.std.specs.Prelude.{Option, Some, None, is_some, not, nat_lt, ◌==◌, ◌||◌, ◌^◌}
+use Rattle.std.specs.Prelude.{Option, Some, None, is_some, not, nat_le, nat_lt, ◌==◌, ◌||◌, ◌^◌, if◌then◌else◌}
 use Rattle.std.specs.List.{AllByRecursion}
 use Rattle.std.specs.Option.{option_map_or}
-use Rattle.std.proofs.lemmas.Bool.{eqb-true, not-false, ltb-false, or_right}
+use Rattle.std.proofs.lemmas.Bool.{eqb-true, not-false, ltb-false, or_right, leb-true, lt-ltb, le-ltb}
 use Rattle.std.proofs.lemmas.Bool.Decides.{nat_tests}
 use Rattle.std.proofs.lemmas.List.{take_more}
 use Rattle.std.proofs.lemmas.List.Folds.{list_any-append}
+use Rattle.std.proofs.lemmas.Option.{same_Some}
 use Rattle.cleaner.specs.declared.fault.PassFault.{PassFault}
 use Rattle.cleaner.specs.declared.fault.PassFault.TheVariants.{IsHead, NotInLog, PassOpen, NoVictims, TooMany, TooMuch}
 use Rattle.cleaner.specs.declared.fault.PassFault.TheVariants.{Twice}
@@ -18,7 +19,7 @@ use Rattle.log_model.specs.Ids.{has}
 use Rattle.master_state.specs.declared.step.Refusal.{Refusal}
 use Rattle.master_state.specs.declared.step.Refusal.TheVariants.{Halted, Full, SegmentsSpent, Pass}
 use Rattle.master_state.specs.Budget.{may_clean}
-use Rattle.master_state.specs.Causes.{is_head, victim_fault, victims_fault, are_few_bytes, space_refusal, clean_refusal}
+use Rattle.master_state.specs.Causes.{is_head, victim_fault, victims_fault, survivors_for, space_refusal, clean_refusal}
 use Rattle.master_state.specs.Data.{MasterData}
 use Rattle.master_state.specs.Invariant.{AreApart}
 use Rattle.master_state.proofs.Imaging.{same_id}
@@ -141,7 +142,7 @@ module _ (d : MasterData) where
 pub record AreFree (d : MasterData) (ids : List ℕ) : Type 0 where
   pub none : d.pass ≡ None
   pub some : 0 < length ids
-  pub few : length ids ≤ 8
+  pub few : length ids ≤ 32
   pub apart : AreApart ids
   pub older : AllByRecursion (IsOlder d) ids
 
@@ -153,13 +154,13 @@ pub are_free : (d : MasterData) (ids : List ℕ) → victims_fault d ids ≡ Non
 are_free d ids ok =
     let p = passes (is_some d.pass) PassOpen _ ok in
     let n = passes (length ids == 0) NoVictims _ p.1 in
-    let m = passes (nat_lt 8 (length ids)) TooMany _ n.1 in
+    let m = passes (nat_lt 32 (length ids)) TooMany _ n.1 in
     let all = all_older d [] ids m.1 in
     let nonempty = n.0 in
     record {
       none = no_pass d.pass p.0;
       some = grind (arith, nat_tests);
-      few = ltb-false 8 (length ids) m.0;
+      few = ltb-false 32 (length ids) m.0;
       apart = all.0;
       older = all.1;
     }
@@ -168,9 +169,9 @@ are_free d ids ok =
 pub record MayBegin (d : MasterData) (ids : List ℕ) : Type 0 where
   pub running : d.is_halted ≡ false
   pub victims : AreFree d ids
-  pub rule : may_clean d (length ids) ≡ true
-  pub bytes : are_few_bytes d ids ≡ true
-  pub next : d.next ≤ 2 ^ 62
+  pub few : survivors_for d ids ≤ 4
+  pub rule : may_clean d (length ids) (survivors_for d ids) ≡ true
+  pub next : d.next + survivors_for d ids ≤ 2 ^ 62 + 1
 
 no_victims_fault : (o : Option PassFault) (rest : Option Refusal)
     → option_map_or (λ (fault : PassFault). Some (Pass fault)) o rest ≡ None → (o ≡ None) × (rest ≡ None)
@@ -181,16 +182,38 @@ pub may_begin_pass : (d : MasterData) (ids : List ℕ) → clean_refusal d ids �
 may_begin_pass d ids ok =
     let a = passes d.is_halted Halted _ ok in
     let v = no_victims_fault (victims_fault d ids) (space_refusal d ids) a.1 in
-    let f = passes (not (may_clean d (length ids))) Full _ v.1 in
-    let b = passes (not (are_few_bytes d ids)) (Pass TooMuch) _ f.1 in
-    let n = passes (nat_lt (2 ^ 62) d.next) SegmentsSpent None b.1 in
+    let b = passes (nat_lt 4 (survivors_for d ids)) (Pass TooMuch) _ v.1 in
+    let f = passes (not (may_clean d (length ids) (survivors_for d ids))) Full _ b.1 in
+    let n = passes (nat_lt (2 ^ 62 + 1) (d.next + survivors_for d ids)) SegmentsSpent None f.1 in
     record {
       running = a.0;
       victims = are_free d ids v.0;
+      few = ltb-false 4 (survivors_for d ids) b.0;
       rule = not-false _ f.0;
-      bytes = not-false _ b.0;
-      next = ltb-false (2 ^ 62) d.next n.0;
+      next = ltb-false (2 ^ 62 + 1) (d.next + survivors_for d ids) n.0;
     }
+
+-- ---- the tests of space, one after the other
+
+-- how many survivors there are, if they are at most four
+pub at_most_four : (m x : ℕ) → Some x ≡ (if nat_le m 4 then Some m else None) → (x ≡ m) × (nat_lt 4 m ≡ false)
+at_most_four m x is = go (nat_le m 4) refl is where
+  go : (t : Bool) → nat_le m 4 ≡ t → Some x ≡ (if t then Some m else None) → (x ≡ m) × (nat_lt 4 m ≡ false)
+  go true few is = (same_Some x m is, le-ltb 4 m (leb-true m 4 few))
+  go false many is = absurd (cc)
+
+module _ (d : MasterData) (ids : List ℕ) (few : nat_lt 4 (survivors_for d ids) ≡ false) where
+  pub full_refused : may_clean d (length ids) (survivors_for d ids) ≡ false → Some Full ≡ space_refusal d ids
+  full_refused mayn = rw (few, mayn) refl
+
+  module _ (may : may_clean d (length ids) (survivors_for d ids) ≡ true) where
+    pub spent_refused : 2 ^ 62 + 1 < d.next + survivors_for d ids → Some SegmentsSpent ≡ space_refusal d ids
+    spent_refused over =
+        let test = lt-ltb (2 ^ 62 + 1) (d.next + survivors_for d ids) over in rw (few, may, test) refl
+
+    pub none_refused : d.next + survivors_for d ids ≤ 2 ^ 62 + 1 → None ≡ space_refusal d ids
+    none_refused within =
+        let test = le-ltb (2 ^ 62 + 1) (d.next + survivors_for d ids) within in rw (few, may, test) refl
 
 -- ---- by the tests of one segment
 

@@ -7,6 +7,7 @@ use Rattle.log_head.specs.declared.head.Roll.{Roll}
 use Rattle.master_state.specs.Data.{MasterData}
 use Rattle.master_state.specs.Invariant.{IsCore, IsRollOf, IsOpenPass}
 use Rattle.master_state.specs.Steps.{freed_data}
+use Rattle.master_state.proofs.Passing.{goes_on}
 
 -- with its last replica the first segment waits no more
 pub freed_last : (d : MasterData) → d.freed + 1 ≡ d.config.replicas
@@ -33,22 +34,20 @@ module _ (d : MasterData) (core : IsCore d) (waits : List ℕ) (count : ℕ) (fe
 
   pass_then : (o : Option Pass) → IfSome o (IsOpenPass d) → IfSome o (IsOpenPass e)
   pass_then None was = tt
-  pass_then (Some p) was = record {
-    pass = (let x = was.pass in record { victims = x.victims; whole = x.whole; within = x.within; cursor = x.cursor });
-    victims = (let v = was.victims in record { some = v.some; few = v.few; apart = v.apart; older = v.older });
-    survivor = (let s = was.survivor in record {
-      outside = s.outside;
-      not_new = s.not_new;
-      used = s.used;
-      begins = s.begins;
-    });
-    fits = was.fits;
-    sealed = was.sealed;
-    live = was.live;
-    text = was.text;
-    spare = λ early. (let s = was.spare early in record { free = s.free; listed = s.listed });
-    commits = was.commits;
-  }
+  pass_then (Some p) was = goes_on d e p (record {
+    config = refl;
+    start = refl;
+    roll = λ s m. (was.survivors.each s m).not_new;
+    next = omega arith;
+    pass = was.pass;
+    victims = λ s m. refl;
+    survivors = λ s m. refl;
+    keeps = λ place x m stands keeps. keeps;
+    live = λ k q finds victim. finds;
+    free = λ early. omega arith;
+    listed = λ early. omega arith;
+    rolls = λ commits some. some;
+  }) was
 
   roll_then : (o : Option Roll) → IfSome o (IsRollOf d) → IfSome o (IsRollOf e)
   roll_then None rolls = tt

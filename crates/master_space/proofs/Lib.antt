@@ -8,6 +8,9 @@ pub mod CompactedData
 pub mod FreeVictims
 pub mod PassIds
 pub mod PlaceRows
+pub mod NewImages
+pub mod NewSurvivors
+pub mod Trimming
 pub mod PassBegun
 pub mod PassOpened
 pub mod CompactedPass

@@ -4,7 +4,6 @@ use Rattle.std.proofs.Common.{arith}
 use Rattle.std.specs.Prelude.{Option, Some, None, IfSome, ◌==◌, unwrap_or}
 use Rattle.std.specs.List.{AllByRecursion}
 use Rattle.std.proofs.lemmas.Bool.{eqb-true, eqb-false}
-use Rattle.cleaner.specs.declared.pass.Pass.{Pass}
 use Rattle.entry.specs.declared.key.Key.{Key}
 use Rattle.entry.specs.declared.entry.Object.{Object}
 use Rattle.entry.specs.declared.entry.Entry.{Entry}
@@ -12,6 +11,7 @@ use Rattle.entry.specs.declared.entry.Entry.TheVariants as entry
 use Rattle.entry.specs.Bag.{IsAmong}
 use Rattle.entry.specs.Meaning.{Versioned, versioned, contents_of}
 use Rattle.entry.proofs.BagLemmas.{among_left, among_right, among_either}
+use Rattle.entry.proofs.ListLemmas.{all_from_among}
 use Rattle.places.specs.declared.place.Place.{Place}
 use Rattle.places.specs.Relocation.{names}
 use Rattle.images.specs.Image.{Image}
@@ -21,9 +21,10 @@ use Rattle.log_head.specs.Log.{start_of}
 use Rattle.log_model.specs.Data.{start_entries}
 use Rattle.log_model.specs.Ids.{has}
 use Rattle.compactor.specs.Places.{LiesAt, IsAtPlace}
+use Rattle.master_state.specs.Budget.{survivors_of}
 use Rattle.master_state.specs.Data.{MasterData}
 use Rattle.master_state.specs.Images.{new_image_or}
-use Rattle.master_state.specs.Invariant.{IsRollOf, IsOpenPass, IsCore}
+use Rattle.master_state.specs.Invariant.{IsRollOf, IsCore}
 use Rattle.master_state.specs.Log.{images_of, state_now}
 use Rattle.master_state.specs.Sizes.{AreOnce, live_from, live_closed, live_objects}
 use Rattle.master_state.proofs.Finding.{each_of, index_of}
@@ -32,7 +33,8 @@ use Rattle.master_space.proofs.LiveObjects.{contents_are, once_append, place_has
 use Rattle.master_space.proofs.LiveObjects.{live_apart, walk_live, walk_once, AreImages, closed_live, closed_once}
 use Rattle.master_state.proofs.LogIds.{closed_rise, not_closed, no_head, none_above}
 use Rattle.master_space.proofs.PlaceRows.{lies_among}
-use Rattle.master_state.proofs.Rising.{Rise}
+use Rattle.master_state.proofs.Rising.{Rise, has_not}
+use Rattle.master_space.proofs.SurvivorLens.{survivor_of}
 
 -- ---- a new head has no object
 
@@ -88,14 +90,14 @@ module _ (d : MasterData) (core : IsCore d) where
       → IfSome o (λ (r : Roll). has (ids_in d.closed) r.id ≡ false)
   no_roll None is all = tt
   no_roll (Some r) is all =
-      not_closed d core r.id (let newer = all.newer in none_above d core r.id (omega arith)) (go d.pass core.pass)
+      not_closed d core r.id (let newer = all.newer in none_above d core r.id (omega arith))
+      (has_not (λ (z : ℕ). r.id ≡ z → ⊥) (survivors_of d.pass) r.id
+      (all_from_among (λ (z : ℕ). r.id ≡ z → ⊥) (survivors_of d.pass) other) (λ never. never refl))
     where
-      go : (q : Option Pass) → IfSome q (IsOpenPass d) → IfSome q (λ (p : Pass). p.survivor ≡ r.id → ⊥)
-      go None pass = tt
-      go (Some p) pass =
-          let away : (r.id == p.survivor) ≡ false =
-          subst (λ (x : Option Roll). IfSome x (λ (n : Roll). (n.id == p.survivor) ≡ false)) is pass.survivor.not_new in
-          λ same. eqb-false r.id p.survivor away (sym same)
+      other : (z : ℕ) → IsAmong z (survivors_of d.pass) → r.id ≡ z → ⊥
+      other z m =
+          eqb-false r.id z (subst (λ (x : Option Roll). IfSome x (λ (n : Roll). (n.id == z) ≡ false)) is
+          (survivor_of d core z m).not_new)
 
   -- neither the head nor the head that a roll is opening
   abbrev IsOther : ℕ → Type 0

@@ -1,106 +1,149 @@
 -- A pass that begins leaves a core.
 use Rattle.std.proofs.Common.{◌≡◌, ℕ, ◌+◌, ◌<◌, ◌≤◌, Bool, true, false, List, [], ◌∷◌, ◌++◌, map, drop, length, refl}
-use Rattle.std.proofs.Common.{sym, ap, subst, ◌∙◌, arith}
-use Rattle.std.specs.Prelude.{Option, Some, None, IsSome, unwrap_or, ◌==◌, if◌then◌else◌}
+use Rattle.std.proofs.Common.{sym, ap, subst, ◌∙◌, arith, inl, inr}
+use Rattle.std.specs.Prelude.{Option, Some, None, IsSome, IsSomeAnd, unwrap_or, ◌==◌, ◌||◌, ◌⊎◌, if◌then◌else◌}
 use Rattle.std.specs.List.{AllByRecursion}
 use Rattle.std.specs.Option.{option_map, option_to_list}
-use Rattle.std.proofs.lemmas.Bool.{eqb-true, leb-true}
 use Rattle.std.proofs.lemmas.List.{append-nil, map-append}
+use Rattle.std.proofs.lemmas.List.Folds.{list_any-append}
 use Rattle.std.proofs.lemmas.Option.{same_Some}
 use Rattle.entry.specs.declared.entry.Entry.{Entry}
 use Rattle.entry.specs.declared.entry.Entry.TheVariants as entry
 use Rattle.entry.specs.Bag.{IsAmong}
 use Rattle.entry.specs.Format.{IsEntry}
-use Rattle.entry.specs.Text.{text_of}
+use Rattle.entry.specs.Text.{text_of, IsSegment}
 use Rattle.entry.proofs.ListLemmas.{all_among, all_from_among}
-use Rattle.segment.specs.Bytes.{standing_at}
 use Rattle.segment.proofs.UnitLemmas.{length-survivor}
+use Rattle.clean_model.specs.Intact.{survivor_entries}
+use Rattle.clean_model.proofs.KeptEntries.{has_is}
 use Rattle.cleaner.specs.declared.pass.Cursor.{Cursor}
 use Rattle.cleaner.specs.declared.pass.Pass.{Pass}
-use Rattle.cleaner.specs.Passes.{images_in, places_of, rest_of, kept_left, IsCursorAt, IsPass}
-use Rattle.cleaner.proofs.Ends.{rest_same, cursor_agrees}
-use Rattle.cleaner.proofs.Keeping.{kept_no_more, kept_same}
-use Rattle.compactor.specs.Kept.{has_id, kept}
+use Rattle.cleaner.specs.KeptLengths.{survivors_over, HasRoomsIn}
+use Rattle.cleaner.specs.Laws.{KeepsNoMore}
+use Rattle.cleaner.specs.Passes.{images_in, places_of, rest_of, survivor_ids, IsCursorAt, IsPass}
+use Rattle.cleaner.proofs.Ends.{rest_same}
+use Rattle.cleaner.proofs.Places.{of_same}
+use Rattle.cleaner.proofs.RoomLaws.{begin_has_rooms_in, survivors_do_not_grow}
+use Rattle.cleaner.proofs.SurvivorIds.{among_ids, has_below}
+use Rattle.compactor.specs.Kept.{has_id}
 use Rattle.compactor.specs.Places.{IsAtPlace}
 use Rattle.places.specs.declared.place.Place.{Place}
 use Rattle.images.specs.Image.{Image}
-use Rattle.images.specs.Sorted.{IsWhole, image_of as image_in, segment_of, added}
-use Rattle.images.proofs.Adding.{newest_last, segment_found}
-use Rattle.images.proofs.Callers.{whole_added}
+use Rattle.images.specs.Images.{AreWithin}
+use Rattle.images.specs.Sorted.{IsWhole, image_of as image_in, segment_of}
 use Rattle.log_head.specs.declared.head.Roll.{Roll}
+use Rattle.log_model.specs.Ids.{has}
+use Rattle.master_state.specs.Causes.{survivors_for}
 use Rattle.master_state.specs.Data.{MasterData}
-use Rattle.master_state.specs.Images.{survivor_image, new_image_or, images_among}
+use Rattle.master_state.specs.Images.{survivor_image, survivor_images, new_image_or, images_among}
 use Rattle.master_state.specs.Invariant.{IsCore}
 use Rattle.master_state.specs.Log.{log_set_ids, images_of}
-use Rattle.master_state.specs.Steps.{fresh_pass}
+use Rattle.master_state.specs.Steps.{fresh_pass, next_survivors}
 use Rattle.master_state.proofs.Finding.{each_of}
-use Rattle.master_space.proofs.FreeVictims.{IsOlder, MayBegin}
-use Rattle.master_state.proofs.Imaging.{same_id, other_id}
+use Rattle.master_state.proofs.Imaging.{other_id}
 use Rattle.master_state.proofs.Indexing.{Grow, stands_at}
-use Rattle.master_space.proofs.PassIds.{others, others_below, images_below, closed_only, head_parts, not_opening_next}
-use Rattle.master_space.proofs.PassIds.{not_head_next, victims_listed, victims_there}
-use Rattle.master_space.proofs.PlaceRows.{places_lie, lies_among, has_before}
+use Rattle.master_state.proofs.Passing.{has_among}
+use Rattle.master_state.proofs.Refusals.{sizes_of}
+use Rattle.master_space.proofs.FreeVictims.{IsOlder, MayBegin}
+use Rattle.master_space.proofs.NewImages.{found_behind, found_before, new_found, new_other, new_ids}
+use Rattle.master_space.proofs.PassIds.{others, others_below, images_below, closed_only, head_parts, not_opening_later}
+use Rattle.master_space.proofs.PassIds.{not_head_later, victims_listed, victims_there}
+use Rattle.master_space.proofs.PlaceRows.{places_lie, lies_among}
+use Rattle.master_space.proofs.Replacing.{closed_each}
+
+-- no image has an id that all of theirs are below
+none_above : (cs : List Image) (n s : ℕ) → AllByRecursion (λ (c : Image). c.id < n) cs → n ≤ s → image_in cs s ≡ None
+none_above [] n s all le = refl
+none_above (c ∷ cs) n s all le =
+    let lt = all.0 in
+    let away = other_id c.id s (λ same. omega arith) in
+    rw away (none_above cs n s all.1 le)
+
+-- ids that aren't among these change no test
+has_without : (ids new more : List ℕ) (z : ℕ) → has_id new z ≡ false
+    → has_id ((ids ++ new) ++ more) z ≡ has_id (ids ++ more) z
+has_without [] new more z out =
+    list_any-append (λ (x : ℕ). x == z) new more ∙ ap (λ (b : Bool). b || has_id more z) out
+has_without (x ∷ ids) new more z out = ap (λ (b : Bool). (x == z) || b) (has_without ids new more z out)
+
+there_is : (o : Option (List Entry)) → IsSome o → o ≡ Some (unwrap_or o [])
+there_is None some = absurd (cc)
+there_is (Some es) some = refl
 
 module _ (d : MasterData) (core : IsCore d) (victims : List ℕ) (may : MayBegin d victims) where
-  abbrev pub survivor : Image
-  survivor = survivor_image d.config d.next
+  -- how many survivors there are, and their ids
+  abbrev pub count : ℕ
+  count = survivors_for d victims
+
+  abbrev pub ids : List ℕ
+  ids = survivor_ids (next_survivors d victims)
 
   abbrev pub closed_then : List Image
-  closed_then = d.closed ++ survivor ∷ []
+  closed_then = d.closed ++ survivor_images d.config ids
 
-  pub last : added survivor d.closed ≡ closed_then
-  last = (newest_last survivor d.closed (images_below d core may.victims.none)).1
+  -- each is new
+  pub id_within : (s : ℕ) → IsAmong s ids → (d.next ≤ s) × (s < d.next + count)
+  id_within s m = among_ids d.next count s m
 
-  pub none_yet : image_in d.closed d.next ≡ None
-  none_yet = (newest_last survivor d.closed (images_below d core may.victims.none)).0
+  pub new_or_not : (s : ℕ) → IsAmong s ids ⊎ (IsAmong s ids → ⊥)
+  new_or_not s = go (has ids s) refl where
+    go : (t : Bool) → has ids s ≡ t → IsAmong s ids ⊎ (IsAmong s ids → ⊥)
+    go true is = inl (has_among ids s is)
+    go false is = inr (λ m. (let there = has_is ids s m in let never : true ≡ false = sym there ∙ is in cc))
 
   -- ---- images
 
-  found_then : (s : ℕ) → segment_of closed_then s ≡ (if d.next == s then Some survivor.segment
-      else segment_of d.closed s)
-  found_then s = ap (λ (cs : List Image). segment_of cs s) (sym last) ∙ segment_found survivor d.closed s none_yet
+  none_yet : (s : ℕ) → d.next ≤ s → image_in d.closed s ≡ None
+  none_yet s le = none_above d.closed d.next s (images_below d core may.victims.none) le
 
-  found_other : (s : ℕ) → (d.next == s) ≡ false → segment_of closed_then s ≡ segment_of d.closed s
-  found_other s away = found_then s ∙ rw away refl
+  image_new : (s : ℕ) → IsAmong s ids → image_in closed_then s ≡ Some (survivor_image d.config s)
+  image_new s m =
+      found_behind d.closed (survivor_images d.config ids) s (none_yet s (id_within s m).0)
+      ∙ new_found d.config ids s m
 
-  found_new : segment_of closed_then d.next ≡ Some survivor.segment
-  found_new = let own = same_id d.next in found_then d.next ∙ rw own refl
+  image_other : (s : ℕ) → (IsAmong s ids → ⊥) → image_in closed_then s ≡ image_in d.closed s
+  image_other s out =
+      found_before d.closed (survivor_images d.config ids) s (new_other d.config ids s out)
 
-  none_found : segment_of d.closed d.next ≡ None
-  none_found = ap (λ (o : Option Image). option_map (λ (x : Image). x.segment) o) none_yet
+  found_other : (s : ℕ) → (IsAmong s ids → ⊥) → segment_of closed_then s ≡ segment_of d.closed s
+  found_other s out = ap (λ (o : Option Image). option_map (λ (x : Image). x.segment) o) (image_other s out)
 
-  pub in_other : (s : ℕ) → (d.next == s) ≡ false → images_in closed_then s ≡ images_in d.closed s
-  in_other s away = ap (λ (o : Option (List Entry)). unwrap_or o []) (found_other s away)
+  found_new : (s : ℕ) → IsAmong s ids → segment_of closed_then s ≡ Some (survivor_entries d.config.master s)
+  found_new s m = ap (λ (o : Option Image). option_map (λ (x : Image). x.segment) o) (image_new s m)
 
-  pub in_new : images_in closed_then d.next ≡ survivor.segment
-  in_new = ap (λ (o : Option (List Entry)). unwrap_or o []) found_new
+  pub in_other : (s : ℕ) → (IsAmong s ids → ⊥) → images_in closed_then s ≡ images_in d.closed s
+  in_other s out = ap (λ (o : Option (List Entry)). unwrap_or o []) (found_other s out)
 
-  pub images_other : (s : ℕ) → (d.next == s) ≡ false → images_among d.head closed_then s ≡ images_of d s
-  images_other s away =
+  pub in_new : (s : ℕ) → IsAmong s ids → images_in closed_then s ≡ survivor_entries d.config.master s
+  in_new s m = ap (λ (o : Option (List Entry)). unwrap_or o []) (found_new s m)
+
+  pub images_other : (s : ℕ) → (IsAmong s ids → ⊥) → images_among d.head closed_then s ≡ images_of d s
+  images_other s out =
       ap (λ (o : Option (List Entry)). unwrap_or (if d.head.id == s then Some d.head.image
       else new_image_or d.head.roll s o) [])
-      (found_other s away)
+      (found_other s out)
 
-  pub images_new : images_among d.head closed_then d.next ≡ survivor.segment
-  images_new = closed_only d d.next (not_head_next d core) (not_opening_next d core) closed_then ∙ in_new
+  pub images_new : (s : ℕ) → IsAmong s ids → images_among d.head closed_then s ≡ survivor_entries d.config.master s
+  images_new s m =
+      let le = (id_within s m).0 in
+      closed_only d s (not_head_later d core s le) (not_opening_later d core s le) closed_then ∙ in_new s m
 
-  images_none : images_of d d.next ≡ []
-  images_none =
-      closed_only d d.next (not_head_next d core) (not_opening_next d core) d.closed
-      ∙ ap (λ (o : Option (List Entry)). unwrap_or o []) none_found
+  images_none : (s : ℕ) → d.next ≤ s → images_of d s ≡ []
+  images_none s le =
+      closed_only d s (not_head_later d core s le) (not_opening_later d core s le) d.closed
+      ∙ ap (λ (o : Option Image). unwrap_or (option_map (λ (x : Image). x.segment) o) []) (none_yet s le)
 
   pub grow : Grow (images_of d) (images_among d.head closed_then)
-  grow s = go (d.next == s) refl where
-    go : (t : Bool) → (d.next == s) ≡ t → (more : List Entry)
+  grow s = go (new_or_not s) where
+    go : IsAmong s ids ⊎ (IsAmong s ids → ⊥) → (more : List Entry)
         × (images_among d.head closed_then s ≡ images_of d s ++ more)
-    go true here =
-        let same : d.next ≡ s = eqb-true d.next s here in (
-          survivor.segment,
-          ap (images_among d.head closed_then) (sym same) ∙ images_new
-              ∙ ap (λ (es : List Entry). es ++ survivor.segment) (sym images_none)
-              ∙ ap (λ (z : ℕ). images_of d z ++ survivor.segment) same,
-        )
-    go false away = ([], images_other s away ∙ sym (append-nil (images_of d s)))
+    go (inl m) = (
+      survivor_entries d.config.master s,
+      images_new s m
+          ∙ ap (λ (es : List Entry). es ++ survivor_entries d.config.master s)
+          (sym (images_none s (id_within s m).0)),
+    )
+    go (inr out) = ([], images_other s out ∙ sym (append-nil (images_of d s)))
 
   -- ---- victims
 
@@ -111,16 +154,21 @@ module _ (d : MasterData) (core : IsCore d) (victims : List ℕ) (may : MayBegin
       let used = core.used in
       omega arith
 
-  pub victim_other : (s : ℕ) → IsAmong s victims → (d.next == s) ≡ false
-  victim_other s m = let lt = victim_below s m in other_id d.next s (λ same. omega arith)
+  pub victim_out : (s : ℕ) → IsAmong s victims → IsAmong s ids → ⊥
+  victim_out s m own = let lt = victim_below s m in let le = (id_within s own).0 in omega arith
 
-  -- each has an image, and is below the survivor
-  pub victims_fit : AllByRecursion (λ (s : ℕ). IsSome (segment_of d.closed s) × (s < d.next)) victims
+  victim_there : (s : ℕ) → IsAmong s victims → segment_of d.closed s ≡ Some (images_in d.closed s)
+  victim_there s m =
+      there_is (segment_of d.closed s) (all_among (λ (z : ℕ). IsSome (segment_of d.closed z)) victims s
+      (victims_there d core victims may.victims) m)
+
+  -- each has an image, and is below the survivors
+  pub victims_fit : AllByRecursion (λ (s : ℕ). IsSome (segment_of closed_then s) × (s < d.next)) victims
   victims_fit =
-      all_from_among (λ (s : ℕ). IsSome (segment_of d.closed s) × (s < d.next)) victims
+      all_from_among (λ (s : ℕ). IsSome (segment_of closed_then s) × (s < d.next)) victims
       (λ s m. (
-        all_among (λ (z : ℕ). IsSome (segment_of d.closed z)) victims s
-            (victims_there d core victims may.victims) m,
+        subst (λ (o : Option (List Entry)). IsSome o)
+            (sym (found_other s (victim_out s m) ∙ victim_there s m)) refl,
         victim_below s m,
       ))
 
@@ -131,58 +179,53 @@ module _ (d : MasterData) (core : IsCore d) (victims : List ℕ) (may : MayBegin
       closed_only d s parts.0 parts.1 d.closed
 
   pub victim_same : (s : ℕ) → IsAmong s victims → images_in closed_then s ≡ images_in d.closed s
-  victim_same s m = in_other s (victim_other s m)
+  victim_same s m = in_other s (victim_out s m)
 
   -- ---- the pass
 
-  module _ (cursor : Cursor) (begins : rest_of (images_in d.closed) (fresh_pass victims d.next cursor)
-      ≡ places_of (images_in d.closed) victims)
+  module _ (cursor : Cursor) (begins : rest_of (images_in closed_then)
+      (fresh_pass victims (next_survivors d victims) cursor) ≡ places_of (images_in closed_then) victims)
       (within : cursor.victim ≤ length victims)
-      (at : IsCursorAt d.index.seed (images_in d.closed) (drop cursor.victim victims) cursor) where
+      (at : IsCursorAt d.index.seed (images_in closed_then) (drop cursor.victim victims) cursor) where
     abbrev pub pass : Pass
-    pass = fresh_pass victims d.next cursor
+    pass = fresh_pass victims (next_survivors d victims) cursor
 
     abbrev pub e : MasterData
-    e = record d { closed = closed_then; next = d.next + 1; pass = Some pass }
+    e = record d { closed = closed_then; next = d.next + count; pass = Some pass }
 
     abbrev pub row : List Place
     row = places_of (images_in d.closed) victims
 
     pub rest_then : rest_of (images_in closed_then) pass ≡ row
-    rest_then = rest_same (images_in d.closed) (images_in closed_then) pass victim_same ∙ begins
+    rest_then = begins ∙ of_same (images_in d.closed) (images_in closed_then) victims victim_same
+
+    pub rest_before : rest_of (images_in d.closed) pass ≡ row
+    rest_before = sym (rest_same (images_in d.closed) (images_in closed_then) pass victim_same) ∙ rest_then
 
     pub is_pass : IsPass d.index.seed closed_then pass
     is_pass = record {
-      victims = all_from_among (λ (s : ℕ). IsSome (segment_of closed_then s) × (s < d.next)) victims each;
-      whole = whole_then;
+      victims = victims_fit;
+      whole = all_from_among (IsWhole closed_then) ids (λ s m.
+          subst (λ (o : Option Image). IsSomeAnd o (λ (c : Image). c.is_whole ≡ true)) (sym (image_new s m)) refl);
+      numbers = may.next;
       within = within;
-      cursor = cursor_agrees d.index.seed (images_in d.closed) (images_in closed_then) pass victim_same at;
-    } where
-      each : (s : ℕ) → IsAmong s victims → IsSome (segment_of closed_then s) × (s < d.next)
-      each s m = (
-        subst (λ (o : Option (List Entry)). IsSome o) (sym (found_other s (victim_other s m)))
-            (all_among (λ (z : ℕ). IsSome (segment_of d.closed z) × (z < d.next)) victims s victims_fit m).0,
-        victim_below s m,
-      )
-
-      whole_then : IsWhole closed_then d.next
-      whole_then = subst (λ (cs : List Image). IsWhole cs d.next) last (whole_added d.closed survivor none_yet refl)
+      cursor = at;
+    }
 
     -- ---- what is kept
 
-    ids_then : (z : ℕ) → (d.next == z) ≡ false → has_id (log_set_ids e) z ≡ has_id (log_set_ids d) z
-    ids_then z away =
-        ap (λ (ids : List ℕ). has_id (ids ++ d.head.id ∷ option_to_list
+    ids_then : (z : ℕ) → z < d.next → has_id (log_set_ids e) z ≡ has_id (log_set_ids d) z
+    ids_then z lt =
+        ap (λ (zs : List ℕ). has_id (zs ++ d.head.id ∷ option_to_list
         (option_map (λ (r : Roll). r.id) d.head.roll)) z)
-        (map-append (λ (c : Image). c.id) d.closed (survivor ∷ []))
-        ∙ has_before (map (λ (c : Image). c.id) d.closed) (d.head.id ∷ option_to_list
-        (option_map (λ (r : Roll). r.id) d.head.roll)) d.next z away
+        (map-append (λ (c : Image). c.id) d.closed (survivor_images d.config ids)
+        ∙ ap (λ (zs : List ℕ). map (λ (c : Image). c.id) d.closed ++ zs) (new_ids d.config ids))
+        ∙ has_without (map (λ (c : Image). c.id) d.closed) ids (d.head.id ∷ option_to_list
+        (option_map (λ (r : Roll). r.id) d.head.roll)) z (has_below d.next count z lt)
 
-    keeps_no_more : (p : Place) (x : Entry) → IsAmong p row
-        → standing_at p.at (text_of (images_in d.closed p.segment)) ≡ Some x
-        → kept (log_set_ids e) d.index p x ≡ true → kept (log_set_ids d) d.index p x ≡ true
+    keeps_no_more : KeepsNoMore (log_set_ids d) (log_set_ids e) d.index d.index (images_in d.closed) row
     keeps_no_more p (entry.Header h) m stands is = refl
-    keeps_no_more p (entry.Digest ids) m stands is = refl
+    keeps_no_more p (entry.Digest l) m stands is = refl
     keeps_no_more p (entry.Safe version) m stands is = refl
     keeps_no_more p (entry.Object o) m stands is = is
     keeps_no_more p (entry.Tombstone t) m stands is =
@@ -197,19 +240,31 @@ module _ (d : MasterData) (core : IsCore d) (victims : List ℕ) (may : MayBegin
         (lies_among (images_in d.closed p.segment) p.at (entry.Tombstone t)
         (subst (λ (x : Entry). IsAtPlace (images_in d.closed) p x) same there.lies)) in
         let lt = core.named p.segment t among in
-        sym (ids_then t.segment (other_id d.next t.segment (λ z. omega arith))) ∙ is
+        sym (ids_then t.segment lt) ∙ is
 
-    pub fits : length (text_of (images_in closed_then d.next))
-        + kept_left (log_set_ids e) d.index (images_in closed_then) (rest_of (images_in closed_then) pass)
-        ≤ d.config.segment
-    fits =
-        let len : length (text_of (images_in closed_then d.next)) ≡ 18 =
-        ap (λ (es : List Entry). length (text_of es)) in_new ∙ length-survivor d.config.master d.next in
-        let places = ap (kept_left (log_set_ids e) d.index (images_in closed_then)) rest_then in
-        let images =
-        kept_same (log_set_ids e) d.index (images_in d.closed) (images_in closed_then) row
-        (λ p m. victim_same p.segment (places_lie (images_in d.closed) victims p m).among) in
-        let less = kept_no_more (log_set_ids d) (log_set_ids e) d.index d.index
-        (images_in d.closed) row keeps_no_more in
-        let few = leb-true _ _ may.bytes in
-        omega (arith, len, places, images, less, few)
+    -- no more survivors are filled than there are
+    enough : survivors_over d.config.segment (log_set_ids e) d.index (images_in closed_then) victims ≤ count
+    enough =
+        survivors_do_not_grow d.config.segment (log_set_ids d) (log_set_ids e) d.index d.index
+        (images_in d.closed) (images_in closed_then) victims victim_same keeps_no_more
+
+    blank : (s : ℕ) → IsAmong s ids → length (text_of (images_in closed_then s)) ≡ 18
+    blank s m = ap (λ (es : List Entry). length (text_of es)) (in_new s m) ∙ length-survivor d.config.master s
+
+    module _ (short : AreWithin d.config.segment d.closed) where
+      valid : AllByRecursion (λ (s : ℕ). IsSegment (images_in closed_then s)
+          × (length (text_of (images_in closed_then s)) ≤ d.config.segment)) victims
+      valid = all_from_among (λ (s : ℕ). IsSegment (images_in closed_then s)
+          × (length (text_of (images_in closed_then s)) ≤ d.config.segment)) victims
+          (λ s m. subst (λ (es : List Entry). IsSegment es × (length (text_of es) ≤ d.config.segment))
+          (sym (victim_same s m)) (
+            closed_each IsSegment d.closed s (images_in d.closed s) core.segments (victim_there s m),
+            closed_each (λ (es : List Entry). length (text_of es) ≤ d.config.segment) d.closed s
+                (images_in d.closed s) short (victim_there s m),
+          ))
+
+      pub rooms : HasRoomsIn d.config.segment (log_set_ids e) pass closed_then d.index
+      rooms =
+          let least = (sizes_of d.config core.config).least_segment in
+          begin_has_rooms_in d.config.segment (log_set_ids e) pass closed_then d.index (omega arith) refl begins valid
+          enough blank

@@ -13,7 +13,7 @@ use Rattle.entry.proofs.BagLemmas.{among_push}
 use Rattle.entry.proofs.ListLemmas.{all_weaker}
 use Rattle.clean_model.proofs.KeptEntries.{is_has}
 use Rattle.cleaner.specs.declared.pass.Pass.{Pass}
-use Rattle.cleaner.specs.Passes.{images_in}
+use Rattle.cleaner.specs.Passes.{images_in, AreIds}
 use Rattle.compactor.specs.Kept.{has_id}
 use Rattle.compactor.proofs.Ids.{copied_some}
 use Rattle.images.specs.Image.{Image}
@@ -29,7 +29,7 @@ use Rattle.master_state.specs.Budget.{newest_digest, survivors_of}
 use Rattle.master_state.specs.Causes.{is_head}
 use Rattle.master_state.specs.Data.{MasterData}
 use Rattle.master_state.specs.Images.{new_image_or, images_among}
-use Rattle.master_state.specs.Invariant.{IsCore, IsRollOf, listed_now}
+use Rattle.master_state.specs.Invariant.{IsCore, IsOpenPass, IsRollOf, listed_now}
 use Rattle.master_state.proofs.Imaging.{ids_in, same_id, other_id}
 use Rattle.master_space.proofs.FreeVictims.{has_id_is, IsOlder, AreFree}
 
@@ -100,6 +100,13 @@ module _ (d : MasterData) (s : ℕ) (away : (d.head.id == s) ≡ false) (not_ope
 abbrev pub head_count : Option Roll → ℕ
 head_count o = option_map_or (λ (r : Roll). 2) o 1
 
+-- the survivors of an open pass have numbers of segments
+pub numbers_of : (d : MasterData) → IsCore d → IfSome d.pass (λ (p : Pass). AreIds p.survivors)
+numbers_of d core = go d.pass core.pass where
+  go : (o : Option Pass) → IfSome o (IsOpenPass d) → IfSome o (λ (p : Pass). AreIds p.survivors)
+  go None is = tt
+  go (Some p) is = is.pass.numbers
+
 -- ---- the ids of a core
 
 module _ (d : MasterData) (core : IsCore d) where
@@ -134,14 +141,15 @@ module _ (d : MasterData) (core : IsCore d) where
     more [] all = (let own = core.image.id in let lt = core.used in omega arith, tt)
     more (z ∷ ids) all = (all.0, more ids all.1)
 
-  pub not_opening_next : IsNotNew d.head.roll d.next
-  not_opening_next = go d.head.roll core.roll where
-    go : (o : Option Roll) → IfSome o (IsRollOf d) → IsNotNew o d.next
+  -- an id that isn't used yet is of no head
+  pub not_opening_later : (s : ℕ) → d.next ≤ s → IsNotNew d.head.roll s
+  not_opening_later s le = go d.head.roll core.roll where
+    go : (o : Option Roll) → IfSome o (IsRollOf d) → IsNotNew o s
     go None rolls = tt
-    go (Some r) rolls = let lt = rolls.used in other_id r.id d.next (λ same. omega arith)
+    go (Some r) rolls = let lt = rolls.used in other_id r.id s (λ same. omega arith)
 
-  pub not_head_next : (d.head.id == d.next) ≡ false
-  not_head_next = let lt = core.used in other_id d.head.id d.next (λ same. omega arith)
+  pub not_head_later : (s : ℕ) → d.next ≤ s → (d.head.id == s) ≡ false
+  not_head_later s le = let lt = core.used in other_id d.head.id s (λ same. omega arith)
 
   -- ---- without a pass
 

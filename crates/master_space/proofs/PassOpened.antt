@@ -1,12 +1,13 @@
 -- What holds of a core whose pass has begun.
-use Rattle.std.proofs.Common.{◌≡◌, ℕ, ◌+◌, ◌*◌, ◌/◌, ◌-◌, ◌<◌, ◌≤◌, Bool, true, false, List, [], ◌∷◌, ◌++◌, map, drop}
-use Rattle.std.proofs.Common.{length, refl, sym, ap, subst, ◌∙◌, inl, inr, add-one, arith}
-use Rattle.std.specs.Prelude.{Option, Some, None, IfSome, nat_lt, ◌==◌}
-use Rattle.std.specs.List.{AllByRecursion}
+use Rattle.std.proofs.Common.{◌≡◌, ℕ, zero, suc, ◌+◌, ◌*◌, ◌-◌, ◌<◌, ◌≤◌, true, false, List, [], ◌∷◌, ◌++◌, map}
+use Rattle.std.proofs.Common.{drop, length, refl, sym, ap, subst, ◌∙◌, inl, inr, arith}
+use Rattle.std.specs.Prelude.{Option, Some, None, IfSome, nat_lt, ◌⊎◌, ◌^◌}
+use Rattle.std.specs.List.{AllByRecursion, range_with_len}
 use Rattle.std.specs.Option.{option_map_or}
-use Rattle.std.proofs.lemmas.Bool.{eqb-true, and_parts, leb-true, le-ltb}
+use Rattle.std.proofs.lemmas.Bool.{and_parts, leb-true, le-ltb, lt-ltb}
 use Rattle.std.proofs.lemmas.List.{append-nil, map-append}
-use Rattle.std.proofs.lemmas.List.Sums.{sum_by_push}
+use Rattle.std.proofs.lemmas.List.FromFn.{length-range_with_len}
+use Rattle.std.proofs.lemmas.List.Sums.{sum_by-append}
 use Rattle.entry.specs.declared.key.Key.{Key}
 use Rattle.entry.specs.declared.entry.Entry.{Entry}
 use Rattle.entry.specs.declared.entry.Entry.TheVariants as entry
@@ -14,8 +15,9 @@ use Rattle.entry.specs.Bag.{IsAmong}
 use Rattle.entry.specs.declared.entry.Role.TheVariants as role
 use Rattle.entry.specs.Format.{IsHeader, IsEntry}
 use Rattle.entry.specs.Meaning.{object_at}
-use Rattle.entry.specs.Text.{IsSegment}
-use Rattle.entry.proofs.ListLemmas.{all_push, all_among, all_weaker}
+use Rattle.entry.specs.Text.{text_of, IsSegment}
+use Rattle.entry.proofs.ListLemmas.{all_among, all_weaker}
+use Rattle.segment.proofs.UnitLemmas.{length-survivor}
 use Rattle.clean_model.specs.Intact.{survivor_entries}
 use Rattle.clean_model.specs.Steps.{MayBeginClean}
 use Rattle.clean_model.proofs.KeptEntries.{has_is}
@@ -25,42 +27,80 @@ use Rattle.cleaner.specs.Passes.{images_in, places_of, rest_of, IsCursorAt}
 use Rattle.compactor.specs.Places.{LiesAt}
 use Rattle.places.specs.declared.place.Place.{Place}
 use Rattle.images.specs.Image.{Image}
-use Rattle.images.specs.Images.{ImagesValue, count_of, free_seglets as free_images}
+use Rattle.images.specs.Images.{ImagesValue, AreWithin, count_of, free_seglets as free_images}
 use Rattle.log_head.specs.declared.head.Roll.{Roll}
 use Rattle.log_head.specs.Log.{head_of}
 use Rattle.log_model.specs.Data.{ids_of}
 use Rattle.log_model.specs.Ids.{has, inserted, all_inserted}
-use Rattle.log_model.specs.Steps.{id_taken}
 use Rattle.master_state.specs.declared.step.StepAnswer.TheVariants.{Begun}
 use Rattle.master_state.specs.Budget.{newest_digest, most_segments, whole_seglets, used_seglets, free_seglets}
 use Rattle.master_state.specs.Budget.{victims_of, survivors_of, is_committing}
-use Rattle.master_state.specs.Causes.{clean_refusal}
+use Rattle.master_state.specs.Causes.{survivors_for, clean_refusal}
 use Rattle.master_state.specs.Data.{MasterData}
+use Rattle.master_state.specs.Images.{survivor_images}
 use Rattle.master_state.specs.Invariant.{IsCore, IsRollOf, IsOpenPass, IsSpare, IsSurvivor, IsIndex, NameBelow}
 use Rattle.master_state.specs.Invariant.{AreImagesOf, listed_now}
 use Rattle.master_state.specs.Log.{log_of, memory_of, images_of, find, state_now}
-use Rattle.master_state.specs.Steps.{fresh_pass, BeginsPass}
+use Rattle.master_state.specs.Steps.{fresh_pass, next_survivors, BeginsPass}
 use Rattle.master_state.proofs.Finding.{index_again}
-use Rattle.master_space.proofs.FreeVictims.{MayBegin}
 use Rattle.master_state.proofs.Indexing.{found_lies}
-use Rattle.master_space.proofs.PassBegun.{survivor, in_new, images_other, images_new, grow, victim_other, victim_images}
-use Rattle.master_space.proofs.PassBegun.{pass, e, rest_then, is_pass, fits}
+use Rattle.master_state.proofs.Refusals.{sizes_of}
+use Rattle.master_space.proofs.FreeVictims.{MayBegin}
+use Rattle.master_space.proofs.NewImages.{new_ids, new_count}
+use Rattle.master_space.proofs.PassBegun.{count, ids, id_within, new_or_not, in_new, images_other, images_new, grow}
+use Rattle.master_space.proofs.PassBegun.{victim_out, victim_images, closed_then, pass, e, rest_then, rest_before}
+use Rattle.master_space.proofs.PassBegun.{is_pass, rooms}
 use Rattle.master_space.proofs.PassIds.{others, closed_ids, start_below, others_below, all_below, not_has}
-use Rattle.master_space.proofs.PassIds.{not_opening_next, victims_listed}
+use Rattle.master_space.proofs.PassIds.{not_opening_later, victims_listed}
 use Rattle.master_space.proofs.PlaceRows.{lying_place}
 
--- one more id that is above all of them comes last
-inserted_last : (ids : List ℕ) (id : ℕ) → AllByRecursion (λ (z : ℕ). z < id) ids → inserted id ids ≡ ids ++ id ∷ []
-inserted_last [] id all = refl
-inserted_last (z ∷ ids) id all =
-    let lt = all.0 in
-    let not : nat_lt id z ≡ false = le-ltb id z (omega arith) in
-    rw not (ap (λ (xs : List ℕ). z ∷ xs) (inserted_last ids id all.1))
+-- one more id that is above the first and below the others comes between them
+inserted_between : (front behind : List ℕ) (s : ℕ) → AllByRecursion (λ (z : ℕ). z < s) front
+    → AllByRecursion (λ (z : ℕ). s < z) behind → inserted s (front ++ behind) ≡ front ++ s ∷ behind
+inserted_between [] [] s below above = refl
+inserted_between [] (z ∷ behind) s below above = (let test = lt-ltb s z above.0 in rw test refl)
+inserted_between (z ∷ front) behind s below above =
+    let lt = below.0 in
+    let not : nat_lt s z ≡ false = le-ltb s z (omega arith) in
+    rw not (ap (λ (xs : List ℕ). z ∷ xs) (inserted_between front behind s below.1 above))
+
+above_first : (low first n : ℕ) → low < first → AllByRecursion (λ (z : ℕ). low < z) (range_with_len first n)
+above_first low first zero lt = tt
+above_first low first (suc n) lt = (lt, above_first low (first + 1) n (omega arith))
+
+-- ids from one on that is above all others come last
+all_inserted_last : (front : List ℕ) (first n : ℕ) → AllByRecursion (λ (z : ℕ). z < first) front
+    → all_inserted (range_with_len first n) front ≡ front ++ range_with_len first n
+all_inserted_last front first zero below = sym (append-nil front)
+all_inserted_last front first (suc n) below =
+    ap (inserted first) (all_inserted_last front (first + 1) n (all_below first (first + 1) front (omega arith) below))
+    ∙ inserted_between front (range_with_len (first + 1) n) first below (above_first first (first + 1) n (omega arith))
+
+all_both : (P : Image → Type 0) (xs ys : List Image) → AllByRecursion P xs → AllByRecursion P ys
+    → AllByRecursion P (xs ++ ys)
+all_both P [] ys first later = later
+all_both P (x ∷ xs) ys first later = (first.0, all_both P xs ys first.1 later)
+
+-- what the rule of a pass says
+rules_of : (d : MasterData) (victims : List ℕ) → MayBegin d victims
+    → (survivors_for d victims * whole_seglets d.config + whole_seglets d.config ≤ free_seglets d)
+    × (length (newest_digest d.head) - length victims + survivors_for d victims + 1 ≤ most_segments d.config)
+rules_of d victims may =
+    let both = and_parts _ _ may.rule in
+    let memory = leb-true _ _ both.0 in
+    let places = leb-true _ _ both.1 in
+    (more (survivors_for d victims) (whole_seglets d.config) memory, places)
+  where
+    more : (m w : ℕ) → (m + 1) * w ≤ free_seglets d → m * w + w ≤ free_seglets d
+    more m w le = omega arith
 
 module _ (d : MasterData) (core : IsCore d) (victims : List ℕ) (may : MayBegin d victims) (cursor : Cursor)
-    (begins : rest_of (images_in d.closed) (fresh_pass victims d.next cursor) ≡ places_of (images_in d.closed) victims)
+    (begins : rest_of (images_in (closed_then d core victims may))
+    (fresh_pass victims (next_survivors d victims) cursor)
+    ≡ places_of (images_in (closed_then d core victims may)) victims)
     (within : cursor.victim ≤ length victims)
-    (at : IsCursorAt d.index.seed (images_in d.closed) (drop cursor.victim victims) cursor) where
+    (at : IsCursorAt d.index.seed (images_in (closed_then d core victims may)) (drop cursor.victim victims) cursor)
+    (short : AreWithin d.config.segment d.closed) where
   abbrev after : MasterData
   after = e d core victims may cursor begins within at
 
@@ -69,42 +109,54 @@ module _ (d : MasterData) (core : IsCore d) (victims : List ℕ) (may : MayBegin
 
   -- ---- the closed segments
 
+  abbrev new : List ℕ
+  new = ids d core victims may
+
   ids_then : map (λ (c : Image). c.id) after.closed ≡ all_inserted (survivors_of after.pass) (others d core)
   ids_then =
-      map-append (λ (c : Image). c.id) d.closed (survivor d core victims may ∷ [])
-      ∙ ap (λ (ids : List ℕ). ids ++ d.next ∷ []) (closed_ids d core may.victims.none)
-      ∙ sym (inserted_last (others d core) d.next (all_below d.head.id d.next (others d core) (omega (arith, core.used))
-      (others_below d core)))
+      map-append (λ (c : Image). c.id) d.closed (survivor_images d.config new)
+      ∙ (λ i. closed_ids d core may.victims.none i ++ new_ids d.config new i)
+      ∙ sym (all_inserted_last (others d core) d.next (count d core victims may)
+      (all_below d.head.id d.next (others d core) (omega (arith, core.used)) (others_below d core)))
 
   master_fits : IsHeader (record { master = d.config.master; segment = (head_of d.head).start.id; role = role.Head })
   master_fits = (subst (λ (es : List Entry). AllByRecursion IsEntry es) core.image.image core.head.segment.each).0
 
+  new_segments : (zs : List ℕ) → ((s : ℕ) → IsAmong s zs → s ≤ 2 ^ 62)
+      → AllByRecursion (λ (c : Image). IsSegment c.segment) (survivor_images d.config zs)
+  new_segments [] few = tt
+  new_segments (z ∷ zs) few = (
+    record {
+      each = (record { master = master_fits.master; segment = (let le = few z (inl refl) in omega arith) }, tt);
+      order = refl;
+    },
+    new_segments zs (λ s m. few s (inr m)),
+  )
+
   segments_then : AllByRecursion (λ (c : Image). IsSegment c.segment) after.closed
   segments_then =
-      all_push (λ (c : Image). IsSegment c.segment) d.closed (survivor d core victims may) core.segments
-      (record {
-        each = (
-          record { master = master_fits.master; segment = (let le = may.next in omega arith) },
-          tt,
-        );
-        order = refl;
-      })
+      all_both (λ (c : Image). IsSegment c.segment) d.closed (survivor_images d.config new) core.segments
+      (new_segments new (λ s m.
+      (let within = (id_within d core victims may s m).1 in let le = may.next in omega arith)))
 
   -- ---- what is counted
 
-  counted_then : used_seglets after ≡ used_seglets d + whole_seglets d.config
+  counted_then : used_seglets after ≡ used_seglets d + count d core victims may * whole_seglets d.config
   counted_then =
-      let more = sum_by_push (count_of d.config.segment d.config.seglet) d.closed (survivor d core victims may) in
-      omega (arith, more)
+      let more = sum_by-append (count_of d.config.segment d.config.seglet) d.closed (survivor_images d.config new) in
+      let own = new_count d.config new in
+      let size = ap (λ (n : ℕ). n * whole_seglets d.config) (length-range_with_len d.next (count d core victims may)) in
+      omega (arith, more, own, size)
 
-  rules : (2 * whole_seglets d.config ≤ free_seglets d) × (length (newest_digest d.head) - length victims + 2
-      ≤ most_segments d.config)
-  rules = let both = and_parts _ _ may.rule in (leb-true _ _ both.0, leb-true _ _ both.1)
+  -- with the survivors' seglets one whole segment is free
+  rules : (count d core victims may * whole_seglets d.config + whole_seglets d.config ≤ free_seglets d)
+      × (length (newest_digest d.head) - length victims + count d core victims may + 1 ≤ most_segments d.config)
+  rules = rules_of d victims may
 
   budget_then : used_seglets after ≤ d.config.seglets
   budget_then = let enough = rules.0 in let was = core.budget in omega (arith, counted_then)
 
-  spare : IsSpare after (length victims)
+  spare : IsSpare after (length victims) (count d core victims may)
   spare = record {
     free = (let enough = rules.0 in let was = core.budget in omega (arith, counted_then));
     listed = (let few = rules.1 in omega arith);
@@ -122,7 +174,7 @@ module _ (d : MasterData) (core : IsCore d) (victims : List ℕ) (may : MayBegin
   live k q is m =
       let there = found_lies (images_of after) k (find after k) ((state_now d).contents k) (index_then.lies k) q is in
       let image : images_of after q.segment ≡ images_in d.closed q.segment =
-      images_other d core victims may q.segment (victim_other d core victims may q.segment m)
+      images_other d core victims may q.segment (victim_out d core victims may q.segment m)
       ∙ victim_images d core victims may q.segment m in
       subst (λ (ps : List Place). IsAmong q ps) (sym (rest_then d core victims may cursor begins within at))
       (lying_place (images_in d.closed) victims q (object_at k there.0) m
@@ -130,13 +182,22 @@ module _ (d : MasterData) (core : IsCore d) (victims : List ℕ) (may : MayBegin
 
   -- ---- the pass
 
-  survivor_then : IsSurvivor after d.next
-  survivor_then = record {
-    outside = not_has (ids_of (head_of d.head).start) d.next (start_below d core);
-    not_new = not_opening_next d core;
-    used = omega arith;
-    begins = ([], in_new d core victims may ∙ sym (append-nil (survivor_entries d.config.master d.next)));
-  }
+  survivor_then : (s : ℕ) → IsAmong s new → IsSurvivor after s
+  survivor_then s m =
+      let parts = id_within d core victims may s m in
+      let le = parts.0 in
+      let lt = parts.1 in
+      let header = ap (λ (es : List Entry). length (text_of es)) (in_new d core victims may s m)
+      ∙ length-survivor d.config.master s in
+      let least = (sizes_of d.config core.config).least_segment in
+      record {
+        outside = not_has (ids_of (head_of d.head).start) s
+            (all_below d.next s (ids_of (head_of d.head).start) le (start_below d core));
+        not_new = not_opening_later d core s le;
+        used = lt;
+        begins = ([], in_new d core victims may s m ∙ sym (append-nil (survivor_entries d.config.master s)));
+        within = omega arith;
+      }
 
   pass_then : IsOpenPass after own
   pass_then = record {
@@ -148,31 +209,32 @@ module _ (d : MasterData) (core : IsCore d) (victims : List ℕ) (may : MayBegin
       older = all_weaker (λ (s : ℕ). IsAmong s (others d core)) (λ (s : ℕ). has (others d core) s ≡ true)
           (λ s m. has_is (others d core) s m) victims (victims_listed d core victims may.victims);
     };
-    survivor = survivor_then;
-    fits = fits d core victims may cursor begins within at;
-    sealed = omega arith;
+    survivors = record { some = omega arith; few = may.few; each = survivor_then };
+    rooms = rooms d core victims may cursor begins within at short;
+    sealed = record {
+      some = (let few = core.freed in omega arith);
+      within = omega arith;
+      done = λ same. refl;
+    };
     live = live;
-    text = λ some. absurd (omega arith);
+    unsealed = λ more. refl;
     spare = λ not. spare;
     commits = λ is. absurd (cc);
   }
 
-  named_then : NameBelow (images_of after) (d.next + 1)
-  named_then s t m = go (d.next == s) refl where
-    go : (b : Bool) → (d.next == s) ≡ b → t.segment < d.next + 1
-    go true here =
-        let same : d.next ≡ s = eqb-true d.next s here in
-        let own : IsAmong (entry.Tombstone t) (survivor_entries d.config.master d.next) =
-        subst (λ (es : List Entry). IsAmong (entry.Tombstone t) es)
-        (ap (images_of after) (sym same) ∙ images_new d core victims may) m in
-        never own
+  named_then : NameBelow (images_of after) (d.next + count d core victims may)
+  named_then s t m = go (new_or_not d core victims may s) where
+    go : IsAmong s new ⊎ (IsAmong s new → ⊥) → t.segment < d.next + count d core victims may
+    go (inl own) =
+        never (subst (λ (es : List Entry). IsAmong (entry.Tombstone t) es) (images_new d core victims may s own) m)
       where
-        never : IsAmong (entry.Tombstone t) (survivor_entries d.config.master d.next) → t.segment < d.next + 1
+        never : IsAmong (entry.Tombstone t) (survivor_entries d.config.master s)
+            → t.segment < d.next + count d core victims may
         never (inl is) = absurd (cc)
         never (inr none) = absurd none
-    go false away =
+    go (inr out) =
         let lt = core.named s t (subst (λ (es : List Entry). IsAmong (entry.Tombstone t) es)
-        (images_other d core victims may s away) m) in
+        (images_other d core victims may s out) m) in
         omega arith
 
   -- ---- the core
@@ -214,17 +276,15 @@ module _ (d : MasterData) (core : IsCore d) (victims : List ℕ) (may : MayBegin
     index = index_then;
   }
 
-  pub begins_pass : clean_refusal d victims ≡ None → BeginsPass d victims (Begun d.next) after
+  pub begins_pass : clean_refusal d victims ≡ None → BeginsPass d victims (Begun (next_survivors d victims)) after
   begins_pass passed = record {
     passed = passed;
     told = refl;
     cursor = cursor;
-    begins = begins;
-    log = more;
+    begins = rest_before d core victims may cursor begins within at;
+    log = refl;
     rest = refl;
-  } where
-    more : log_of after ≡ id_taken (log_of d)
-    more = rw add-one refl
+  }
 
 -- the model's rule
 pub may_clean_now : (d : MasterData) (core : IsCore d) (victims : List ℕ) → MayBegin d victims
@@ -237,13 +297,13 @@ may_clean_now d core victims may = record {
       (victims_listed d core victims may.victims) m;
 }
 
--- the survivor's seglets are free
-pub survivor_free : (d : MasterData) → IsCore d → (victims : List ℕ) → MayBegin d victims → (v w : ImagesValue)
+-- the survivors' seglets are free
+pub survivors_free : (d : MasterData) → IsCore d → (victims : List ℕ) → MayBegin d victims → (v w : ImagesValue)
     → AreImagesOf d.config w
-    → d.closed ≡ w.images → v ≡ record w { room = v.room } → v.segment / v.seglet ≤ free_images v
-survivor_free d core victims may v w are images same =
-    let both = and_parts _ _ may.rule in
-    let enough = leb-true (2 * whole_seglets d.config) (free_seglets d) both.0 in
+    → d.closed ≡ w.images → v ≡ record w { room = v.room }
+    → survivors_for d victims * whole_seglets d.config ≤ free_images v
+survivors_free d core victims may v w are images same =
+    let enough = (rules_of d victims may).0 in
     let was = core.budget in
     let segment : v.segment ≡ d.config.segment = ap (λ (x : ImagesValue). x.segment) same ∙ are.segment in
     let seglet : v.seglet ≡ d.config.seglet = ap (λ (x : ImagesValue). x.seglet) same ∙ are.seglet in

@@ -1,13 +1,13 @@
 -- What stands at the places that a pass has before it, and what of it is kept.
-use Rattle.std.proofs.Common.{◌≡◌, ◌⊎◌, inl, inr, ℕ, ◌+◌, ◌<◌, ◌≤◌, Bool, true, false, List, [], ◌∷◌, ◌++◌, length}
+use Rattle.std.proofs.Common.{◌≡◌, ◌⊎◌, inl, inr, ℕ, ◌+◌, ◌<◌, Bool, true, false, List, [], ◌∷◌, ◌++◌, length}
 use Rattle.std.proofs.Common.{drop, refl, sym, ap, subst, ◌∙◌, append_assoc}
 use Rattle.std.specs.Prelude.{Some, filter, nat_le, ◌==◌}
 use Rattle.std.specs.List.{AllByRecursion}
 use Rattle.std.proofs.lemmas.Option.{same_Some}
 use Rattle.cleaner.specs.declared.pass.Pass.{Pass}
 use Rattle.cleaner.specs.Laws.{KeepsNoMore}
-use Rattle.cleaner.specs.Passes.{images_in, places_from, places_of, places_on, rest_of, kept_left}
-use Rattle.cleaner.proofs.Keeping.{kept_no_more, stands}
+use Rattle.cleaner.specs.Passes.{images_in, places_from, places_of, places_on, rest_of}
+use Rattle.cleaner.proofs.Keeping.{stands}
 use Rattle.cleaner.proofs.Places.{length_last}
 use Rattle.entry.specs.declared.entry.Entry.{Entry}
 use Rattle.entry.specs.declared.entry.Entry.TheVariants as entry
@@ -110,23 +110,20 @@ module _ (images : ℕ → List Entry) (each : (s : ℕ) → AllByRecursion IsEn
 
 -- ---- other ids of the log set
 
--- If tombstones name ids below one, and no id below that one is new in the log set, no more bytes are left.
+-- If tombstones name ids below one, and no id below that one is new in the log set, no more is kept.
 module _ (ids again : List ℕ) (held : Places) (images : ℕ → List Entry)
     (each : (s : ℕ) → AllByRecursion IsEntry (images s))
     (p : Pass) (unused : ℕ)
     (named : (q : Place) (t : Tombstone) → IsAmong q (rest_of images p) → IsAmong (entry.Tombstone t) (images q.segment)
     → t.segment < unused)
     (covers : (z : ℕ) → z < unused → has_id again z ≡ true → has_id ids z ≡ true) where
-  no_more : KeepsNoMore ids again held held images (rest_of images p)
+  pub no_more : KeepsNoMore ids again held held images (rest_of images p)
   no_more q (entry.Header h) m read is = refl
   no_more q (entry.Digest l) m read is = refl
   no_more q (entry.Safe version) m read is = refl
   no_more q (entry.Object o) m read is = is
   no_more q (entry.Tombstone t) m read is =
       covers t.segment (named q t m (read_among images each p q m (entry.Tombstone t) read)) is
-
-  pub left_less : kept_left again held images (rest_of images p) ≤ kept_left ids held images (rest_of images p)
-  left_less = kept_no_more ids again held held images (rest_of images p) no_more
 
 -- each closed image is of entries
 pub closed_each : (cs : List Image) → AllByRecursion (λ (c : Image). IsSegment c.segment) cs → (s : ℕ)

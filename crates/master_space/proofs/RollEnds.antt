@@ -6,9 +6,10 @@ use Rattle.std.specs.Prelude.{if◌then◌else◌}
 use Rattle.std.specs.List.{AllByRecursion}
 use Rattle.std.specs.Option.{option_map, option_map_or, option_to_list}
 use Rattle.cleaner.specs.declared.pass.Pass.{Pass}
-use Rattle.cleaner.specs.Passes.{images_in, rest_of, kept_left, IsPass, AreVictims as AreOlder}
+use Rattle.cleaner.specs.KeptLengths.{HasRoomsIn}
+use Rattle.cleaner.specs.Passes.{images_in, survivor_ids, IsPass, AreVictims as AreOlder}
 use Rattle.cleaner.proofs.Ends.{rest_same, cursor_agrees, rest_segment}
-use Rattle.cleaner.proofs.Keeping.{kept_same}
+use Rattle.cleaner.proofs.RoomLaws.{rooms_stay}
 use Rattle.clean_model.specs.Intact.{BeginAsSurvivor}
 use Rattle.compactor.specs.Kept.{has_id}
 use Rattle.compactor.specs.Places.{keys_in}
@@ -17,10 +18,11 @@ use Rattle.entry.specs.declared.entry.Entry.TheVariants as entry
 use Rattle.entry.specs.Bag.{IsAmong}
 use Rattle.entry.specs.Format.{IsEntry}
 use Rattle.entry.specs.Text.{text_of, IsSegment}
+use Rattle.entry.proofs.ListLemmas.{all_among, all_from_among}
 use Rattle.places.specs.declared.place.Place.{Place}
 use Rattle.places.specs.Map.{found, AreKept}
 use Rattle.images.specs.Images.{count_of}
-use Rattle.images.specs.Sorted.{image_of, segment_of, added}
+use Rattle.images.specs.Sorted.{IsWhole, image_of, segment_of, added}
 use Rattle.images.proofs.Adding.{image_found, segment_found, all_added, sum_added}
 use Rattle.log_head.specs.declared.head.Roll.{Roll}
 use Rattle.log_head.specs.Head.{IsHeadValue, IsRollValue, digest_of}
@@ -44,7 +46,7 @@ use Rattle.master_state.specs.Log.{image_of as image_now, images_of, log_set_ids
 use Rattle.master_state.proofs.Imaging.{ids_in, other_id, same_roll, closed_same}
 use Rattle.master_state.proofs.LogIds.{absent, no_segment, no_head, start_rises, others_below, older_image, apart}
 use Rattle.master_state.proofs.Passing.{victim_below}
-use Rattle.master_space.proofs.Placed.{closed_each, left_less}
+use Rattle.master_space.proofs.Placed.{closed_each, no_more}
 use Rattle.master_state.proofs.Rising.{all_below, all_top, has_more, has_put}
 
 -- ---- one more closed segment
@@ -96,18 +98,23 @@ module _ (d : MasterData) (core : IsCore d) (r : Roll) (is : d.head.roll ≡ Som
         apart = own.apart;
         older = own.older;
       });
-      survivor = (let own = all.survivor in record {
-        outside = own.outside;
-        not_new = own.not_new;
-        used = own.used;
-        begins = own.begins;
+      survivors = (let own = all.survivors in record {
+        some = own.some;
+        few = own.few;
+        each = λ s m. (let one = own.each s m in record {
+          outside = one.outside;
+          not_new = one.not_new;
+          used = one.used;
+          begins = one.begins;
+          within = one.within;
+        });
       });
-      fits = all.fits;
+      rooms = all.rooms;
       sealed = all.sealed;
       live = λ k q finds victim. all.live k q (ap (λ (images : ℕ → List Entry). found (keys_in images) k d.index)
           (λ i s. unwrap_or (sym (same_roll (record d.head { roll = Some r }) d.closed r
           (record r { opened = opened; closed = closed }) refl refl refl s) i) []) ∙ finds) victim;
-      text = all.text;
+      unsealed = all.unsealed;
       spare = λ early. (let own = all.spare early in record { free = own.free; listed = own.listed });
       commits = all.commits;
     }
@@ -264,25 +271,29 @@ module _ (d : MasterData) (core : IsCore d) (r : Roll) (is : d.head.roll ≡ Som
     images_then : images_of old_closed ≡ images_of d
     images_then = λ i s. unwrap_or (closed_images s i) []
 
-    module _ (p : Pass) (own : IsOpenPass d p) (out : d.head.id ≡ p.survivor → ⊥) where
+    module _ (p : Pass) (own : IsOpenPass d p)
+        (out : (s : ℕ) → IsAmong s (survivor_ids p.survivors) → d.head.id ≡ s → ⊥) where
       same_at : (s : ℕ) → IsAmong s p.victims → images_in old_closed.closed s ≡ images_in d.closed s
       same_at s m = same_in s (λ same. (let lt = victim_below d core p own s m in omega arith))
 
       pass_kept : IsPass d.index.seed old_closed.closed p
       pass_kept = record {
         victims = each p.victims own.pass.victims;
-        whole = subst (λ (o : Option Image). IsSomeAnd o (λ (image : Image). image.is_whole ≡ true))
-            (sym found_same) own.pass.whole;
+        whole = all_from_among (IsWhole old_closed.closed) (survivor_ids p.survivors) (λ s m.
+            subst (λ (o : Option Image). IsSomeAnd o (λ (image : Image). image.is_whole ≡ true))
+            (sym (found_same s (out s m)))
+            (all_among (IsWhole d.closed) (survivor_ids p.survivors) s own.pass.whole m));
+        numbers = own.pass.numbers;
         within = own.pass.within;
         cursor = cursor_agrees d.index.seed (images_in d.closed) (images_in old_closed.closed) p same_at
             own.pass.cursor;
       } where
-        found_same : image_of old_closed.closed p.survivor ≡ image_of d.closed p.survivor
-        found_same =
-            let away = other_id d.head.id p.survivor out in
-            image_found (closed_image d.head.id d.head.image) d.closed p.survivor no_old
+        found_same : (s : ℕ) → (d.head.id ≡ s → ⊥) → image_of old_closed.closed s ≡ image_of d.closed s
+        found_same s other =
+            let away = other_id d.head.id s other in
+            image_found (closed_image d.head.id d.head.image) d.closed s no_old
             ∙ ap (λ (b : Bool). if b then Some (closed_image d.head.id d.head.image)
-            else image_of d.closed p.survivor) away
+            else image_of d.closed s) away
 
         there : (s : ℕ) → IsSome (segment_of d.closed s) → IsSome (segment_of old_closed.closed s)
         there s some =
@@ -293,7 +304,8 @@ module _ (d : MasterData) (core : IsCore d) (r : Roll) (is : d.head.roll ≡ Som
             by_test true = refl
             by_test false = some
 
-        each : (vs : List ℕ) → AreOlder d.closed p.survivor vs → AreOlder old_closed.closed p.survivor vs
+        each : (vs : List ℕ) → AreOlder d.closed p.survivors.first vs
+            → AreOlder old_closed.closed p.survivors.first vs
         each [] all = tt
         each (v ∷ vs) all = ((there v all.0.0, all.0.1), each vs all.1)
 
@@ -317,39 +329,38 @@ module _ (d : MasterData) (core : IsCore d) (r : Roll) (is : d.head.roll ≡ Som
           each vs all.1,
         )
 
-      survivor_kept : IsSurvivor old_closed p.survivor
-      survivor_kept = record {
-        outside = subst (λ (n : Start). has (ids_of n) p.survivor ≡ false)
-            (sym (ap (λ (l : Head). l.start) head_then)) (
-            has_more (start_of r).others (start_of r).id p.survivor
-            ∙ (λ i. has (lists i) p.survivor || (id_then i == p.survivor))
-            ∙ (λ i. own.survivor.outside i || new i));
-        not_new = tt;
-        used = own.survivor.used;
-        begins = subst (λ (es : List Entry). BeginAsSurvivor d.config.master p.survivor es)
-            (sym (same_in p.survivor out)) own.survivor.begins;
-      } where
-        new : (r.id == p.survivor) ≡ false
-        new = subst (λ (n : Option Roll). IfSome n (λ (q : Roll). (q.id == p.survivor) ≡ false)) is own.survivor.not_new
+      survivor_kept : (s : ℕ) → IsAmong s (survivor_ids p.survivors) → IsSurvivor old_closed s
+      survivor_kept s m =
+          let one = own.survivors.each s m in record {
+            outside = subst (λ (n : Start). has (ids_of n) s ≡ false)
+                (sym (ap (λ (l : Head). l.start) head_then)) (
+                has_more (start_of r).others (start_of r).id s
+                ∙ (λ i. has (lists i) s || (id_then i == s))
+                ∙ (λ i. one.outside i || new one.not_new i));
+            not_new = tt;
+            used = one.used;
+            begins = subst (λ (es : List Entry). BeginAsSurvivor d.config.master s es)
+                (sym (same_in s (out s m))) one.begins;
+            within = subst (λ (es : List Entry). length (text_of es) ≤ d.config.segment)
+                (sym (same_in s (out s m))) one.within;
+          }
+        where
+          new : IfSome d.head.roll (λ (q : Roll). (q.id == s) ≡ false) → (r.id == s) ≡ false
+          new not = subst (λ (n : Option Roll). IfSome n (λ (q : Roll). (q.id == s) ≡ false)) is not
 
-      left_kept : kept_left (log_set_ids old_closed) d.index (images_in old_closed.closed)
-          (rest_of (images_in old_closed.closed) p)
-          ≤ kept_left (log_set_ids d) d.index (images_in d.closed) (rest_of (images_in d.closed) p)
-      left_kept =
-          let rest = ap (kept_left (log_set_ids old_closed) d.index (images_in old_closed.closed))
-          (rest_same (images_in d.closed) (images_in old_closed.closed) p same_at) in
-          let same = kept_same (log_set_ids old_closed) d.index (images_in d.closed) (images_in old_closed.closed)
-          (rest_of (images_in d.closed) p)
-          (λ q m. same_at q.segment (rest_segment (images_in d.closed) p q m)) in
-          let less = left_less (log_set_ids d) (log_set_ids old_closed) d.index (images_in d.closed)
+      rooms_kept : HasRoomsIn d.config.segment (log_set_ids old_closed) p old_closed.closed d.index
+      rooms_kept =
+          rooms_stay d.config.segment (log_set_ids d) (log_set_ids old_closed) p d.closed old_closed.closed
+          d.index d.index same_at (λ s m. same_in s (out s m))
+          (no_more (log_set_ids d) (log_set_ids old_closed) d.index (images_in d.closed)
           (closed_each d.closed core.segments) p d.next
           (λ q t m stands. (let lt = victim_below d core p own q.segment (rest_segment (images_in d.closed) p q m) in
           core.named q.segment t (subst (λ (image : List Entry). IsAmong (entry.Tombstone t) image)
           (sym (older_image d core q.segment lt)) stands)))
-          (λ z lt test. sym (same_set z) ∙ test) in
-          omega arith
+          (λ z lt test. sym (same_set z) ∙ test))
+          own.rooms
 
-      spare_kept : p.is_committing ≡ false → IsSpare old_closed (length p.victims)
+      spare_kept : p.is_committing ≡ false → IsSpare old_closed (length p.victims) p.survivors.count
       spare_kept early =
           let spare = own.spare early in
           let free = spare.free in
@@ -364,16 +375,14 @@ module _ (d : MasterData) (core : IsCore d) (r : Roll) (is : d.head.roll ≡ Som
       pass_goes_on early = record {
         pass = pass_kept;
         victims = victims_kept;
-        survivor = survivor_kept;
-        fits = (let less = left_kept in let text = ap (λ (es : List Entry). length (text_of es))
-            (same_in p.survivor out) in
-            let fits = own.fits in omega arith);
+        survivors = record { some = own.survivors.some; few = own.survivors.few; each = survivor_kept };
+        rooms = rooms_kept;
         sealed = own.sealed;
         live = λ k q finds victim. subst (λ (places : List Place). IsAmong q places)
             (sym (rest_same (images_in d.closed) (images_in old_closed.closed) p same_at))
             (own.live k q (ap (λ (images : ℕ → List Entry). found (keys_in images) k d.index)
             (sym images_then) ∙ finds) victim);
-        text = own.text;
+        unsealed = own.unsealed;
         spare = spare_kept;
         commits = λ test. (let never : false ≡ true = sym early ∙ test in absurd (cc));
       }
@@ -395,8 +404,8 @@ module _ (d : MasterData) (core : IsCore d) (r : Roll) (is : d.head.roll ≡ Som
         })
       where
         passes : (o : Option Pass) → IfSome o (IsOpenPass d)
-            → IfSome o (λ (p : Pass). (has (head_of d.head).start.others p.survivor ≡ false)
-            × (d.head.id ≡ p.survivor → ⊥))
+            → ((s : ℕ) → IsAmong s (survivors_of o) → (has (head_of d.head).start.others s ≡ false)
+            × (d.head.id ≡ s → ⊥))
             → option_map_or (λ (p : Pass). p.is_committing) o false ≡ false → IfSome o (IsOpenPass old_closed)
         passes None all out not = tt
-        passes (Some p) all out not = pass_goes_on p all out.1 not
+        passes (Some p) all out not = pass_goes_on p all (λ s m. (out s m).1) not

@@ -8,9 +8,12 @@ use Rattle.std.specs.Option.{option_map, option_map_or}
 use Rattle.std.proofs.Math.Nat.{mul-div-le}
 use Rattle.std.proofs.lemmas.Bool.{and_parts, leb-true}
 use Rattle.std.proofs.lemmas.List.{length-append}
+use Rattle.std.proofs.lemmas.List.FromFn.{length-range_with_len}
 use Rattle.cleaner.specs.declared.pass.Pass.{Pass}
-use Rattle.cleaner.specs.Passes.{is_ready as is_ready_pass}
+use Rattle.cleaner.specs.Passes.{survivor_ids, is_ready as is_ready_pass}
+use Rattle.entry.specs.declared.digest.Listed.{Listed}
 use Rattle.entry.specs.Text.{text_of}
+use Rattle.entry.proofs.ListLemmas.{all_from_among}
 use Rattle.images.proofs.Counts.{within_whole}
 use Rattle.log_head.specs.declared.head.Roll.{Roll}
 use Rattle.log_head.specs.Head.{IsHeadValue, digest_of}
@@ -22,17 +25,19 @@ use Rattle.log_model.proofs.Lengths.{ids_listed}
 use Rattle.log_model.specs.Ids.{has, all_inserted, without}
 use Rattle.master_state.specs.Budget.{newest_digest, most_segments, whole_seglets, seglets_of, head_seglets}
 use Rattle.master_state.specs.Budget.{used_seglets, free_seglets}
-use Rattle.master_state.specs.Budget.{victims_of, survivors_of, is_ready, has_space, segments_taken, segments_leaving}
+use Rattle.master_state.specs.Budget.{victims_of, survivors_of, is_ready, has_space}
+use Rattle.master_state.specs.Budget.{segments_taken, segments_entering, segments_leaving}
 use Rattle.master_state.specs.Causes.{roll_refusal}
 use Rattle.master_state.specs.Data.{MasterData}
 use Rattle.master_state.specs.Invariant.{IsOpenPass, IsSpare, IsCore, listed_now}
-use Rattle.master_state.specs.Steps.{survivor_bytes, start_now, rolling_data}
+use Rattle.master_state.specs.Steps.{listed_in, start_now, rolling_data}
 use Rattle.master_space.proofs.Begun.{begun, next_with, pass_then, begun_core}
 use Rattle.master_space.proofs.Leaving.{length_left}
+use Rattle.master_space.proofs.SurvivorLens.{ids_listed_in}
 use Rattle.master_state.proofs.LogIds.{rises, others_below, open_of}
 use Rattle.master_state.proofs.Refusals.{MayBeginRoll, may_begin, open_parts, sizes_of}
-use Rattle.master_state.proofs.Rising.{Rise, increasing, all_left, all_put, rise_left, rise_put, rise_more, length_put}
-use Rattle.master_state.proofs.Rising.{none_left, without_none, has_more}
+use Rattle.master_state.proofs.Rising.{Rise, AreOut, increasing, all_left, all_put_all, rise_left, rise_range, rise_all}
+use Rattle.master_state.proofs.Rising.{rise_more, length_all, none_left, without_none, has_more}
 
 -- ---- the next head
 
@@ -43,13 +48,13 @@ new_ids d =
     else without [] (digest_of d.head.image)
 
 abbrev pub pass_now : MasterData → Option Pass
-pass_now d = option_map (λ (p : Pass). record p { is_committing = is_ready_pass d.config.replicas p }) d.pass
+pass_now d = option_map (λ (p : Pass). record p { is_committing = is_ready_pass p }) d.pass
 
 -- what it begins with, if it is a commit's or isn't
 abbrev pub start_by : MasterData → Bool → Start
 start_by d t =
-    if t then start_after d.head (victims_of d.pass) (survivors_of d.pass) (survivor_bytes d) d.next d.safe
-    else start_after d.head [] [] 0 d.next d.safe
+    if t then start_after d.head (victims_of d.pass) (listed_in d.closed (survivors_of d.pass)) d.next d.safe
+    else start_after d.head [] [] d.next d.safe
 
 -- the lengths of these, if it lists lengths
 abbrev pub new_lens : MasterData → Option (List ℕ)
@@ -60,15 +65,21 @@ start_now_is d = go (is_ready d) where
   go : (t : Bool) → start_by d t
       ≡ next_with d (if t then all_inserted (survivors_of d.pass) (without (victims_of d.pass) (digest_of d.head.image))
       else without [] (digest_of d.head.image)) (start_by d t).lens
-  go true = refl
+  go true = λ i. record {
+    id = d.next;
+    others = all_inserted (ids_listed_in d.closed (survivors_of d.pass) i)
+        (without (victims_of d.pass) (digest_of d.head.image));
+    lens = (start_by d true).lens;
+    safe = d.safe;
+  }
   go false = refl
 
 -- as many as ids
 pub start_has : (d : MasterData) → HasLens (start_now d)
 start_has d = go (is_ready d) where
   go : (t : Bool) → HasLens (start_by d t)
-  go true = start_after_has d.head (victims_of d.pass) (survivors_of d.pass) (survivor_bytes d) d.next d.safe
-  go false = start_after_has d.head [] [] 0 d.next d.safe
+  go true = start_after_has d.head (victims_of d.pass) (listed_in d.closed (survivors_of d.pass)) d.next d.safe
+  go false = start_after_has d.head [] [] d.next d.safe
 
 pub new_has : (d : MasterData) → HasLens (next_with d (new_ids d) (new_lens d))
 new_has d = subst HasLens (start_now_is d) (start_has d)
@@ -81,23 +92,24 @@ rolling_is d = ap (λ (n : Start). record d {
 }) (start_now_is d)
 
 -- the parts that are handed to the head
-pub start_parts : (d : MasterData) (vs ss : List ℕ) (len : ℕ) → vs ≡ (if is_ready d then victims_of d.pass else [])
-    → ss ≡ (if is_ready d then survivors_of d.pass else []) → len ≡ (if is_ready d then survivor_bytes d else 0)
-    → start_after d.head vs ss len d.next d.safe ≡ start_now d
-start_parts d vs ss len victims survivors same =
-    (λ i. start_after d.head (victims i) (survivors i) (same i) d.next d.safe)
+pub start_parts : (d : MasterData) (vs : List ℕ) (ss : List Listed)
+    → vs ≡ (if is_ready d then victims_of d.pass else [])
+    → ss ≡ (if is_ready d then listed_in d.closed (survivors_of d.pass) else [])
+    → start_after d.head vs ss d.next d.safe ≡ start_now d
+start_parts d vs ss victims survivors =
+    (λ i. start_after d.head (victims i) (survivors i) d.next d.safe)
     ∙ go (is_ready d) where
       go : (t : Bool) → start_after d.head (if t then victims_of d.pass else [])
-          (if t then survivors_of d.pass else []) (if t then survivor_bytes d else 0) d.next d.safe ≡ start_by d t
+          (if t then listed_in d.closed (survivors_of d.pass) else []) d.next d.safe ≡ start_by d t
       go true = refl
       go false = refl
 
 pub pass_marked : (d : MasterData) (b : Bool) → is_ready d ≡ b
     → option_map (λ (p : Pass). record p { is_committing = b }) d.pass ≡ pass_now d
 pass_marked d b is = go d.pass is where
-  go : (o : Option Pass) → option_map_or (is_ready_pass d.config.replicas) o false ≡ b
+  go : (o : Option Pass) → option_map_or is_ready_pass o false ≡ b
       → option_map (λ (p : Pass). record p { is_committing = b }) o
-      ≡ option_map (λ (p : Pass). record p { is_committing = is_ready_pass d.config.replicas p }) o
+      ≡ option_map (λ (p : Pass). record p { is_committing = is_ready_pass p }) o
   go None test = refl
   go (Some p) test = ap (λ (t : Bool). Some (record p { is_committing = t })) (sym test)
 
@@ -116,14 +128,14 @@ room_marked (Some p) false vs n room is enough = λ commits. absurd (cc)
 pub record HasReady (d : MasterData) : Type 0 where
   pub pass : Pass
   pub opened : d.pass ≡ Some pass
-  pub ready : is_ready_pass d.config.replicas pass ≡ true
+  pub ready : is_ready_pass pass ≡ true
   pub test : is_ready d ≡ true
 
 -- No pass is ready, and the rule lets the roll begin.
 pub record HasSpace (d : MasterData) : Type 0 where
   pub test : is_ready d ≡ false
   pub most : length (newest_digest d.head) + 1 ≤ most_segments d.config
-  pub left : length (newest_digest d.head) + 1 ≤ most_segments d.config - 2 + segments_leaving d
+  pub left : length (newest_digest d.head) + 1 ≤ most_segments d.config - 1 - segments_entering d + segments_leaving d
   pub free : (2 - segments_taken d) * whole_seglets d.config + seglets_of d.config d.head.image ≤ free_seglets d
 
 ready_or_space : (d : MasterData) → roll_refusal d ≡ None → HasReady d ⊎ HasSpace d
@@ -146,12 +158,12 @@ ready_or_space d passed = by_pass d.pass refl (is_ready d) refl where
   by_pass o same false is = inr (space is)
   by_pass None same true is =
       let never : false ≡ true = sym (ap (λ (o : Option Pass). option_map_or
-      (is_ready_pass d.config.replicas) o false) same) ∙ is in
+      is_ready_pass o false) same) ∙ is in
       absurd (cc)
   by_pass (Some p) same true is = inl (record {
     pass = p;
     opened = same;
-    ready = sym (ap (λ (o : Option Pass). option_map_or (is_ready_pass d.config.replicas) o false) same) ∙ is;
+    ready = sym (ap (λ (o : Option Pass). option_map_or is_ready_pass o false) same) ∙ is;
     test = is;
   })
 
@@ -170,9 +182,9 @@ module _ (d : MasterData) (core : IsCore d) (passed : roll_refusal d ≡ None) w
       (digest_of d.head.image))) none
 
   -- a pass that is open keeps a whole segment free, since no commit is under way
-  spare_of : (p : Pass) → IsOpenPass d p → IsSpare d (length p.victims)
+  spare_of : (p : Pass) → IsOpenPass d p → IsSpare d (length p.victims) p.survivors.count
   spare_of p opens = go p.is_committing refl where
-    go : (t : Bool) → p.is_committing ≡ t → IsSpare d (length p.victims)
+    go : (t : Bool) → p.is_committing ≡ t → IsSpare d (length p.victims) p.survivors.count
     go true is = (let some = (opens.commits is).0 in let never : IsSome {T = Roll} None = subst IsSome none
         some in absurd (cc))
     go false is = opens.spare is
@@ -192,10 +204,11 @@ module _ (d : MasterData) (core : IsCore d) (passed : roll_refusal d ≡ None) w
             each vs all.1,
           )
 
-    commit_few : length (all_inserted (p.survivor ∷ []) (without p.victims (digest_of d.head.image))) + 1
+    commit_few : length (all_inserted (survivor_ids p.survivors) (without p.victims (digest_of d.head.image))) + 1
         ≤ most_segments d.config
     commit_few =
-        let put = length_put p.survivor (without p.victims (digest_of d.head.image)) in
+        let put = length_all (survivor_ids p.survivors) (without p.victims (digest_of d.head.image)) in
+        let count = length-range_with_len p.survivors.first p.survivors.count in
         let left = length_left p.victims (digest_of d.head.image) opens.victims.apart older in
         let listed = (spare_of p opens).listed in
         let same = newest in
@@ -239,10 +252,13 @@ module _ (d : MasterData) (core : IsCore d) (passed : roll_refusal d ≡ None) w
           go [] all = (let same = core.image.id in let lt = core.used in omega arith, tt)
           go (s ∷ ids) all = (let lt = all.0 in let used = core.used in (omega arith, go ids all.1))
 
-    stays : (p : Pass) → IsOpenPass d p → has (without p.victims (digest_of d.head.image)) p.survivor ≡ false
+    stays : (p : Pass) → IsOpenPass d p
+        → AreOut (survivor_ids p.survivors) (without p.victims (digest_of d.head.image))
     stays p opens =
-        none_left p.victims (digest_of d.head.image) p.survivor
-        (ap (λ (ids : List ℕ). has ids p.survivor) digest ∙ opens.survivor.outside)
+        all_from_among (λ (s : ℕ). has (without p.victims (digest_of d.head.image)) s ≡ false)
+        (survivor_ids p.survivors)
+        (λ s m. none_left p.victims (digest_of d.head.image) s
+        (ap (λ (ids : List ℕ). has ids s) digest ∙ (opens.survivors.each s m).outside))
 
     up : HasReady d ⊎ HasSpace d → Rise (new_ids d)
     up (inl is) =
@@ -251,7 +267,8 @@ module _ (d : MasterData) (core : IsCore d) (passed : roll_refusal d ≡ None) w
         let opens = open_of d core p is.opened in
         rw test (subst (λ (o : Option Pass). Rise (all_inserted (survivors_of o)
         (without (victims_of o) (digest_of d.head.image)))) (sym is.opened)
-        (rise_put p.survivor (without p.victims (digest_of d.head.image)) (stays p opens)
+        (rise_all (survivor_ids p.survivors) (without p.victims (digest_of d.head.image)) (stays p opens)
+        (rise_range p.survivors.first p.survivors.count)
         (rise_left p.victims (digest_of d.head.image) digest_rises)))
     up (inr is) = (let test = is.test in rw test (rise_left [] (digest_of d.head.image) digest_rises))
 
@@ -263,8 +280,10 @@ module _ (d : MasterData) (core : IsCore d) (passed : roll_refusal d ≡ None) w
         rw test (subst (λ (o : Option Pass). AllByRecursion (λ (s : ℕ). s < d.next)
         (all_inserted (survivors_of o) (without (victims_of o) (digest_of d.head.image))))
         (sym is.opened)
-        (all_put (λ (s : ℕ). s < d.next) p.survivor (without p.victims (digest_of d.head.image))
-        (all_left (λ (s : ℕ). s < d.next) p.victims (digest_of d.head.image) digest_below) opens.survivor.used))
+        (all_put_all (λ (s : ℕ). s < d.next) (survivor_ids p.survivors) (without p.victims (digest_of d.head.image))
+        (all_left (λ (s : ℕ). s < d.next) p.victims (digest_of d.head.image) digest_below)
+        (all_from_among (λ (s : ℕ). s < d.next) (survivor_ids p.survivors)
+        (λ s m. (opens.survivors.each s m).used))))
     below (inr is) = (let test = is.test in rw test (all_left (λ (s : ℕ). s < d.next) []
         (digest_of d.head.image) digest_below))
 
@@ -279,21 +298,21 @@ module _ (d : MasterData) (core : IsCore d) (passed : roll_refusal d ≡ None) w
   survivors_same : survivors_of (pass_now d) ≡ survivors_of d.pass
   survivors_same = go d.pass where
     go : (o : Option Pass) → survivors_of (option_map (λ (p : Pass). record p
-        { is_committing = is_ready_pass d.config.replicas p }) o) ≡ survivors_of o
+        { is_committing = is_ready_pass p }) o) ≡ survivors_of o
     go None = refl
     go (Some p) = refl
 
   lists_then : new_ids d ≡ listed_now e
   lists_then = go d.pass where
     go : (o : Option Pass)
-        → (if option_map_or (is_ready_pass d.config.replicas) o false
+        → (if option_map_or is_ready_pass o false
         then all_inserted (survivors_of o) (without (victims_of o) (digest_of d.head.image))
         else without [] (digest_of d.head.image))
         ≡ listed_now (begun d (new_ids d) (new_lens d) (option_map (λ (p : Pass). record p
-        { is_committing = is_ready_pass d.config.replicas p }) o))
+        { is_committing = is_ready_pass p }) o))
     go None = without_none (digest_of d.head.image) ∙ digest
     go (Some p) =
-        λ i. if is_ready_pass d.config.replicas p then all_inserted (p.survivor ∷ []) (without p.victims (digest i))
+        λ i. if is_ready_pass p then all_inserted (survivor_ids p.survivors) (without p.victims (digest i))
         else (without_none (digest_of d.head.image) ∙ digest) i
 
   counted : head_seglets d.config d.head ≡ whole_seglets d.config
@@ -338,6 +357,7 @@ module _ (d : MasterData) (core : IsCore d) (passed : roll_refusal d ≡ None) w
   -- what an ordinary roll leaves for the open pass
   spare_then : (p : Pass) → d.pass ≡ Some p → HasSpace d
       → IsSpare (begun d (without [] (digest_of d.head.image)) (new_lens d) (pass_now d)) (length p.victims)
+      p.survivors.count
   spare_then p is s =
       let own = counted in
       let budget = core.budget in
@@ -346,6 +366,9 @@ module _ (d : MasterData) (core : IsCore d) (passed : roll_refusal d ≡ None) w
       let one : segments_taken d ≡ 1 = ap (λ (o : Option Pass). option_map_or (λ (q : Pass). 1) o 0) is in
       let leaving : segments_leaving d ≡ length p.victims =
       ap (λ (o : Option Pass). option_map_or (λ (q : Pass). length q.victims) o 1) is in
+      let entering : segments_entering d ≡ p.survivors.count =
+      ap (λ (o : Option Pass). option_map_or (λ (q : Pass). q.survivors.count) o 1) is in
+      let few = (open_of d core p is).survivors.few in
       let product : (2 - segments_taken d) * whole_seglets d.config ≡ whole_seglets d.config =
       ap (λ (n : ℕ). (2 - n) * whole_seglets d.config) one ∙ omega arith in
       let free = s.free in
@@ -358,21 +381,22 @@ module _ (d : MasterData) (core : IsCore d) (passed : roll_refusal d ≡ None) w
 
   module _ (valid : IsHeadValue (with_roll d.head d.config.master (next_with d (new_ids d) (new_lens d)))) where
     pass_of : (o : Option Pass) → d.pass ≡ o → HasReady d ⊎ HasSpace d
-        → IfSome (option_map (λ (p : Pass). record p { is_committing = is_ready_pass d.config.replicas p }) o)
+        → IfSome (option_map (λ (p : Pass). record p { is_committing = is_ready_pass p }) o)
         (IsOpenPass e)
     pass_of None is cases = tt
     pass_of (Some p) is cases =
-        pass_then d core (new_ids d) (new_lens d) (pass_now d) none valid (new_has d) p (is_ready_pass d.config.replicas p) (open_of d core p is)
-        (spares cases) (λ ready. ready)
+        pass_then d core (new_ids d) (new_lens d) (pass_now d) none valid (new_has d) p (is_ready_pass p)
+        (open_of d core p is) (spares cases) (λ ready. ready)
       where
-        readiness : is_ready d ≡ is_ready_pass d.config.replicas p
-        readiness = ap (λ (o : Option Pass). option_map_or (is_ready_pass d.config.replicas) o false) is
+        readiness : is_ready d ≡ is_ready_pass p
+        readiness = ap (λ (o : Option Pass). option_map_or is_ready_pass o false) is
 
-        spares : HasReady d ⊎ HasSpace d → is_ready_pass d.config.replicas p ≡ false → IsSpare e (length p.victims)
+        spares : HasReady d ⊎ HasSpace d → is_ready_pass p ≡ false → IsSpare e (length p.victims) p.survivors.count
         spares (inl s) not = (let never : true ≡ false = sym s.test ∙ readiness ∙ not in absurd (cc))
         spares (inr s) not =
             let test = s.test in
-            subst (λ (ids : List ℕ). IsSpare (begun d ids (new_lens d) (pass_now d)) (length p.victims)) (sym (ids_then test))
+            subst (λ (ids : List ℕ). IsSpare (begun d ids (new_lens d) (pass_now d)) (length p.victims)
+            p.survivors.count) (sym (ids_then test))
             (spare_then p is s)
           where
             ids_then : is_ready d ≡ false → new_ids d ≡ without [] (digest_of d.head.image)
@@ -382,5 +406,5 @@ module _ (d : MasterData) (core : IsCore d) (passed : roll_refusal d ≡ None) w
     rolled_core =
         let cases = ready_or_space d passed in
         subst IsCore (sym (rolling_is d))
-        (begun_core d core (new_ids d) (new_lens d) (pass_now d) none valid (new_has d) may.ids survivors_same lists_then new_few
-        (budget_of cases) (pass_of d.pass refl cases))
+        (begun_core d core (new_ids d) (new_lens d) (pass_now d) none valid (new_has d) may.ids survivors_same
+        lists_then new_few (budget_of cases) (pass_of d.pass refl cases))

@@ -1,17 +1,21 @@
 -- Which segments a pass takes next, and what a master does next.
-use Rattle.std.specs.Prelude.{◌≡◌, true, ℕ, ◌-◌, ◌==◌, ◌&&◌, ◌||◌, Bool, not, nat_le, nat_lt, if◌then◌else◌}
-use Rattle.std.specs.Prelude.{List, [], ◌∷◌, length, map, filter, take, Option, Some, None}
+use Rattle.std.specs.Prelude.{◌≡◌, true, ℕ, suc, ◌==◌, ◌&&◌, ◌||◌, Bool, not, nat_lt, if◌then◌else◌}
+use Rattle.std.specs.Prelude.{List, [], ◌∷◌, length, map, filter, take, Option, Some, None, is_some}
 use Rattle.std.specs.Option.{option_map_or}
 use Rattle.cleaner.specs.declared.pass.Pass.{Pass}
-use Rattle.cleaner.specs.Passes.{is_at_end}
+use Rattle.cleaner.specs.declared.level.Level.{Level}
+use Rattle.cleaner.specs.Filling.{first_level, filled}
+use Rattle.cleaner.specs.KeptLengths.{segment_lengths}
+use Rattle.cleaner.specs.Passes.{images_in, is_at_end, next_seal as next_seal_of}
 use Rattle.entry.specs.Text.{text_of, is_data}
 use Rattle.log_head.specs.Head.{is_open, digest_of}
 use Rattle.master_space.specs.declared.candidates.Candidate.{Candidate}
 use Rattle.master_state.specs.declared.step.Step.{Step}
 use Rattle.master_state.specs.declared.step.Step.TheVariants.{Push, BeginRoll, BeginClean, Copy, Seal, Free}
-use Rattle.master_state.specs.Budget.{may_clean}
-use Rattle.master_state.specs.Causes.{is_head}
+use Rattle.master_state.specs.Budget.{has_memory_for, has_places_for}
+use Rattle.master_state.specs.Causes.{is_head, survivors_for}
 use Rattle.master_state.specs.Data.{MasterData}
+use Rattle.master_state.specs.Log.{log_set_ids}
 use Rattle.master_state.specs.Steps.{kept_now}
 
 -- ---- candidates, in order
@@ -42,14 +46,21 @@ kept_bytes d id = length (text_of (filter is_data (kept_now d id)))
 abbrev pub candidates : MasterData → List Candidate
 candidates d = map (λ (id : ℕ). record { id = id; kept = kept_bytes d id }) (older_ids d)
 
--- the ids of the longest front whose kept bytes fit
-abbrev pub fitting : ℕ → List Candidate → List ℕ
-fitting room [] = []
-fitting room (c ∷ cs) = if nat_le c.kept room then c.id ∷ fitting (room - c.kept) cs else []
+-- how far survivors are filled once they have what a segment keeps
+abbrev pub filled_by : MasterData → Level → ℕ → Level
+filled_by d level id =
+    filled d.config.segment level (segment_lengths (log_set_ids d) d.index id (images_in d.closed id))
 
--- the segments that keep least, at most 8, that fit one segment behind a header
+-- the ids of the longest front that fills at most four survivors, for which there is memory
+abbrev pub fitting : MasterData → Level → List Candidate → List ℕ
+fitting d level [] = []
+fitting d level (c ∷ cs) =
+    let next = filled_by d level c.id in
+    if nat_lt next.survivor 4 && has_memory_for d (suc next.survivor) then c.id ∷ fitting d next cs else []
+
+-- the segments that keep least, at most 32, as many as fill four survivors or as there is memory for
 abbrev pub chosen : MasterData → List ℕ
-chosen d = fitting (d.config.segment - 18) (take 8 (sorted (candidates d)))
+chosen d = fitting d first_level (take 32 (sorted (candidates d)))
 
 -- ---- the next step
 
@@ -57,7 +68,7 @@ chosen d = fitting (d.config.segment - 18) (take 8 (sorted (candidates d)))
 abbrev pub pass_step : MasterData → Pass → Step
 pass_step d p =
     if not (is_at_end p) then Copy
-    else if nat_lt p.sealed d.config.replicas then Seal
+    else if is_some (next_seal_of p) then Seal
     else if is_open d.head then BeginRoll
     else Push
 
@@ -65,12 +76,17 @@ pass_step d p =
 abbrev pub NeedsChoice : MasterData → Type 0
 NeedsChoice d = (is_open d.head ≡ true) × (length d.waiting ≡ 0)
 
--- without a pass a roll goes on, what waits is freed, and then the next pass begins, if it may and has victims
+-- the next pass may begin: it has victims, and the log may have its survivors and the head of its commit
+abbrev pub may_begin_next : MasterData → Bool
+may_begin_next d =
+    has_places_for d (length (chosen d)) (survivors_for d (chosen d)) && not (length (chosen d) == 0)
+
+-- without a pass a roll goes on, what waits is freed, and then the next pass begins, if it may
 abbrev pub step_without : MasterData → Option Step
 step_without d =
     if not (is_open d.head) then Some Push
     else if not (length d.waiting == 0) then Some Free
-    else if may_clean d (length (chosen d)) && not (length (chosen d) == 0) then Some (BeginClean (chosen d))
+    else if may_begin_next d then Some (BeginClean (chosen d))
     else None
 
 abbrev pub next_step : MasterData → Option Step

@@ -1,47 +1,55 @@
-//! A pass of a core: it begins, copies entry by entry, and its survivor is sealed. What it leaves is freed.
+//! A pass of a core: it begins, copies entry by entry, and its survivors are sealed. What it leaves is freed.
 
-ghost use Rattle.std.specs.Prelude.{◌⊎◌, ◌≡◌, ◌<◌, ◌≤◌, ◌==◌, ◌∷◌, [], ℕ, None, Some, false, length, is_none, slice_get};
-ghost use Rattle.std.specs.Prelude.{IfOk, IfErr, IfSome, IfNone, OnOk, OnErr, IsSome, if◌then◌else◌};
+ghost use Rattle.std.specs.Prelude.{◌⊎◌, ◌≡◌, ◌<◌, ◌≤◌, ◌==◌, ◌∷◌, ◌++◌, ◌*◌, ◌+◌, [], ℕ, None, Some, false, length};
+ghost use Rattle.std.specs.Prelude.{IfOk, IfErr, IfSome, OnOk, OnErr, IsSome, is_none, if◌then◌else◌};
 ghost use Rattle.clean_model.specs.Steps.{MayBeginClean, seal_op};
+ghost use Rattle.cleaner.specs.Passes.{survivor_ids, AreIds};
+ghost use Rattle.entry.specs.Bag.{IsAmong};
+ghost use Rattle.images.specs.Images.{free_seglets as free_images};
+ghost use Rattle.images.specs.Sorted.{AreBelow};
 ghost use Rattle.log_model.specs.Ops.{op_of};
 ghost use Rattle.replica.specs.Op.{shown_op};
+ghost use Rattle.master_state.specs.Budget.{survivors_of, whole_seglets};
 ghost use Rattle.master_state.specs.Causes.{clean_refusal, copy_refusal, seal_refusal, free_refusal};
-ghost use Rattle.master_state.specs.Invariant.{IsCore};
+ghost use Rattle.master_state.specs.Images.{survivor_images};
+ghost use Rattle.master_state.specs.Invariant.{AreImagesOf, IsCore};
 ghost use Rattle.master_state.specs.Log.{log_of, memory_of};
 ghost use Rattle.master_state.specs.Steps.{BeginsPass, Copies, copy_answer, sealed_data, freed_data};
 ghost use Rattle.master_state.specs.Waits.{next_seal, next_free};
 
 use crate::compacting::opening_id;
 use crate::victims::admit_pass;
-use cleaner::{Copied, Pass};
-use entry::Row;
-use master_state::{Core, Refusal, StepAnswer, image_of};
+use cleaner::{Copied, Pass, Survivors};
+use entry::{NoMemory, Row};
+use images::Images;
+use master_state::{Config, Core, Refusal, StepAnswer, image_of};
 use replica::{Act, Op};
+use std::alloc::Global;
 
-/// The steps of a pass: it begins, it copies entry by entry, its survivor is sealed, and what it leaves is freed.
+/// The steps of a pass: it begins, it copies entry by entry, its survivors are sealed, and what it leaves is freed.
 pub trait Cleans {
-    /// A pass is open.
-    ghost has_pass: { Self → Type 0 };
-    /// A replica of the survivor is to be sealed.
+    /// A survivor of the open pass has this number.
+    ghost has_survivor: { Self → ℕ → Type 0 };
+    /// A replica of a survivor is to be sealed.
     ghost may_seal: { Self → Type 0 };
     /// A replica of a segment is to be freed.
     ghost may_free: { Self → Type 0 };
 
-    /// Begins a pass over these victims. Its survivor gets the next number and the memory of a whole segment. Or it is
-    /// refused, and nothing changes.
+    /// Begins a pass over these victims. Its survivors are as many as what the victims keep fills. They get the next
+    /// numbers, and each the memory of a whole segment. Or it is refused, and nothing changes.
     fn begin_clean(&mut self, victims: Row<u64>) -> Result<StepAnswer, Refusal>;
 
     /// Copies the next entry of the open pass, if it is kept, and passes it over otherwise. Or it is refused, and
     /// nothing changes. It takes no memory.
     fn copy(&mut self) -> Result<StepAnswer, Refusal>;
 
-    /// The replica of the survivor that is sealed next. `None` if no pass is open, if it has entries to copy, or if all
-    /// replicas are sealed.
-    fn to_seal(&self) -> Option<usize>;
+    /// The survivor that is sealed next, and its replica. `None` if no pass is open, if it has entries to copy, or if
+    /// all replicas are sealed.
+    fn to_seal(&self) -> Option<(u64, usize)>;
 
-    /// The op that seals a replica of the survivor: its image, whole.
-    fn seal_op(&self) -> Op<'_>
-        requires { has_pass self.now };
+    /// The op that seals a replica of this survivor: its image, whole.
+    fn seal_op(&self, survivor: u64) -> Op<'_>
+        requires { has_survivor self.now survivor };
 
     /// Counts a seal that was taken.
     fn sealed(&mut self)
@@ -56,7 +64,7 @@ pub trait Cleans {
 }
 
 impl Cleans for Core {
-    ghost has_pass = { λ core. IsSome core.pass };
+    ghost has_survivor = { λ core survivor. IsAmong survivor (survivors_of core.pass) };
 
     ghost may_seal = { λ core. IsSome (next_seal core) };
 
@@ -70,17 +78,18 @@ impl Cleans for Core {
             ⊎ ((clean_refusal self.old victims ≡ None) × (r ≡ Refusal.NoMemory))) }
         ensures err { OnErr result (self.new ≡ self.old) }
     {
-        let near = admit_pass(self, victims.as_slice())?;
-        let id = self.next_id;
-        let survivor = self
-            .closed
-            .begin_survivor(self.alloc, self.config.master, id)?;
-        self.closed.reserve(2)?;
-        let pass = Pass::begin(victims, near, id, &self.closed, &self.index);
-        self.closed.add_image(survivor);
-        self.next_id += 1;
+        let size = admit_pass(self, victims.as_slice())?;
+        self.closed.show_valid();
+        let survivors = Survivors {
+            first: self.next_id,
+            count: size.survivors,
+        };
+        self.closed.reserve(survivors.count + 1)?;
+        add_survivors(&mut self.closed, self.alloc, &self.config, survivors)?;
+        let pass = Pass::begin(victims, size.near, survivors, &self.closed, &self.index);
+        self.next_id += survivors.count as u64;
         self.pass = Some(pass);
-        Ok(StepAnswer::Begun(id))
+        Ok(StepAnswer::Begun(survivors))
     }
 
     fn copy(&mut self) -> Result<StepAnswer, Refusal>
@@ -105,38 +114,30 @@ impl Cleans for Core {
         Ok(copy_answer(copied))
     }
 
-    fn to_seal(&self) -> Option<usize>
+    fn to_seal(&self) -> Option<(u64, usize)>
         ensures next { result ≡ next_seal self.now }
-        ensures few { IfSome result (λ replica. replica < self.now.config.replicas) }
+        ensures survivor { IfSome result (λ next. IsAmong next.0 (survivors_of self.now.pass)) }
+        ensures few { IfSome result (λ next. next.1 < self.now.config.replicas) }
         ensures refused { self.now.is_halted ≡ false
             → seal_refusal self.now ≡ (if is_none result then Some Refusal.Nothing else None) }
     {
         match &self.pass {
             None => None,
-            Some(pass) => {
-                if pass.is_at_end() && (pass.sealed as u64) < self.config.replicas {
-                    Some(pass.sealed)
-                } else {
-                    None
-                }
-            }
+            Some(pass) => pass.next_seal(),
         }
     }
 
-    fn seal_op(&self) -> Op<'_>
-        requires { IsSome self.now.pass }
-        ensures { let d = self.entry.now in IfSome d.pass (λ p. (b : ℕ) →
-            shown_op result ≡ op_of d.config.master (seal_op (memory_of d) p.survivor b)) }
+    fn seal_op(&self, survivor: u64) -> Op<'_>
+        requires { IsAmong survivor (survivors_of self.now.pass) }
+        ensures { let d = self.entry.now in (b : ℕ) →
+            shown_op result ≡ op_of d.config.master (seal_op (memory_of d) survivor b) }
     {
-        let Some(pass) = &self.pass else {
-            unreachable!()
-        };
-        let Some(image) = image_of(&self.head, &self.closed, pass.survivor) else {
+        let Some(image) = image_of(&self.head, &self.closed, survivor) else {
             unreachable!()
         };
         Op {
             master: self.config.master,
-            segment: pass.survivor,
+            segment: survivor,
             act: Act::Seal(image.bytes()),
         }
     }
@@ -149,7 +150,7 @@ impl Cleans for Core {
         let Some(pass) = &mut self.pass else {
             unreachable!()
         };
-        pass.sealed(pass.sealed);
+        pass.seal_taken(self.config.replicas as usize);
     }
 
     fn to_free(&self) -> Option<(u64, usize)>
@@ -175,6 +176,39 @@ impl Cleans for Core {
             self.freed = 0;
         }
     }
+}
+
+/// Adds the images of new survivors, whose numbers are above all others, with the memory of whole segments. On an error
+/// none is added.
+fn add_survivors(
+    closed: &mut Images,
+    alloc: Global,
+    config: &Config,
+    survivors: Survivors,
+) -> Result<(), NoMemory>
+    requires sizes { AreImagesOf config.now closed.old }
+    requires numbers { AreIds survivors }
+    requires newest { AreBelow survivors.first closed.old.images }
+    requires room { length closed.old.images + survivors.count ≤ closed.old.room }
+    requires free { survivors.count * whole_seglets config.now ≤ free_images closed.old }
+    ensures ok { OnOk result (closed.new ≡ record closed.old {
+      images = closed.old.images ++ survivor_images config.now (survivor_ids survivors);
+    }) }
+    ensures err { OnErr result (closed.new ≡ closed.old) }
+{
+    if survivors.count == 0 {
+        return Ok(());
+    }
+    closed.show_valid();
+    let others = Survivors {
+        first: survivors.first,
+        count: survivors.count - 1,
+    };
+    let last = survivors.id(others.count);
+    let survivor = closed.begin_survivor(alloc, config.master, last)?;
+    add_survivors(closed, alloc, config, others)?;
+    closed.add_image(survivor);
+    Ok(())
 }
 
 /// What a copy answers.

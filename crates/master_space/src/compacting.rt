@@ -72,13 +72,13 @@ pub(crate) fn is_head(core: &Core, id: u64) -> bool
     }
 }
 
-/// Whether this is the number of the open pass's survivor.
+/// Whether this is the number of a survivor of the open pass.
 pub(crate) fn is_survivor(core: &Core, id: u64) -> bool
     ensures { result ≡ has_id (survivors_of core.now.pass) id }
 {
     match &core.pass {
         None => false,
-        Some(pass) => pass.survivor == id,
+        Some(pass) => pass.survivors.has(id),
     }
 }
 

@@ -1,25 +1,28 @@
 //! How a core rolls to the next head, and what it pushes next.
 
-ghost use Rattle.std.specs.Prelude.{◌⊎◌, ◌≡◌, ◌<◌, ℕ, [], length, None, Some, IfSome, IfOk, IfErr, OnOk, OnErr};
-ghost use Rattle.std.specs.Prelude.{if◌then◌else◌, is_none, nat_lt};
-ghost use Rattle.std.specs.Option.{option_map, option_to_list};
+ghost use Rattle.std.specs.Prelude.{◌⊎◌, ◌≡◌, ◌<◌, ℕ, [], length, None, Some, IfSome, IfOk, IfErr, OnOk};
+ghost use Rattle.std.specs.Prelude.{OnErr, if◌then◌else◌, is_none, nat_lt};
+ghost use Rattle.std.specs.Option.{option_map};
 ghost use Rattle.std.specs.Result.{result_err};
 ghost use Rattle.log_model.specs.Data.{durable_of};
 ghost use Rattle.log_head.specs.Next.{IsNextPush};
 ghost use Rattle.log_head.specs.declared.next.Next.{Next as NextValue};
 ghost use Rattle.cleaner.specs.declared.pass.Pass.{Pass as OpenPass};
+ghost use Rattle.cleaner.specs.Passes.{images_in, survivor_ids, AreIds};
+ghost use Rattle.entry.specs.Text.{text_of};
 ghost use Rattle.master_state.specs.Budget.{victims_of, survivors_of};
 ghost use Rattle.master_state.specs.Causes.{roll_refusal};
 ghost use Rattle.master_state.specs.Invariant.{IsCore};
 ghost use Rattle.master_state.specs.Log.{log_of};
-ghost use Rattle.master_state.specs.Steps.{survivor_in, BeginsRoll, MayRollNow, taken_data};
+ghost use Rattle.master_state.specs.Steps.{listed_in, BeginsRoll, MayRollNow, taken_data};
 
 use crate::ending::end_pass;
-use cleaner::Pass;
-use entry::MAX_SEGMENT_ID;
+use cleaner::{Pass, Survivors};
+use entry::{Listed, MAX_SEGMENT_ID, NoMemory};
 use images::Images;
 use log_head::{Leaving, Next, RollMemory};
 use master_state::{Core, Refusal, StepAnswer};
+use std::alloc::Global;
 
 /// What a core pushes next, and how it rolls to the next head.
 pub trait Rolls {
@@ -29,9 +32,9 @@ pub trait Rolls {
     /// The history has a record at this place.
     ghost has_record: { Self → ℕ → Type 0 };
 
-    /// Begins a roll. If a pass is ready, the roll is its commit: the next head's digest lists the survivor in place of
-    /// the victims. It takes the memory of the next head's image whole, and all that the end of the roll takes. Nothing
-    /// is appended until the roll has ended. A refusal changes nothing.
+    /// Begins a roll. If a pass is ready, the roll is its commit: the next head's digest lists the survivors in place
+    /// of the victims. It takes the memory of the next head's image whole, and all that the end of the roll takes.
+    /// Nothing is appended until the roll has ended. A refusal changes nothing.
     fn begin_roll(&mut self) -> Result<StepAnswer, Refusal>;
 
     /// What the next push does. `None` if nothing waits.
@@ -64,6 +67,7 @@ impl Rolls for Core {
         self.closed.reserve(1)?;
         let victims = leaving_victims(&self.pass, is_commit);
         self.waiting.reserve(victims.len())?;
+        let survivors = entering(self.alloc, &self.pass, &self.closed, is_commit)?;
         let id = self.next_id;
         let seglet = self.config.seglet as usize;
         let memory = RollMemory {
@@ -73,8 +77,7 @@ impl Rolls for Core {
         };
         let leaving = Leaving {
             victims,
-            survivor: entering_survivor(&self.pass, is_commit),
-            survivor_len: entering_len(&self.pass, &self.closed, is_commit),
+            survivors: survivors.as_slice(),
         };
         self.head.begin_roll(
             self.alloc,
@@ -154,26 +157,51 @@ fn leaving_victims(pass: &Option<Pass>, is_commit: bool) -> &[u64]
     }
 }
 
-/// The id that the next head's digest takes in: the survivor, if the roll is a commit.
-fn entering_survivor(pass: &Option<Pass>, is_commit: bool) -> Option<u64>
-    ensures { option_to_list result ≡ (if is_commit then survivors_of pass.now else []) }
+/// The segments that the next head's digest takes in, with their bytes as they were sealed: the survivors, if the roll
+/// is a commit.
+fn entering(
+    alloc: Global,
+    pass: &Option<Pass>,
+    closed: &Images,
+    is_commit: bool,
+) -> Result<Vec<Listed>, NoMemory>
+    requires { IfSome pass.now (λ p. AreIds p.survivors) }
+    ensures { IfOk result (λ segments. segments.items ≡
+        (if is_commit then listed_in closed.now.images (survivors_of pass.now) else [])) }
 {
     match pass {
-        Some(pass) if is_commit => Some(pass.survivor),
-        _ => None,
+        Some(pass) if is_commit => list_survivors(alloc, pass.survivors, closed),
+        _ => Ok(Vec::new(alloc)),
     }
 }
 
-/// How many bytes that segment has, as they were sealed.
-fn entering_len(pass: &Option<Pass>, closed: &Images, is_commit: bool) -> u64
-    ensures { result ≡ (if is_commit then survivor_in pass.now closed.now.images else 0) }
+/// The survivors with their bytes.
+fn list_survivors(
+    alloc: Global,
+    survivors: Survivors,
+    closed: &Images,
+) -> Result<Vec<Listed>, NoMemory>
+    requires { AreIds survivors }
+    ensures { IfOk result (λ segments. segments.items ≡ listed_in closed.now.images (survivor_ids survivors)) }
 {
-    match pass {
-        Some(pass) if is_commit => match closed.get(pass.survivor) {
-            Some(image) => image.bytes().len() as u64,
-            None => 0,
-        },
-        _ => 0,
+    let mut segments = Vec::with_capacity(alloc, survivors.count)?;
+    for at in 0..survivors.count {
+        let id = survivors.id(at);
+        segments.push_reserved(Listed {
+            id,
+            len: len_of(closed, id),
+        });
+    }
+    Ok(segments)
+}
+
+/// How many bytes the image of a segment has.
+fn len_of(closed: &Images, id: u64) -> u64
+    ensures { result ≡ length (text_of (images_in closed.now.images id)) }
+{
+    match closed.get(id) {
+        Some(image) => image.bytes().len() as u64,
+        None => 0,
     }
 }
 

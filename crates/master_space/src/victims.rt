@@ -1,19 +1,19 @@
 //! Whether a core's pass may begin, and over which segments.
 
-ghost use Rattle.std.specs.Prelude.{◌≡◌, ◌∷◌, [], None};
+ghost use Rattle.std.specs.Prelude.{◌≡◌, ◌≤◌, ◌∷◌, [], None, IfOk};
 ghost use Rattle.std.specs.Result.{result_err};
-ghost use Rattle.master_state.specs.Budget.{may_clean};
-ghost use Rattle.master_state.specs.Causes.{victim_fault, victims_fault, space_refusal, clean_refusal};
+ghost use Rattle.master_state.specs.Budget.{may_clean, has_memory_for, has_places_for};
+ghost use Rattle.master_state.specs.Causes.{victim_fault, victims_fault, survivors_for, space_refusal, clean_refusal};
 
-use crate::candidates::MAX_VICTIMS;
 use crate::compacting::{is_head, opening_id};
-use cleaner::{PassFault, fit};
+use cleaner::{MAX_VICTIMS, PassFault, PassSize, fit};
 use entry::MAX_SEGMENT_ID;
 use master_state::{Core, Refusal};
 
-/// The tests of a pass. The answer is how many of the first victims are near.
-pub(crate) fn admit_pass(core: &Core, victims: &[u64]) -> Result<usize, Refusal>
-    ensures { result_err result ≡ clean_refusal core.now victims.now }
+/// The tests of a pass. The answer is how many survivors it has, and how many of the first victims are near.
+pub(crate) fn admit_pass(core: &Core, victims: &[u64]) -> Result<PassSize, Refusal>
+    ensures refused { result_err result ≡ clean_refusal core.now victims.now }
+    ensures survivors { IfOk result (λ size. size.survivors ≡ survivors_for core.now victims.now) }
 {
     if core.is_halted {
         return Err(Refusal::Halted);
@@ -60,17 +60,15 @@ fn check_victim(core: &Core, before: &[u64], id: u64) -> Result<(), PassFault>
     Ok(())
 }
 
-/// The tests of a pass over segments that may be its victims. The answer is how many of the first ones are near.
-fn admit_space(core: &Core, victims: &[u64]) -> Result<usize, Refusal>
+/// The tests of a pass over segments that may be its victims, and what `admit_pass` answers.
+fn admit_space(core: &Core, victims: &[u64]) -> Result<PassSize, Refusal>
     requires { victims_fault core.now victims.now ≡ None }
-    ensures { result_err result ≡ space_refusal core.now victims.now }
+    ensures refused { result_err result ≡ space_refusal core.now victims.now }
+    ensures survivors { IfOk result (λ size. size.survivors ≡ survivors_for core.now victims.now) }
 {
-    if !may_clean(core, victims.len()) {
-        return Err(Refusal::Full);
-    }
     let new = opening_id(&core.head);
     let segment = core.config.segment as usize;
-    let Some(near) = fit(
+    let Some(size) = fit(
         victims,
         &core.closed,
         &core.index,
@@ -80,21 +78,40 @@ fn admit_space(core: &Core, victims: &[u64]) -> Result<usize, Refusal>
     ) else {
         return Err(Refusal::Pass(PassFault::TooMuch));
     };
-    if core.next_id > MAX_SEGMENT_ID {
+    if !may_clean(core, victims.len(), size.survivors) {
+        return Err(Refusal::Full);
+    }
+    if core.next_id + size.survivors as u64 > MAX_SEGMENT_ID + 1 {
         return Err(Refusal::SegmentsSpent);
     }
-    Ok(near)
+    Ok(size)
 }
 
-/// The rule of a pass with so many victims: two whole segments are free, and the log may have the survivor and the
-/// head of the commit.
-pub(crate) fn may_clean(core: &Core, victims: usize) -> bool
-    requires { core.now.pass ≡ None }
-    ensures { result ≡ may_clean core.now victims }
+/// The rule of a pass with so many victims and survivors.
+fn may_clean(core: &Core, victims: usize, survivors: usize) -> bool
+    requires none { core.now.pass ≡ None }
+    requires few { survivors ≤ 4 }
+    ensures { result ≡ may_clean core.now victims survivors }
+{
+    has_memory_for(core, survivors) && has_places_for(core, victims, survivors)
+}
+
+/// Whether a whole segment is free for each of so many survivors, and one more.
+pub(crate) fn has_memory_for(core: &Core, survivors: usize) -> bool
+    requires few { survivors ≤ 4 }
+    ensures { result ≡ has_memory_for core.now survivors }
+{
+    (survivors as u64 + 1) * (core.config.segment / core.config.seglet) <= core.free()
+}
+
+/// Whether the log may have so many survivors and the head of the commit, in place of so many victims.
+pub(crate) fn has_places_for(core: &Core, victims: usize, survivors: usize) -> bool
+    requires none { core.now.pass ≡ None }
+    requires few { survivors ≤ 4 }
+    ensures { result ≡ has_places_for core.now victims survivors }
 {
     let heads = if core.head.roll().is_some() { 2 } else { 1 };
     let listed = core.closed.len() + heads;
     let most = (core.config.segment / 32) as usize;
-    2 * (core.config.segment / core.config.seglet) <= core.free()
-        && listed.saturating_sub(victims) + 2 <= most
+    listed.saturating_sub(victims) + survivors + 1 <= most
 }

@@ -6,6 +6,7 @@ use Rattle.std.specs.List.{AllByRecursion}
 use Rattle.std.specs.Option.{option_map, option_map_or}
 use Rattle.std.proofs.lemmas.Bool.{eqb-false}
 use Rattle.std.proofs.lemmas.List.{length-append}
+use Rattle.std.proofs.lemmas.List.FromFn.{length-range_with_len}
 use Rattle.cleaner.specs.declared.pass.Pass.{Pass}
 use Rattle.cleaner.specs.Passes.{images_in}
 use Rattle.entry.specs.declared.entry.Entry.{Entry}
@@ -13,8 +14,10 @@ use Rattle.std.specs.List.Sorted.{IsStrictlyIncreasing}
 use Rattle.entry.specs.declared.digest.Digest.{Digest}
 use Rattle.entry.specs.declared.digest.Digest.TheVariants as digest
 use Rattle.entry.specs.Format.{IsEntry, IsDigest}
+use Rattle.entry.specs.Bag.{IsAmong}
 use Rattle.entry.specs.Text.{listed_ids}
 use Rattle.entry.proofs.LengthLemmas.{length-ids_in}
+use Rattle.entry.proofs.ListLemmas.{all_from_among}
 use Rattle.images.specs.Image.{Image}
 use Rattle.images.specs.Sorted.{image_of, segment_of}
 use Rattle.log_head.specs.declared.head.Roll.{Roll}
@@ -24,13 +27,14 @@ use Rattle.log_head.proofs.RollLog.{digest_is}
 use Rattle.log_model.specs.Data.{Start, ids_of, digest_for, start_entries}
 use Rattle.log_model.proofs.Lengths.{ids_listed}
 use Rattle.log_model.specs.Ids.{has, all_inserted}
-use Rattle.master_state.specs.Budget.{newest_digest, survivors_of, segments_taken}
+use Rattle.master_state.specs.Budget.{newest_digest, survivors_of}
 use Rattle.master_state.specs.Data.{MasterData}
 use Rattle.master_state.specs.Images.{new_image_or}
-use Rattle.master_state.specs.Invariant.{IsRollOf, IsOpenPass, IsCore}
+use Rattle.master_state.specs.Invariant.{IsRollOf, IsSurvivor, IsOpenPass, IsCore}
 use Rattle.master_state.specs.Log.{images_of}
 use Rattle.master_state.proofs.Imaging.{ids_in, other_id}
-use Rattle.master_state.proofs.Rising.{Rise, rises_of, rise_front, has_not, has_put, rise_put, length_put}
+use Rattle.master_state.proofs.Rising.{Rise, rises_of, rise_front, has_not, rise_range, has_all, length_all}
+use Rattle.master_state.proofs.Rising.{AreOut, rise_all}
 
 -- ---- images by their ids
 
@@ -89,12 +93,14 @@ module _ (d : MasterData) (core : IsCore d) where
     pub open_of : IsOpenPass d p
     open_of = subst (λ (o : Option Pass). IfSome o (IsOpenPass d)) is core.pass
 
-  -- the survivor is no other, nor the head
-  apart_of : (o : Option Pass) → IfSome o (IsOpenPass d)
-      → IfSome o (λ (p : Pass). (has start.others p.survivor ≡ false) × (d.head.id ≡ p.survivor → ⊥))
-  apart_of None all = tt
-  apart_of (Some p) all =
-      let out = has_front start.others start.id p.survivor all.survivor.outside in
+  survivor_of : (o : Option Pass) → IfSome o (IsOpenPass d) → (s : ℕ) → IsAmong s (survivors_of o) → IsSurvivor d s
+  survivor_of None is s m = absurd m
+  survivor_of (Some p) is s m = is.survivors.each s m
+
+  -- each survivor is no other, nor the head
+  pub apart : (s : ℕ) → IsAmong s (survivors_of d.pass) → (has start.others s ≡ false) × (d.head.id ≡ s → ⊥)
+  apart s m =
+      let out = has_front start.others start.id s (survivor_of d.pass core.pass s m).outside in
       (out.0, λ same. out.1 (core.image.id ∙ same))
     where
       has_front : (ids : List ℕ) (top s : ℕ) → has (ids ++ top ∷ []) s ≡ false → (has ids s ≡ false) × (top ≡ s → ⊥)
@@ -111,48 +117,53 @@ module _ (d : MasterData) (core : IsCore d) where
         go true is later = (let never : true ≡ false = rw is at none in absurd (cc))
         go false is later = (let rest = later (rw is at none) in (rw is rest.0, rest.1))
 
-  pub apart : IfSome d.pass (λ (p : Pass). (has start.others p.survivor ≡ false) × (d.head.id ≡ p.survivor → ⊥))
-  apart = apart_of d.pass core.pass
-
   -- ---- the closed segments
 
-  rises_with : (o : Option Pass) → IfSome o (λ (p : Pass). (has start.others p.survivor ≡ false)
-      × (d.head.id ≡ p.survivor → ⊥))
-      → Rise (all_inserted (survivors_of o) start.others)
-  rises_with None out = others_rise
-  rises_with (Some p) out = rise_put p.survivor start.others out.0 others_rise
+  -- the survivors rise, and none of them is an other
+  pub survivors_rise : Rise (survivors_of d.pass)
+  survivors_rise = go d.pass where
+    go : (o : Option Pass) → Rise (survivors_of o)
+    go None = tt
+    go (Some p) = rise_range p.survivors.first p.survivors.count
+
+  pub survivors_out : AreOut (survivors_of d.pass) start.others
+  survivors_out =
+      all_from_among (λ (s : ℕ). has start.others s ≡ false) (survivors_of d.pass) (λ s m. (apart s m).0)
 
   pub closed_rise : Rise (ids_in d.closed)
-  closed_rise = subst Rise (sym core.closed) (rises_with d.pass apart)
+  closed_rise =
+      subst Rise (sym core.closed) (rise_all (survivors_of d.pass) start.others survivors_out survivors_rise others_rise)
 
   -- an id that is no other and no survivor is not of a closed segment
-  none_with : (s : ℕ) (o : Option Pass) → has start.others s ≡ false → IfSome o (λ (p : Pass). p.survivor ≡ s → ⊥)
-      → has (all_inserted (survivors_of o) start.others) s ≡ false
-  none_with s None none other = none
-  none_with s (Some p) none other =
-      let away = other_id p.survivor s other in
-      has_put p.survivor start.others s ∙ (rw away none)
-
-  pub not_closed : (s : ℕ) → has start.others s ≡ false → IfSome d.pass (λ (p : Pass). p.survivor ≡ s → ⊥)
+  pub not_closed : (s : ℕ) → has start.others s ≡ false → has (survivors_of d.pass) s ≡ false
       → has (ids_in d.closed) s ≡ false
-  not_closed s none other = ap (λ (ids : List ℕ). has ids s) core.closed ∙ none_with s d.pass none other
+  not_closed s none other =
+      ap (λ (ids : List ℕ). has ids s) core.closed
+      ∙ has_all (survivors_of d.pass) start.others s
+      ∙ (rw (other, none) refl)
 
   pub no_head : has (ids_in d.closed) d.head.id ≡ false
-  no_head = not_closed d.head.id (none_above d.head.id (omega arith)) (go d.pass apart) where
-    go : (o : Option Pass) → IfSome o (λ (p : Pass). (has start.others p.survivor ≡ false)
-        × (d.head.id ≡ p.survivor → ⊥))
-        → IfSome o (λ (p : Pass). p.survivor ≡ d.head.id → ⊥)
-    go None out = tt
-    go (Some p) out = λ same. out.1 (sym same)
+  no_head =
+      not_closed d.head.id (none_above d.head.id (omega arith))
+      (has_not (λ (s : ℕ). d.head.id ≡ s → ⊥) (survivors_of d.pass) d.head.id
+      (all_from_among (λ (s : ℕ). d.head.id ≡ s → ⊥) (survivors_of d.pass) (λ s m. (apart s m).1))
+      (λ never. never refl))
+
+  -- nor is an id that isn't used yet
+  pub no_later : (s : ℕ) → d.next ≤ s → has (ids_in d.closed) s ≡ false
+  no_later s le =
+      let lt = core.used in
+      not_closed s (none_above s (omega arith))
+      (has_not (λ (z : ℕ). z < d.next) (survivors_of d.pass) s
+      (all_from_among (λ (z : ℕ). z < d.next) (survivors_of d.pass) (λ z m. (survivor_of d.pass core.pass z m).used))
+      (λ never. omega arith))
 
   pub no_next : has (ids_in d.closed) d.next ≡ false
-  no_next = not_closed d.next (let lt = core.used in none_above d.next (omega arith)) (go d.pass core.pass) where
-    go : (o : Option Pass) → IfSome o (IsOpenPass d) → IfSome o (λ (p : Pass). p.survivor ≡ d.next → ⊥)
-    go None all = tt
-    go (Some p) all = λ same. (let lt = all.survivor.used in omega arith)
+  no_next = no_later d.next (omega arith)
 
-  -- the digest in force has one id more than there are closed segments, but for a survivor
-  pub listed : d.head.roll ≡ None → length (newest_digest d.head) + segments_taken d ≡ length d.closed + 1
+  -- the digest in force has one id more than there are closed segments, but for the survivors
+  pub listed : d.head.roll ≡ None
+      → length (newest_digest d.head) + length (survivors_of d.pass) ≡ length d.closed + 1
   listed none =
       let newest : length (newest_digest d.head) ≡ length (ids_of start) =
       ap (λ (o : Option Roll). length (option_map_or (λ (r : Roll). digest_of r.image) o (digest_of d.head.image))) none
@@ -160,28 +171,29 @@ module _ (d : MasterData) (core : IsCore d) where
       let ids = length-append start.others (start.id ∷ []) in
       let closed : length d.closed ≡ length (all_inserted (survivors_of d.pass) start.others) = sym (count_ids d.closed)
       ∙ ap length core.closed in
-      let more = with_survivor d.pass in
+      let more = length_all (survivors_of d.pass) start.others in
       omega arith
-    where
-      with_survivor : (o : Option Pass) → length (all_inserted (survivors_of o) start.others)
-          ≡ length start.others + option_map_or (λ (p : Pass). 1) o 0
-      with_survivor None = omega arith
-      with_survivor (Some p) = length_put p.survivor start.others
+
+  -- there are few survivors
+  pub few_survivors : length (survivors_of d.pass) ≤ 4
+  few_survivors = go d.pass core.pass where
+    go : (o : Option Pass) → IfSome o (IsOpenPass d) → length (survivors_of o) ≤ 4
+    go None is = omega arith
+    go (Some p) is =
+        let few = is.survivors.few in
+        let same = length-range_with_len p.survivors.first p.survivors.count in
+        omega arith
 
   -- a digest has few ids
-  pub few_closed : length d.closed ≤ 2 ^ 32
+  pub few_closed : length d.closed ≤ 2 ^ 32 + length (survivors_of d.pass)
   few_closed =
       let few = ids_few (digest_for start) (subst (λ (image : List Entry). AllByRecursion IsEntry image)
       core.image.image core.head.segment.each).1.0 in
       let ids = ap length (ids_listed start) ∙ length-append start.others (start.id ∷ []) in
       let closed : length d.closed ≡ length (all_inserted (survivors_of d.pass) start.others) = sym (count_ids d.closed)
       ∙ ap length core.closed in
-      let more = with_one d.pass in
+      let more = length_all (survivors_of d.pass) start.others in
       omega arith
-    where
-      with_one : (o : Option Pass) → length (all_inserted (survivors_of o) start.others) ≤ length start.others + 1
-      with_one None = omega arith
-      with_one (Some p) = (let put = length_put p.survivor start.others in omega arith)
 
   -- ---- images
 

@@ -3,7 +3,9 @@ use Rattle.std.proofs.Common.{◌≡◌, ◌⊎◌, inl, inr, ℕ, ◌<◌, Bool
 use Rattle.std.proofs.Common.{arith}
 use Rattle.std.specs.Prelude.{Option, Some, None, IfSome, unwrap_or, nat_lt, if◌then◌else◌}
 use Rattle.std.proofs.lemmas.Bool.{eqb-true}
+use Rattle.clean_model.proofs.CommitDigest.{all_out}
 use Rattle.cleaner.specs.declared.pass.Pass.{Pass as OpenPass}
+use Rattle.cleaner.specs.Passes.{survivor_ids}
 use Rattle.entry.specs.declared.key.Key.{Key}
 use Rattle.entry.specs.declared.entry.Entry.{Entry}
 use Rattle.entry.specs.Bag.{IsAmong}
@@ -57,16 +59,16 @@ module _ (d : MasterData) (core : IsCore d) where
       let used = core.used in
       omega arith
 
-  -- the closed segments and the survivor
+  -- the closed segments and the survivors
   pub closed_below : (s : ℕ) → IsAmong s (ids_in d.closed) → s < d.next
   closed_below s closed = go d.pass core.pass (subst (λ (ids : List ℕ). IsAmong s ids) core.closed closed) where
     go : (o : Option OpenPass) → IfSome o (IsOpenPass d) → IsAmong s
         (all_inserted (survivors_of o) (head_of d.head).start.others) → s < d.next
     go None is m = older_below s m
     go (Some p) is m =
-        elim (among_inserted p.survivor s (head_of d.head).start.others m) [
-          | inl own ↦ subst (λ (z : ℕ). z < d.next) own is.survivor.used
-          | inr older ↦ older_below s older
+        elim (all_out (survivor_ids p.survivors) (head_of d.head).start.others s m) [
+          | inl older ↦ older_below s older
+          | inr own ↦ (is.survivors.each s own).used
         ]
 
   -- each segment that has an image

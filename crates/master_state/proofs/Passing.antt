@@ -1,11 +1,16 @@
--- An open pass goes on through a step that leaves its victims and its survivor.
+-- An open pass goes on through a step that leaves its victims and its survivors.
 use Rattle.std.proofs.Common.{◌≡◌, inl, inr, ℕ, ◌<◌, ◌≤◌, Bool, true, false, ◌==◌, ◌||◌, List, [], ◌∷◌, length, refl}
 use Rattle.std.proofs.Common.{sym, ap, subst, arith}
 use Rattle.std.specs.Prelude.{Some, IsSome, IfSome}
 use Rattle.std.specs.List.{AllByRecursion}
 use Rattle.std.proofs.lemmas.Bool.{eqb-true}
 use Rattle.cleaner.specs.declared.pass.Pass.{Pass as OpenPass}
-use Rattle.cleaner.specs.Passes.{images_in, rest_of, kept_left, is_ready as is_ready_pass, IsPass}
+use Rattle.cleaner.specs.KeptLengths.{HasRoomsIn}
+use Rattle.cleaner.specs.Laws.{AreSameAt, KeepsNoMore}
+use Rattle.cleaner.specs.Passes.{images_in, survivor_ids, rest_of, IsPass}
+use Rattle.cleaner.specs.Seals.{IsSealed}
+use Rattle.cleaner.proofs.Ends.{rest_same}
+use Rattle.cleaner.proofs.RoomLaws.{rooms_stay}
 use Rattle.clean_model.specs.Intact.{BeginAsSurvivor}
 use Rattle.entry.specs.declared.entry.Entry.{Entry}
 use Rattle.entry.specs.declared.key.Key.{Key}
@@ -20,7 +25,7 @@ use Rattle.log_model.specs.Ids.{has}
 use Rattle.master_state.specs.declared.config.Config.{Config}
 use Rattle.master_state.specs.Budget.{whole_seglets, free_seglets, newest_digest, most_segments}
 use Rattle.master_state.specs.Data.{MasterData}
-use Rattle.master_state.specs.Invariant.{survivor_len, AreVictims, IsSpare, IsOpenPass, IsCore}
+use Rattle.master_state.specs.Invariant.{AreVictims, IsSurvivor, IsSpare, IsOpenPass, IsCore}
 use Rattle.master_state.specs.Log.{log_set_ids, find}
 
 -- ---- what a step leaves
@@ -29,14 +34,14 @@ use Rattle.master_state.specs.Log.{log_set_ids, find}
 pub record GoesOn (d e : MasterData) (p : OpenPass) : Type 0 where
   pub config : e.config ≡ d.config
   pub start : (head_of e.head).start ≡ (head_of d.head).start
-  pub roll : IfSome e.head.roll (λ (r : Roll). (r.id == p.survivor) ≡ false)
+  pub roll : (s : ℕ) → IsAmong s (survivor_ids p.survivors) → IfSome e.head.roll (λ (r : Roll). (r.id == s) ≡ false)
   pub next : d.next ≤ e.next
   pub pass : IsPass e.index.seed e.closed p
-  pub survivor : images_in e.closed p.survivor ≡ images_in d.closed p.survivor
-  pub rest : rest_of (images_in e.closed) p ≡ rest_of (images_in d.closed) p
-  -- no more bytes are kept of what is still to be copied
-  pub left : kept_left (log_set_ids e) e.index (images_in e.closed) (rest_of (images_in d.closed) p)
-      ≤ kept_left (log_set_ids d) d.index (images_in d.closed) (rest_of (images_in d.closed) p)
+  pub victims : AreSameAt (images_in d.closed) (images_in e.closed) p.victims
+  pub survivors : AreSameAt (images_in d.closed) (images_in e.closed) (survivor_ids p.survivors)
+  -- no more is kept of what is still to be copied
+  pub keeps : KeepsNoMore (log_set_ids d) (log_set_ids e) d.index e.index (images_in d.closed)
+      (rest_of (images_in d.closed) p)
   -- what the index finds in a victim it found there before
   pub live : (k : Key) (q : Place) → find e k ≡ Some q → IsAmong q.segment p.victims → find d k ≡ Some q
   pub free : p.is_committing ≡ false → free_seglets d ≤ free_seglets e
@@ -53,21 +58,28 @@ module _ (d e : MasterData) (p : OpenPass) (g : GoesOn d e p) (is : IsOpenPass d
         (sym g.start) is.victims.older;
   }
 
-  begins_then : BeginAsSurvivor e.config.master p.survivor (images_in e.closed p.survivor)
-  begins_then =
-      subst (λ (x : Config × List Entry). BeginAsSurvivor x.0.master p.survivor x.1)
-      (λ i. (sym g.config i, sym g.survivor i)) is.survivor.begins
+  rest_then : rest_of (images_in e.closed) p ≡ rest_of (images_in d.closed) p
+  rest_then = rest_same (images_in d.closed) (images_in e.closed) p g.victims
 
-  fits_then : survivor_len e p ≤ e.config.segment
-  fits_then =
-      let text = ap (λ (es : List Entry). length (text_of es)) g.survivor in
-      let rest = ap (kept_left (log_set_ids e) e.index (images_in e.closed)) g.rest in
-      let less = g.left in
-      let fits = is.fits in
-      let segment = ap (λ (c : Config). c.segment) g.config in
-      omega arith
+  survivor_then : (s : ℕ) → IsAmong s (survivor_ids p.survivors) → IsSurvivor e s
+  survivor_then s m =
+      let was = is.survivors.each s m in record {
+        outside = subst (λ (n : Start). has (ids_of n) s ≡ false) (sym g.start) was.outside;
+        not_new = g.roll s m;
+        used = (let used = was.used in let next = g.next in omega arith);
+        begins = subst (λ (x : Config × List Entry). BeginAsSurvivor x.0.master s x.1)
+            (λ i. (sym g.config i, sym (g.survivors s m) i)) was.begins;
+        within = subst (λ (x : Config × List Entry). length (text_of x.1) ≤ x.0.segment)
+            (λ i. (sym g.config i, sym (g.survivors s m) i)) was.within;
+      }
 
-  spare_then : p.is_committing ≡ false → IsSpare e (length p.victims)
+  rooms_then : HasRoomsIn e.config.segment (log_set_ids e) p e.closed e.index
+  rooms_then =
+      subst (λ (c : Config). HasRoomsIn c.segment (log_set_ids e) p e.closed e.index) (sym g.config)
+      (rooms_stay d.config.segment (log_set_ids d) (log_set_ids e) p d.closed e.closed d.index e.index
+      g.victims g.survivors g.keeps is.rooms)
+
+  spare_then : p.is_committing ≡ false → IsSpare e (length p.victims) p.survivors.count
   spare_then early =
       let spare = is.spare early in
       let more = g.free early in
@@ -83,20 +95,14 @@ module _ (d e : MasterData) (p : OpenPass) (g : GoesOn d e p) (is : IsOpenPass d
   goes_on = record {
     pass = g.pass;
     victims = victims_then;
-    survivor = record {
-      outside = subst (λ (n : Start). has (ids_of n) p.survivor ≡ false) (sym g.start) is.survivor.outside;
-      not_new = g.roll;
-      used = (let used = is.survivor.used in let next = g.next in omega arith);
-      begins = begins_then;
-    };
-    fits = fits_then;
-    sealed = subst (λ (c : Config). p.sealed ≤ c.replicas) (sym g.config) is.sealed;
-    live = λ k q finds victim. subst (λ (places : List Place). IsAmong q places) (sym g.rest)
+    survivors = record { some = is.survivors.some; few = is.survivors.few; each = survivor_then };
+    rooms = rooms_then;
+    sealed = subst (λ (c : Config). IsSealed c.replicas p.survivors.count p.sealed) (sym g.config) is.sealed;
+    live = λ k q finds victim. subst (λ (places : List Place). IsAmong q places) (sym rest_then)
         (is.live k q (g.live k q finds victim) victim);
-    text = is.text;
+    unsealed = is.unsealed;
     spare = spare_then;
-    commits = λ commits. (let was = is.commits commits in
-        (g.rolls commits was.0, subst (λ (c : Config). is_ready_pass c.replicas p ≡ true) (sym g.config) was.1));
+    commits = λ commits. (let was = is.commits commits in (g.rolls commits was.0, was.1));
   }
 
 -- ---- ids of victims and survivors

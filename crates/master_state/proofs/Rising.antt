@@ -2,7 +2,7 @@
 use Rattle.std.proofs.Common.{◌≡◌, ℕ, zero, suc, ◌+◌, ◌<◌, ◌≤◌, Bool, true, false, List, [], ◌∷◌, ◌++◌, length, refl}
 use Rattle.std.proofs.Common.{sym, ap, subst, ◌∙◌, arith}
 use Rattle.std.specs.Prelude.{◌==◌, ◌||◌, nat_lt, slice_index}
-use Rattle.std.specs.List.{AllByRecursion}
+use Rattle.std.specs.List.{AllByRecursion, range_with_len}
 use Rattle.std.specs.List.Sorted.{IsStrictlyIncreasing}
 use Rattle.std.proofs.lemmas.Bool.{ltb-true, ltb-false, lt-ltb, le-ltb, eqb-true}
 use Rattle.std.proofs.lemmas.Bool.Decides.{nat_tests}
@@ -203,6 +203,50 @@ all_top top [] ids below = put_last top ids below
 all_top top (s ∷ more) ids below = put_twice top s (all_inserted more ids)
     ∙ ap (inserted s) (all_top top more ids below)
 
+-- ---- several more
+
+all_above : (low first count : ℕ) → low < first → AllByRecursion (λ (z : ℕ). low < z) (range_with_len first count)
+all_above low first zero lt = tt
+all_above low first (suc n) lt = (lt, all_above low (first + 1) n (omega arith))
+
+-- ids that follow one another rise
+pub rise_range : (first count : ℕ) → Rise (range_with_len first count)
+rise_range first zero = tt
+rise_range first (suc n) = (all_above first (first + 1) n (omega arith), rise_range (first + 1) n)
+
+pub has_all : (more ids : List ℕ) (x : ℕ) → has (all_inserted more ids) x ≡ (has more x || has ids x)
+has_all [] ids x = refl
+has_all (s ∷ more) ids x =
+    has_put s (all_inserted more ids) x
+    ∙ ap (λ (b : Bool). (s == x) || b) (has_all more ids x)
+    ∙ joined (s == x) (has more x) (has ids x)
+  where
+    joined : (a b c : Bool) → (a || (b || c)) ≡ ((a || b) || c)
+    joined true b c = refl
+    joined false b c = refl
+
+pub length_all : (more ids : List ℕ) → length (all_inserted more ids) ≡ length ids + length more
+length_all [] ids = omega arith
+length_all (s ∷ more) ids =
+    let here = length_put s (all_inserted more ids) in let later = length_all more ids in omega arith
+
+pub all_put_all : (P : ℕ → Type 0) (more ids : List ℕ) → AllByRecursion P ids → AllByRecursion P more
+    → AllByRecursion P (all_inserted more ids)
+all_put_all P [] ids all own = all
+all_put_all P (s ∷ more) ids all own =
+    all_put P s (all_inserted more ids) (all_put_all P more ids all own.1) own.0
+
+-- none of the first is one of the second
+abbrev pub AreOut : List ℕ → List ℕ → Type 0
+AreOut more ids = AllByRecursion (λ (s : ℕ). has ids s ≡ false) more
+
+pub rise_all : (more ids : List ℕ) → AreOut more ids → Rise more → Rise ids → Rise (all_inserted more ids)
+rise_all [] ids out own rise = rise
+rise_all (s ∷ more) ids out own rise =
+    let later = has_not (λ (z : ℕ). s < z) more s own.0 (λ lt. omega arith) in
+    let none : has (all_inserted more ids) s ≡ false = has_all more ids s ∙ (rw later out.0) in
+    rise_put s (all_inserted more ids) none (rise_all more ids out.1 own.1 rise)
+
 -- ---- some less
 
 pub without_none : (ids : List ℕ) → without [] ids ≡ ids
@@ -232,3 +276,12 @@ without_put victims s (z ∷ ids) stays rise = go (nat_lt s z) refl (has victims
       go true is false goes later = rw (is, stays, goes) (rw is refl)
       go false is true goes later = rw (is, goes) later
       go false is false goes later = rw (is, goes) (rw is (ap (λ (zs : List ℕ). z ∷ zs) later))
+
+-- ids that stay may be put among them before or after
+pub without_all : (victims more ids : List ℕ) → AllByRecursion (λ (s : ℕ). has victims s ≡ false) more
+    → AreOut more ids → Rise more → Rise ids
+    → without victims (all_inserted more ids) ≡ all_inserted more (without victims ids)
+without_all victims [] ids stay out own rise = refl
+without_all victims (s ∷ more) ids stay out own rise =
+    without_put victims s (all_inserted more ids) stay.0 (rise_all more ids out.1 own.1 rise)
+    ∙ ap (inserted s) (without_all victims more ids stay.1 out.1 own.1 rise)

@@ -1,10 +1,10 @@
 -- How much memory a master counts, in seglets, and when a roll or a pass may begin.
-use Rattle.std.specs.Prelude.{ℕ, ◌+◌, ◌-◌, ◌*◌, ◌/◌, ◌&&◌, ◌||◌, List, [], ◌∷◌, length, sum_by, Bool, false, nat_le}
+use Rattle.std.specs.Prelude.{ℕ, ◌+◌, ◌-◌, ◌*◌, ◌/◌, ◌&&◌, ◌||◌, List, [], length, sum_by, Bool, false, nat_le}
 use Rattle.std.specs.Prelude.{Option}
 use Rattle.std.specs.Int.{div_ceil}
 use Rattle.std.specs.Option.{option_map_or}
 use Rattle.cleaner.specs.declared.pass.Pass.{Pass}
-use Rattle.cleaner.specs.Passes.{is_ready as is_ready_pass}
+use Rattle.cleaner.specs.Passes.{survivor_ids, is_ready as is_ready_pass}
 use Rattle.entry.specs.declared.entry.Entry.{Entry}
 use Rattle.entry.specs.Text.{text_of}
 use Rattle.images.specs.Images.{count_of}
@@ -27,7 +27,7 @@ seglets_of c image = div_ceil (length (text_of image)) c.seglet
 abbrev pub head_seglets : Config → HeadValue → ℕ
 head_seglets c h = option_map_or (λ (r : Roll). seglets_of c h.image + whole_seglets c) h.roll (whole_seglets c)
 
--- how many seglets are counted: the head's, those of the closed segments, each by its length, and a survivor's, whole
+-- how many seglets are counted: the head's, those of the closed segments, each by its length, and the survivors', whole
 abbrev pub used_seglets : MasterData → ℕ
 used_seglets d = head_seglets d.config d.head + sum_by (count_of d.config.segment d.config.seglet) d.closed
 
@@ -43,11 +43,11 @@ victims_of pass = option_map_or (λ (p : Pass). p.victims) pass []
 
 -- the survivors of an open pass
 abbrev pub survivors_of : Option Pass → List ℕ
-survivors_of pass = option_map_or (λ (p : Pass). p.survivor ∷ []) pass []
+survivors_of pass = option_map_or (λ (p : Pass). survivor_ids p.survivors) pass []
 
--- the open pass is ready for its commit: nothing is left to copy, and each replica of its survivor is sealed
+-- the open pass is ready for its commit: nothing is left to copy, and each replica of its survivors is sealed
 abbrev pub is_ready : MasterData → Bool
-is_ready d = option_map_or (is_ready_pass d.config.replicas) d.pass false
+is_ready d = option_map_or is_ready_pass d.pass false
 
 -- the roll that is under way is a pass's commit
 abbrev pub is_committing : MasterData → Bool
@@ -69,7 +69,7 @@ segments_for (Get k) = 2
 segments_for (Put k value when) = 3
 segments_for (Delete k) = 2
 
--- an open pass has a whole segment already
+-- an open pass has a whole segment already, or more
 abbrev pub segments_taken : MasterData → ℕ
 segments_taken d = option_map_or (λ (p : Pass). 1) d.pass 0
 
@@ -77,12 +77,17 @@ segments_taken d = option_map_or (λ (p : Pass). 1) d.pass 0
 abbrev pub segments_leaving : MasterData → ℕ
 segments_leaving d = option_map_or (λ (p : Pass). length p.victims) d.pass 1
 
--- The log may have one more segment, and the last two are kept for a pass and its commit. So many whole segments are
--- free once the old head counts its length.
+-- how many segments it takes in beside the head: the survivors of the open pass, and else at least one
+abbrev pub segments_entering : MasterData → ℕ
+segments_entering d = option_map_or (λ (p : Pass). p.survivors.count) d.pass 1
+
+-- The log may have one more segment, and then still what the next commit takes in and its head, less what it takes out.
+-- So many whole segments are free once the old head counts its length.
 abbrev pub has_space : MasterData → ℕ → Bool
 has_space d segments =
     let more = length (newest_digest d.head) + 1 in
-    nat_le more (most_segments d.config) && nat_le more (most_segments d.config - 2 + segments_leaving d)
+    nat_le more (most_segments d.config)
+    && nat_le more (most_segments d.config - 1 - segments_entering d + segments_leaving d)
     && nat_le ((segments - segments_taken d) * whole_seglets d.config + seglets_of d.config d.head.image)
     (free_seglets d)
 
@@ -92,9 +97,15 @@ may_roll d segments = is_ready d || has_space d segments
 
 -- ---- when a pass may begin
 
--- The rule of a pass with so many victims: two whole segments are free, and the log may have the survivor and the head
--- of the commit.
-abbrev pub may_clean : MasterData → ℕ → Bool
-may_clean d victims =
-    nat_le (2 * whole_seglets d.config) (free_seglets d)
-    && nat_le (length (newest_digest d.head) - victims + 2) (most_segments d.config)
+-- a whole segment is free for each of so many survivors, and one more
+abbrev pub has_memory_for : MasterData → ℕ → Bool
+has_memory_for d survivors = nat_le ((survivors + 1) * whole_seglets d.config) (free_seglets d)
+
+-- the log may have so many survivors and the head of the commit, in place of so many victims
+abbrev pub has_places_for : MasterData → ℕ → ℕ → Bool
+has_places_for d victims survivors =
+    nat_le (length (newest_digest d.head) - victims + survivors + 1) (most_segments d.config)
+
+-- The rule of a pass with so many victims and survivors.
+abbrev pub may_clean : MasterData → ℕ → ℕ → Bool
+may_clean d victims survivors = has_memory_for d survivors && has_places_for d victims survivors

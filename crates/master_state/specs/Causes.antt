@@ -7,7 +7,8 @@ use Rattle.cleaner.specs.declared.fault.PassFault.{PassFault}
 use Rattle.cleaner.specs.declared.fault.PassFault.TheVariants.{IsHead, NotInLog, PassOpen, NoVictims, TooMany, TooMuch}
 use Rattle.cleaner.specs.declared.fault.PassFault.TheVariants.{Twice}
 use Rattle.cleaner.specs.declared.pass.Pass.{Pass as OpenPass}
-use Rattle.cleaner.specs.Passes.{images_in, places_of, kept_left, is_at_end}
+use Rattle.cleaner.specs.KeptLengths.{survivors_over}
+use Rattle.cleaner.specs.Passes.{images_in, is_at_end}
 use Rattle.compactor.specs.Kept.{has_id}
 use Rattle.entry.specs.declared.entry.Entry.{Entry}
 use Rattle.entry.specs.Tablet.{have_key}
@@ -28,6 +29,7 @@ use Rattle.master_state.specs.Budget.{segments_for, may_roll, may_clean, victims
 use Rattle.master_state.specs.Data.{MasterData}
 use Rattle.master_state.specs.Index.{segment_at}
 use Rattle.master_state.specs.Log.{state_now, find, log_set_ids}
+use Rattle.master_state.specs.Waits.{next_seal}
 
 -- ---- a command
 
@@ -125,21 +127,20 @@ abbrev pub victims_fault : MasterData → List ℕ → Option PassFault
 victims_fault d ids =
     if is_some d.pass then Some PassOpen
     else if length ids == 0 then Some NoVictims
-    else if nat_lt 8 (length ids) then Some TooMany
+    else if nat_lt 32 (length ids) then Some TooMany
     else victim_fault d [] ids
 
--- what the victims keep and a header fit one segment
-abbrev pub are_few_bytes : MasterData → List ℕ → Bool
-are_few_bytes d ids =
-    let images = images_in d.closed in
-    nat_le (18 + kept_left (log_set_ids d) d.index images (places_of images ids)) d.config.segment
+-- how many survivors a pass over these victims has: as many as what the victims keep fills
+abbrev pub survivors_for : MasterData → List ℕ → ℕ
+survivors_for d ids = survivors_over d.config.segment (log_set_ids d) d.index (images_in d.closed) ids
 
--- the test that refuses a pass whose victims may be that, apart from memory
+-- The test that refuses a pass whose victims may be that, apart from memory. It has at most four survivors, which have
+-- the next ids.
 abbrev pub space_refusal : MasterData → List ℕ → Option Refusal
 space_refusal d ids =
-    if not (may_clean d (length ids)) then Some Full
-    else if not (are_few_bytes d ids) then Some (Pass TooMuch)
-    else if nat_lt (2 ^ 62) d.next then Some SegmentsSpent
+    if nat_lt 4 (survivors_for d ids) then Some (Pass TooMuch)
+    else if not (may_clean d (length ids) (survivors_for d ids)) then Some Full
+    else if nat_lt (2 ^ 62 + 1) (d.next + survivors_for d ids) then Some SegmentsSpent
     else None
 
 -- the test that refuses a pass, apart from memory
@@ -156,12 +157,12 @@ copy_refusal d =
     else Some Nothing
 
 -- the test that refuses a seal, what the fleet answers apart: no pass is open, it isn't at its end, or all replicas of
--- its survivor are sealed
+-- its survivors are sealed
 abbrev pub seal_refusal : MasterData → Option Refusal
 seal_refusal d =
     if d.is_halted then Some Halted
-    else if option_map_or (λ (p : OpenPass). is_at_end p && nat_lt p.sealed d.config.replicas) d.pass false then None
-    else Some Nothing
+    else if is_none (next_seal d) then Some Nothing
+    else None
 
 -- the test that refuses a free, what the fleet answers apart: nothing waits
 abbrev pub free_refusal : MasterData → Option Refusal

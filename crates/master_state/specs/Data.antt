@@ -24,7 +24,7 @@ no_origin = record { objects = []; safe = 1 }
 pub record MasterData : Type 0 where
   pub config : Config
   pub head : HeadValue
-  -- the closed segments of the log, and the survivor of the open pass
+  -- the closed segments of the log, and the survivors of the open pass
   pub closed : List Image
   -- the first id that no segment had yet
   pub next : ℕ

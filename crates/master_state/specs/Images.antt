@@ -2,10 +2,11 @@
 use Rattle.std.specs.Prelude.{◌==◌, ℕ, List, [], map, filter, not, Option, Some, None, unwrap_or}
 use Rattle.std.specs.Prelude.{if◌then◌else◌}
 use Rattle.cleaner.specs.declared.pass.Pass.{Pass}
+use Rattle.cleaner.specs.Passes.{survivor_ids}
 use Rattle.clean_model.specs.Intact.{survivor_entries}
 use Rattle.entry.specs.declared.entry.Entry.{Entry}
 use Rattle.images.specs.Image.{Image, closed_image, whole_image}
-use Rattle.images.specs.Sorted.{segment_of, added, changed}
+use Rattle.images.specs.Sorted.{segment_of, added}
 use Rattle.images.specs.Steps.{trimmed}
 use Rattle.log_model.specs.Ids.{has}
 use Rattle.master_state.specs.declared.config.Config.{Config}
@@ -36,6 +37,10 @@ with_closed cs id (Some image) = added (closed_image id image) cs
 abbrev pub survivor_image : Config → ℕ → Image
 survivor_image c id = whole_image id (survivor_entries c.master id) c.segment
 
+-- those of several
+abbrev pub survivor_images : Config → List ℕ → List Image
+survivor_images c ids = map (survivor_image c) ids
+
 -- the images but for those of victims
 abbrev pub staying : List ℕ → List Image → List Image
 staying victims cs = filter (λ (image : Image). not (has victims image.id)) cs
@@ -44,6 +49,10 @@ staying victims cs = filter (λ (image : Image). not (has victims image.id)) cs
 abbrev pub leaving : List ℕ → List Image → List ℕ
 leaving victims cs = filter (λ (id : ℕ). has victims id) (map (λ (image : Image). image.id) cs)
 
--- the images once a pass has ended: its victims are gone, and its survivor takes no more appends
+-- the images once these segments take no more appends
+abbrev pub all_trimmed : List ℕ → List Image → List Image
+all_trimmed ids cs = map (λ (image : Image). if has ids image.id then trimmed image else image) cs
+
+-- the images once a pass has ended: its victims are gone, and its survivors take no more appends
 abbrev pub after_pass : Pass → List Image → List Image
-after_pass p cs = changed (staying p.victims cs) p.survivor trimmed
+after_pass p cs = all_trimmed (survivor_ids p.survivors) (staying p.victims cs)

@@ -4,7 +4,10 @@ use Rattle.std.specs.Prelude.{IfSome, IsSome}
 use Rattle.std.specs.Prelude.{if◌then◌else◌}
 use Rattle.clean_model.specs.Intact.{BeginAsSurvivor}
 use Rattle.cleaner.specs.declared.pass.Pass.{Pass as OpenPass}
-use Rattle.cleaner.specs.Passes.{images_in, rest_of, kept_left, is_at_end, is_ready as is_ready_pass, IsPass}
+use Rattle.cleaner.specs.declared.survivors.Survivors.{Survivors}
+use Rattle.cleaner.specs.KeptLengths.{HasRoomsIn}
+use Rattle.cleaner.specs.Passes.{images_in, survivor_ids, rest_of, is_at_end, is_ready as is_ready_pass, IsPass}
+use Rattle.cleaner.specs.Seals.{none_sealed, IsSealed}
 use Rattle.entry.specs.declared.entry.Tombstone.{Tombstone}
 use Rattle.entry.specs.declared.entry.Entry.{Entry}
 use Rattle.entry.specs.declared.entry.Entry.TheVariants as entry
@@ -68,46 +71,48 @@ abbrev pub AreApart : List ℕ → Type 0
 AreApart [] = Unit {0}
 AreApart (s ∷ ids) = (has ids s ≡ false) × AreApart ids
 
--- The victims of a pass are one to eight closed segments, each once.
+-- The victims of a pass are at most 32 closed segments, each once.
 pub record AreVictims (d : MasterData) (victims : List ℕ) : Type 0 where
   pub some : 0 < length victims
-  pub few : length victims ≤ 8
+  pub few : length victims ≤ 32
   pub apart : AreApart victims
   pub older : AllByRecursion (λ (s : ℕ). has (head_of d.head).start.others s ≡ true) victims
 
--- The survivor of a pass is no segment of a digest yet.
+-- A survivor of a pass is no segment of a digest yet.
 pub record IsSurvivor (d : MasterData) (s : ℕ) : Type 0 where
   pub outside : has (ids_of (head_of d.head).start) s ≡ false
   pub not_new : IfSome d.head.roll (λ r. (r.id == s) ≡ false)
   pub used : s < d.next
   pub begins : BeginAsSurvivor d.config.master s (images_in d.closed s)
+  pub within : length (text_of (images_in d.closed s)) ≤ d.config.segment
 
--- What a pass needs until its commit begins: a whole segment, and a place for its survivor and the next head in the
+-- A pass has one to four survivors.
+pub record AreSurvivors (d : MasterData) (survivors : Survivors) : Type 0 where
+  pub some : 0 < survivors.count
+  pub few : survivors.count ≤ 4
+  pub each : (s : ℕ) → IsAmong s (survivor_ids survivors) → IsSurvivor d s
+
+-- What a pass needs until its commit begins: a whole segment, and places for its survivors and the next head in the
 -- digest.
-pub record IsSpare (d : MasterData) (victims : ℕ) : Type 0 where
+pub record IsSpare (d : MasterData) (victims survivors : ℕ) : Type 0 where
   pub free : whole_seglets d.config ≤ free_seglets d
-  pub listed : length (newest_digest d.head) + 2 ≤ most_segments d.config + victims
-
--- the bytes of the survivor with all that is still to be copied
-abbrev pub survivor_len : MasterData → OpenPass → ℕ
-survivor_len d p =
-    length (text_of (images_in d.closed p.survivor))
-    + kept_left (log_set_ids d) d.index (images_in d.closed) (rest_of (images_in d.closed) p)
+  pub listed : length (newest_digest d.head) + survivors + 1 ≤ most_segments d.config + victims
 
 pub record IsOpenPass (d : MasterData) (p : OpenPass) : Type 0 where
   pub pass : IsPass d.index.seed d.closed p
   pub victims : AreVictims d p.victims
-  pub survivor : IsSurvivor d p.survivor
-  pub fits : survivor_len d p ≤ d.config.segment
-  pub sealed : p.sealed ≤ d.config.replicas
+  pub survivors : AreSurvivors d p.survivors
+  -- the survivors have room for all that is still to be copied
+  pub rooms : HasRoomsIn d.config.segment (log_set_ids d) p d.closed d.index
+  pub sealed : IsSealed d.config.replicas p.survivors.count p.sealed
   -- what the index finds in a victim is still to be copied
   pub live : (k : Key) (q : Place) → find d k ≡ Some q → IsAmong q.segment p.victims
       → IsAmong q (rest_of (images_in d.closed) p)
-  -- nothing is copied once a replica of the survivor is sealed
-  pub text : 0 < p.sealed → is_at_end p ≡ true
-  pub spare : p.is_committing ≡ false → IsSpare d (length p.victims)
+  -- nothing is sealed before all is copied
+  pub unsealed : is_at_end p ≡ false → p.sealed ≡ none_sealed
+  pub spare : p.is_committing ≡ false → IsSpare d (length p.victims) p.survivors.count
   -- a commit is a roll of a pass that is ready
-  pub commits : p.is_committing ≡ true → IsSome d.head.roll × (is_ready_pass d.config.replicas p ≡ true)
+  pub commits : p.is_committing ≡ true → IsSome d.head.roll × (is_ready_pass p ≡ true)
 
 -- tombstones name ids below this
 abbrev pub NameBelow : (ℕ → List Entry) → ℕ → Type 0
@@ -120,7 +125,7 @@ pub record IsCore (d : MasterData) : Type 0 where
   pub head : IsHeadValue d.head
   pub image : IsImageOf d.config.master d.head (head_of d.head)
   pub within : length (text_of d.head.image) ≤ d.config.segment
-  -- the closed segments are the others of the head's digest, with the survivor of the open pass at its place
+  -- the closed segments are the others of the head's digest, with the survivors of the open pass at their places
   pub closed : map (λ (c : Image). c.id) d.closed ≡ all_inserted (survivors_of d.pass) (head_of d.head).start.others
   pub segments : AllByRecursion (λ (c : Image). IsSegment c.segment) d.closed
   pub below : AreBelow (head_of d.head).start

@@ -4,6 +4,7 @@ use Rattle.std.specs.Prelude.{map, ◌==◌, slice_get, if◌then◌else◌}
 use Rattle.std.specs.Option.{option_map, option_map_or}
 use Rattle.cleaner.specs.declared.pass.Pass.{Pass}
 use Rattle.cleaner.specs.Passes.{images_in, rest_of, ids_in}
+use Rattle.cleaner.specs.Seals.{sealed_of}
 use Rattle.entry.specs.declared.key.Key.{Key}
 use Rattle.entry.specs.declared.entry.Entry.{Entry}
 use Rattle.entry.specs.Meaning.{Versioned, object_at, contents_of}
@@ -97,8 +98,8 @@ IsIndexed d = (k : Key) → Finds (images_of d) k (find d k) ((state_now d).cont
 
 -- ---- the log set
 
--- the ids of the log set: the closed segments with the survivor of the open pass, the head, and the head that a roll is
--- opening
+-- the ids of the log set: the closed segments with the survivors of the open pass, the head, and the head that a roll
+-- is opening
 abbrev pub log_set_ids : MasterData → List ℕ
 log_set_ids d = ids_in d.closed d.head.id (option_map (λ (r : Roll). r.id) d.head.roll)
 
@@ -127,7 +128,7 @@ memory_of d = record {
   index = λ k. option_map (entry_place d) (find d k);
   pass = record { victims = victims_of d.pass; survivors = survivors_of d.pass };
   rest = map (entry_place d) (rest_now d);
-  sealed = λ s. option_map_or (λ (p : Pass). p.sealed) d.pass 0;
+  sealed = λ s. option_map_or (λ (p : Pass). sealed_of d.config.replicas p.sealed p.survivors.first s) d.pass 0;
   commits = is_committing d;
   waiting = d.waiting;
   freed = freed_of d;

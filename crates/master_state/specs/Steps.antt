@@ -1,15 +1,18 @@
 -- What a master's core becomes: a command is applied, a roll or a pass begins, a segment is compacted, an entry is
 -- copied, an op was taken, a take failed.
-use Rattle.std.specs.Prelude.{◌≡◌, ◌⊎◌, ℕ, suc, ◌+◌, ◌==◌, List, [], ◌∷◌, ◌++◌, length, drop, Bool, false, true, Option}
-use Rattle.std.specs.Prelude.{Some, None}
+use Rattle.std.specs.Prelude.{◌≡◌, ◌⊎◌, ℕ, suc, ◌+◌, ◌==◌, List, [], ◌∷◌, ◌++◌, length, map, drop, Bool, false, true}
+use Rattle.std.specs.Prelude.{Option, Some, None}
 use Rattle.std.specs.Prelude.{if◌then◌else◌}
 use Rattle.std.specs.Option.{option_map, option_map_or}
-use Rattle.clean_model.specs.Steps.{commit_start, MayCommit}
+use Rattle.clean_model.specs.Steps.{commit_start, MayCommit, ids_taken}
 use Rattle.cleaner.specs.declared.pass.Copied.{Copied}
 use Rattle.cleaner.specs.declared.pass.Copied.TheVariants as copied
 use Rattle.cleaner.specs.declared.pass.Cursor.{Cursor}
 use Rattle.cleaner.specs.declared.pass.Pass.{Pass}
-use Rattle.cleaner.specs.Passes.{images_in, places_of, rest_of, CopiesOne, is_ready as is_ready_pass}
+use Rattle.cleaner.specs.declared.survivors.Survivors.{Survivors}
+use Rattle.cleaner.specs.Passes.{images_in, survivor_ids, places_of, rest_of, CopiesOne, is_ready as is_ready_pass}
+use Rattle.cleaner.specs.Seals.{none_sealed, sealed_one}
+use Rattle.entry.specs.declared.digest.Listed.{Listed}
 use Rattle.entry.specs.declared.entry.Entry.{Entry}
 use Rattle.entry.specs.declared.key.Key.{Key}
 use Rattle.entry.specs.Text.{text_of}
@@ -26,7 +29,7 @@ use Rattle.log_head.specs.Steps.{with_unit_end, with_opened_replica, with_all_ta
 use Rattle.log_head.specs.Steps.{with_closed_replica}
 use Rattle.log_head.specs.Steps.{old_image, start_after}
 use Rattle.log_model.specs.Data.{Start}
-use Rattle.log_model.specs.Steps.{applied, MayApply, next_start, rolling, MayRoll, id_taken}
+use Rattle.log_model.specs.Steps.{applied, MayApply, next_start, rolling, MayRoll}
 use Rattle.replica.specs.declared.op.TakeFault.{TakeFault}
 use Rattle.replica.specs.declared.op.TakeFault.TheVariants as take_fault
 use Rattle.versioned_map.specs.declared.command.Command.{Command}
@@ -41,9 +44,9 @@ use Rattle.master_state.specs.declared.step.StepAnswer.TheVariants.{Applied, Rol
 use Rattle.master_state.specs.declared.step.StepAnswer.TheVariants.{Moved, Carried, Dropped}
 use Rattle.master_state.specs.Budget.{victims_of, survivors_of, is_ready}
 use Rattle.master_state.specs.Causes.{command_refusal, roll_refusal, compact_refusal, clean_refusal, copy_refusal}
-use Rattle.master_state.specs.Causes.{dead_segment, unit_now}
+use Rattle.master_state.specs.Causes.{dead_segment, unit_now, survivors_for}
 use Rattle.master_state.specs.Data.{MasterData}
-use Rattle.master_state.specs.Images.{with_closed, survivor_image, after_pass, leaving}
+use Rattle.master_state.specs.Images.{with_closed, survivor_images, after_pass, leaving}
 use Rattle.master_state.specs.Log.{log_of, memory_of, state_now, images_of, find, log_set_ids}
 
 -- the head with a record's unit, where there is one
@@ -90,26 +93,23 @@ AppliesAs d r place e = Applies d r.seat r.command (Applied place r.reply) e
 abbrev pub MayApplyNow : MasterData → ℕ → Command → Type 0
 MayApplyNow d seat command = MayApply (log_of d) (dead_segment d command) (record_now d seat command)
 
--- how many bytes the survivor of an open pass has
-abbrev pub survivor_in : Option Pass → List Image → ℕ
-survivor_in pass closed = option_map_or (λ (p : Pass). length (text_of (images_in closed p.survivor))) pass 0
-
-abbrev pub survivor_bytes : MasterData → ℕ
-survivor_bytes d = survivor_in d.pass d.closed
+-- each of these segments with the bytes that it has
+abbrev pub listed_in : List Image → List ℕ → List Listed
+listed_in closed ids = map (λ (s : ℕ). record { id = s; len = length (text_of (images_in closed s)) }) ids
 
 -- What the next head begins with. It lists the log, and records the safe version of now. If a pass is ready, it lists
--- the pass's survivor in place of its victims.
+-- the pass's survivors in place of its victims.
 abbrev pub start_now : MasterData → Start
 start_now d =
-    if is_ready d then start_after d.head (victims_of d.pass) (survivors_of d.pass) (survivor_bytes d) d.next d.safe
-    else start_after d.head [] [] 0 d.next d.safe
+    if is_ready d then start_after d.head (victims_of d.pass) (listed_in d.closed (survivors_of d.pass)) d.next d.safe
+    else start_after d.head [] [] d.next d.safe
 
 -- what a core becomes when a roll begins; the roll of a pass that is ready is its commit
 abbrev pub rolling_data : MasterData → MasterData
 rolling_data d = record d {
   head = with_roll d.head d.config.master (start_now d);
   next = d.next + 1;
-  pass = option_map (λ (p : Pass). record p { is_committing = is_ready_pass d.config.replicas p }) d.pass;
+  pass = option_map (λ (p : Pass). record p { is_committing = is_ready_pass p }) d.pass;
 }
 
 -- what the next head begins with, as the log has it
@@ -149,22 +149,33 @@ pub record Compacts (d : MasterData) (id : ℕ) (answer : StepAnswer) (e : Maste
 -- ---- a pass
 
 -- a pass that begins, with nothing copied or sealed
-abbrev pub fresh_pass : List ℕ → ℕ → Cursor → Pass
-fresh_pass victims survivor cursor =
-    record { victims = victims; cursor = cursor; survivor = survivor; sealed = 0; is_committing = false }
+abbrev pub fresh_pass : List ℕ → Survivors → Cursor → Pass
+fresh_pass victims survivors cursor = record {
+  victims = victims;
+  cursor = cursor;
+  survivors = survivors;
+  filling = 0;
+  sealed = none_sealed;
+  is_committing = false;
+}
 
--- A pass that no test refuses begins. Its survivor has the next id and a whole segment of memory, and it has all
--- objects and tombstones of its victims before it.
+-- the survivors of a pass that begins over these victims: they have the next ids
+abbrev pub next_survivors : MasterData → List ℕ → Survivors
+next_survivors d victims = record { first = d.next; count = survivors_for d victims }
+
+-- A pass that no test refuses begins. Its survivors have the next ids and a whole segment of memory each, and it has
+-- all objects and tombstones of its victims before it.
 pub record BeginsPass (d : MasterData) (victims : List ℕ) (answer : StepAnswer) (e : MasterData) : Type 0 where
   pub passed : clean_refusal d victims ≡ None
-  pub told : answer ≡ Begun d.next
+  pub told : answer ≡ Begun (next_survivors d victims)
   pub cursor : Cursor
-  pub begins : rest_of (images_in d.closed) (fresh_pass victims d.next cursor) ≡ places_of (images_in d.closed) victims
-  pub log : log_of e ≡ id_taken (log_of d)
+  pub begins : rest_of (images_in d.closed) (fresh_pass victims (next_survivors d victims) cursor)
+      ≡ places_of (images_in d.closed) victims
+  pub log : log_of e ≡ ids_taken (survivors_for d victims) (log_of d)
   pub rest : e ≡ record d {
-    closed = d.closed ++ survivor_image d.config d.next ∷ [];
-    next = d.next + 1;
-    pass = Some (fresh_pass victims d.next cursor);
+    closed = d.closed ++ survivor_images d.config (survivor_ids (next_survivors d victims));
+    next = d.next + survivors_for d victims;
+    pass = Some (fresh_pass victims (next_survivors d victims) cursor);
   }
 
 -- what a copy answers, by what became of the entry
@@ -173,7 +184,7 @@ copy_answer copied.Moved = Moved
 copy_answer copied.Carried = Carried
 copy_answer copied.Dropped = Dropped
 
--- A copy that no test refuses treats the next entry of the pass: a live object moves to the survivor and the index with
+-- A copy that no test refuses treats the next entry of the pass: a live object moves to a survivor and the index with
 -- it, a tombstone that is kept is carried there, and any other entry is dropped. The log stays as it was.
 pub record Copies (d : MasterData) (answer : StepAnswer) (e : MasterData) : Type 0 where
   pub passed : copy_refusal d ≡ None
@@ -181,14 +192,16 @@ pub record Copies (d : MasterData) (answer : StepAnswer) (e : MasterData) : Type
   pub after : Pass
   pub copied : Copied
   pub opened : d.pass ≡ Some pass
-  pub treats : CopiesOne (log_set_ids d) pass d.closed d.index copied after e.closed e.index
+  pub treats : CopiesOne d.config.segment (log_set_ids d) pass d.closed d.index copied after e.closed e.index
   pub told : answer ≡ copy_answer copied
   pub log : log_of e ≡ log_of d
   pub rest : e ≡ record d { closed = e.closed; index = e.index; pass = Some after }
 
--- what a core becomes when a replica of the survivor was sealed
+-- what a core becomes when the next replica of its survivors was sealed
 abbrev pub sealed_data : MasterData → MasterData
-sealed_data d = record d { pass = option_map (λ (p : Pass). record p { sealed = p.sealed + 1 }) d.pass }
+sealed_data d = record d {
+  pass = option_map (λ (p : Pass). record p { sealed = sealed_one d.config.replicas p.sealed }) d.pass;
+}
 
 -- What a core becomes when a replica of the first segment that waits was freed. With the last replica the segment waits
 -- no more.

@@ -3,7 +3,8 @@
 ghost use Rattle.std.specs.Prelude.{◌≡◌, ◌+◌, ◌-◌, ◌*◌, ◌≤◌, ◌^◌, length, true};
 ghost use Rattle.log_head.specs.Head.{is_open};
 ghost use Rattle.master_state.specs.Budget.{used_seglets, free_seglets, seglets_of, may_roll};
-ghost use Rattle.master_state.specs.Budget.{is_ready, segments_taken, segments_leaving, newest_digest, whole_seglets};
+ghost use Rattle.master_state.specs.Budget.{is_ready, segments_taken, segments_leaving, segments_entering};
+ghost use Rattle.master_state.specs.Budget.{newest_digest, survivors_of, whole_seglets};
 
 use crate::state::Core;
 
@@ -43,7 +44,7 @@ impl Core {
     {
         match &self.pass {
             None => false,
-            Some(pass) => pass.is_ready(self.config.replicas as usize),
+            Some(pass) => pass.is_ready(),
         }
     }
 
@@ -67,13 +68,35 @@ impl Core {
         }
     }
 
+    /// How many segments the next commit takes in beside the head, at least.
+    fn segments_entering(&self) -> u64
+        ensures entering { result ≡ segments_entering self.now }
+        ensures few { result ≤ 4 }
+    {
+        match &self.pass {
+            None => 1,
+            Some(pass) => pass.survivors.count as u64,
+        }
+    }
+
+    /// How many survivors an open pass has.
+    fn survivors(&self) -> u64
+        ensures count { result ≡ length (survivors_of self.now.pass) }
+        ensures few { result ≤ 4 }
+    {
+        match &self.pass {
+            None => 0,
+            Some(pass) => pass.survivors.count as u64,
+        }
+    }
+
     /// How many ids the digest in force lists.
     fn listed(&self) -> u64
         requires { is_open self.now.head ≡ true }
         ensures listed { result ≡ length (newest_digest self.now.head) }
         ensures small { result ≤ 2 ^ 32 + 1 }
     {
-        self.closed.len() as u64 + 1 - self.segments_taken()
+        self.closed.len() as u64 + 1 - self.survivors()
     }
 
     /// How many seglets have to be free when a roll begins, if so many whole segments are free then. An open pass has
@@ -88,7 +111,7 @@ impl Core {
     }
 
     /// The rule of a roll. The commit of a pass that is ready may begin. Any other roll needs one more place in the
-    /// digest than there are now, but for the places that are kept for a pass, and its seglets free.
+    /// digest than there are now, but for the places that are kept for the next commit, and its seglets free.
     pub fn may_roll(&self, free: u64) -> bool
         requires open { is_open self.now.head ≡ true }
         requires few { free ≤ 3 }
@@ -99,7 +122,7 @@ impl Core {
         }
         let more = self.listed() + 1;
         let most = self.config.segment / 32;
-        let left = most - 2 + self.segments_leaving();
+        let left = most - 1 - self.segments_entering() + self.segments_leaving();
         let needed = self.needed(free);
         more <= most && more <= left && needed <= self.free()
     }

@@ -4,7 +4,7 @@ ghost use Rattle.std.specs.Prelude.{◌≡◌, IfOk, Some};
 ghost use Rattle.master_state.specs.declared.step.Refusal.TheVariants as refusal;
 ghost use Rattle.master_state.specs.Names.{refusal_text};
 
-use cleaner::PassFault;
+use cleaner::{PassFault, Survivors};
 use entry::Row;
 use std::alloc::{AllocError, AllocFailed, Global};
 use std::error::Error;
@@ -26,7 +26,7 @@ pub enum Step {
     BeginClean(Row<u64>),
     /// The next entry of the open pass is moved, carried or dropped. It takes nothing from the fleet.
     Copy,
-    /// One replica of the pass's survivor is sealed.
+    /// One replica of the pass's survivors is sealed.
     Seal,
     /// One replica of a segment that a commit took out of the log is freed.
     Free,
@@ -72,11 +72,11 @@ pub enum StepAnswer {
     Rolling(u64),
     /// The segment, and how many bytes its image has now.
     Compacted(u64, u64),
-    /// The survivor of the pass.
-    Begun(u64),
-    /// A live object is in the survivor now, and the index names it there.
+    /// The survivors of the pass.
+    Begun(Survivors),
+    /// A live object is in a survivor now, and the index names it there.
     Moved,
-    /// A tombstone that is kept is in the survivor now.
+    /// A tombstone that is kept is in a survivor now.
     Carried,
     /// An entry that isn't kept was passed over.
     Dropped,

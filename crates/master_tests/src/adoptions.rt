@@ -15,7 +15,7 @@ use crate::masters::{config_of, new_master};
 use backup::MemoryFleet;
 use master::{Config, If, Master, Refusal};
 use replay::{Rebuilt, adopt};
-use replica::{Bench, Holding};
+use replica::{Bench, Fleet, Holding};
 use std::alloc::Global;
 
 /// Whether one of these replicas is of the master.
@@ -41,7 +41,7 @@ fn config_on(alloc: Global, fleet: &MemoryFleet, seglets: u64) -> Option<Config>
     if has_replica(inventory.as_slice(), config.master) {
         return None;
     }
-    if fleet.backups() < config.backups || !fleet.is_unraised(config.master) {
+    if fleet.backups() < config.backups || fleet.least(config.master) != 0 {
         return None;
     }
     Some(config)

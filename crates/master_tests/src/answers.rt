@@ -28,7 +28,7 @@ pub fn kind(answer: &Result<StepAnswer, Refusal>) -> Kind {
         Ok(StepAnswer::Closed(backup, segment)) => ("closed", *backup, *segment),
         Ok(StepAnswer::Rolling(segment)) => ("rolling", *segment, 0),
         Ok(StepAnswer::Compacted(segment, len)) => ("compacted", *segment, *len),
-        Ok(StepAnswer::Begun(segment)) => ("begun", *segment, 0),
+        Ok(StepAnswer::Begun(survivors)) => ("begun", survivors.first, survivors.count as u64),
         Ok(StepAnswer::Moved) => ("moved", 0, 0),
         Ok(StepAnswer::Carried) => ("carried", 0, 0),
         Ok(StepAnswer::Dropped) => ("dropped", 0, 0),

@@ -39,7 +39,7 @@ fn copy_of(alloc: Global, config: &Config) -> Option<Config>
 /// A new master with the default options, and a configuration like its own.
 fn first_master(alloc: Global) -> Option<(Master<MemoryFleet>, Config)>
     ensures config { IfSome result (λ r. r.0.knows.config ≡ r.1) }
-    ensures newest { IfSome result (λ r. IsNewest r.0.knows.config.master (fleet_state r.0.fleet).picture) }
+    ensures newest { IfSome result (λ r. IsNewest r.0.knows.config.master (fleet_state r.0.fleet)) }
 {
     let config = config_of(alloc, 1, 64)?;
     let like = copy_of(alloc, &config)?;
@@ -92,7 +92,7 @@ fn are_drilled(
     row: &Row,
 ) -> bool
     requires config { master.knows.config ≡ config.now }
-    requires newest { IsNewest master.knows.config.master (fleet_state master.fleet).picture }
+    requires newest { IsNewest master.knows.config.master (fleet_state master.fleet) }
 {
     let drills = run_lives(alloc, master, config, courses);
     are_told(&drills, row)

@@ -2,7 +2,6 @@
 
 ghost use Rattle.std.specs.Prelude.{◌≡◌, ◌≤◌, ℕ, None, IfSome};
 ghost use Rattle.backup.specs.State.{fleet_state};
-ghost use Rattle.master.specs.Registry.{IsUnraised};
 ghost use Rattle.master_state.specs.Config.{config_fault};
 
 use backup::MemoryFleet;
@@ -64,7 +63,7 @@ pub fn config_of(alloc: Global, number: u64, seglets: u64) -> Option<Config>
 pub fn new_fleet(alloc: Global, config: &Config) -> Option<MemoryFleet>
     ensures backups { IfSome result (λ fleet. config.now.backups ≤ (fleet_state fleet).backups) }
     ensures none { IfSome result (λ fleet. (b m s : ℕ) → (fleet_state fleet).picture b m s ≡ None) }
-    ensures least { IfSome result (λ fleet. IsUnraised config.now.master (fleet_state fleet)) }
+    ensures least { IfSome result (λ fleet. (m : ℕ) → (fleet_state fleet).least m ≡ 0) }
 {
     match MemoryFleet::new(alloc, config.backups) {
         Ok(fleet) => Some(fleet),

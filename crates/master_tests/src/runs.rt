@@ -69,7 +69,7 @@ const FILL: &[Ask] = &[
 const TURNS: &[Call] = &[
     Call::Run(FILL),
     Call::Victims(&[1, 2]),
-    Call::Turn(("begun", 4, 0)),
+    Call::Turn(("begun", 4, 1)),
     Call::Turn(("dropped", 0, 0)),
     Call::Turn(("carried", 0, 0)),
     Call::Turn(("moved", 0, 0)),
@@ -84,7 +84,7 @@ const TURNS: &[Call] = &[
     Call::Turn(("freed", 2, 1)),
     Call::Turn(("freed", 2, 2)),
     Call::Turn(("freed", 0, 2)),
-    Call::Turn(("begun", 6, 0)),
+    Call::Turn(("begun", 6, 1)),
     Call::Turn(("dropped", 0, 0)),
     Call::Turn(("moved", 0, 0)),
     Call::Turn(("sealed", 0, 0)),
@@ -98,7 +98,59 @@ const TURNS: &[Call] = &[
     Call::Turn(("freed", 1, 3)),
     Call::Turn(("freed", 1, 4)),
     Call::Turn(("freed", 2, 4)),
-    Call::Turn(("begun", 8, 0)),
+    Call::Turn(("begun", 8, 1)),
+];
+
+/// A value of which four fill a segment.
+const LARGE: &[u8] = &[b'x'; 76];
+
+/// Fills two segments with four objects each, and rolls to head 3.
+const FILL_WHOLE: &[Ask] = &[
+    Push(2),
+    Write(1, b"a", LARGE),
+    Write(1, b"b", LARGE),
+    Write(1, b"c", LARGE),
+    Write(1, b"d", LARGE),
+    Push(2),
+    Roll,
+    Push(4),
+    Write(1, b"e", LARGE),
+    Write(1, b"f", LARGE),
+    Write(1, b"g", LARGE),
+    Write(1, b"h", LARGE),
+    Push(2),
+    Roll,
+    Push(4),
+];
+
+/// A pass with two survivors, and the begin of another. Seals go by survivor, and then by replica.
+const TWO_SURVIVORS: &[Call] = &[
+    Call::Run(FILL_WHOLE),
+    Call::Victims(&[1, 2]),
+    Call::Turn(("begun", 4, 2)),
+    Call::Turn(("moved", 0, 0)),
+    Call::Turn(("moved", 0, 0)),
+    Call::Turn(("moved", 0, 0)),
+    Call::Turn(("moved", 0, 0)),
+    Call::Turn(("moved", 0, 0)),
+    Call::Turn(("moved", 0, 0)),
+    Call::Turn(("moved", 0, 0)),
+    Call::Turn(("moved", 0, 0)),
+    Call::Turn(("sealed", 1, 0)),
+    Call::Turn(("sealed", 2, 0)),
+    Call::Turn(("sealed", 2, 0)),
+    Call::Turn(("sealed", 0, 0)),
+    Call::Turn(("rolling", 6, 0)),
+    Call::Turn(("opened", 0, 6)),
+    Call::Turn(("opened", 1, 6)),
+    Call::Turn(("closed", 0, 3)),
+    Call::Turn(("closed", 1, 3)),
+    Call::Turn(("freed", 1, 1)),
+    Call::Turn(("freed", 2, 1)),
+    Call::Turn(("freed", 2, 2)),
+    Call::Turn(("freed", 0, 2)),
+    Call::Victims(&[3, 4, 5]),
+    Call::Turn(("begun", 7, 2)),
 ];
 
 /// A new master opens its head, and has nothing to clean.
@@ -181,7 +233,16 @@ const COMPARED: &[Call] = &[Call::Compares(&[
 ])];
 
 const RUNS: &[&[Call]] = &[
-    STEPS, BATCHES, TURNS, IDLE, QUESTIONS, SIZED, COPIED, RETIRED, COMPARED,
+    STEPS,
+    BATCHES,
+    TURNS,
+    TWO_SURVIVORS,
+    IDLE,
+    QUESTIONS,
+    SIZED,
+    COPIED,
+    RETIRED,
+    COMPARED,
 ];
 
 #[test]

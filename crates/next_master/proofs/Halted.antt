@@ -41,9 +41,9 @@ left_halted : (d : MasterData) (l : Left) (f : FleetState) → IsLeftOf (halted 
 left_halted d l f of = record {
   crashed = of.crashed;
   valid = valid_halted d of.crashed of.valid;
-  picture = of.picture;
-  opened = of.opened;
   shown = of.shown;
+  opened = of.opened;
+  held = of.held;
   backups = of.backups;
   least = of.least;
 }

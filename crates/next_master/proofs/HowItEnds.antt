@@ -17,6 +17,7 @@ use Rattle.replica.specs.declared.op.TakeFault.{TakeFault}
 use Rattle.replica.specs.Picture.{FleetState}
 use Rattle.replica.specs.Retire.{Retires}
 use Rattle.replica.specs.Take.{limited, no_limit}
+use Rattle.replica.proofs.Retiring.{retire_spares}
 use Rattle.answers.specs.declared.answer.Answer.{Answer}
 use Rattle.answers.specs.declared.answer.Answer.TheVariants as answer
 use Rattle.node.specs.declared.node.Node.{Node}
@@ -27,6 +28,7 @@ use Rattle.next_master.specs.Recoveries.{IsTakenOver, MakesLimit, StandsAfter, a
 use Rattle.next_master.specs.Recoveries.{fault_answer}
 use Rattle.node.specs.Lives.{Left, Position}
 use Rattle.node.specs.Served.{IsNodeAt, IsOf, fleet_of, is_up, world_of}
+use Rattle.node.proofs.LeastHeads.{least_in, KeepsLeast, in_world}
 use Rattle.recovery.proofs.Following.{adopted_still}
 use Rattle.next_master.proofs.Retired.{others_gone, retire_keeps_end, spent_retire}
 
@@ -149,11 +151,6 @@ cut_over f r config m adopted on new a (why, next, frees, told, down) = record {
 unlimited : (f : FleetState) → (limited f no_limit).end ≡ no_limit
 unlimited f = omega arith
 
-fleet_in_world : (node : Node) (w : World) → world_of node ≡ Some w → fleet_of node ≡ Some w.fleet
-fleet_in_world (Up m) w is = ap (option_map (λ (x : World). x.fleet)) is
-fleet_in_world (Down fleet) w is = absurd (cc)
-fleet_in_world Changing w is = absurd (cc)
-
 abbrev end_of : Option FleetState → Option ℕ
 end_of o = option_map (λ (g : FleetState). g.end) o
 
@@ -178,7 +175,7 @@ module _ (old new : Node) (f : FleetState) (was : fleet_of old ≡ Some f) where
           let same : over.next.fleet.end ≡ f.end = retire_keeps_end s.taken over.next.fleet config.master
           (Ok u) s.retires ∙ s.on.end in
           subst (λ (y : Answer). MakesLimit old new y) (sym told)
-          (ap end_of (fleet_in_world new over.next stands.0) ∙ ap Some same ∙ sym (ap end_of was))
+          (ap end_of (in_world new over.next stands.0) ∙ ap Some same ∙ sym (ap end_of was))
       go (Err why) s told stands =
           let same : over.next.fleet.end ≡ f.end = retire_keeps_end s.taken over.next.fleet config.master
           (Err why) s.retires ∙ s.on.end in
@@ -195,3 +192,37 @@ limit_made old new options a used x number (inr (f, down, inr (table, found, nex
     limit_down old new f down.1 x declined.left declined.on.end declined.down
 limit_made old new options a used x number (inr (f, down, inr (table, found, next, inr (over, n)))) =
     limit_over old new f down.1 table (config_of options used) x over
+
+-- ---- the registry
+
+-- a node that is down after an answer
+down_least : (x : Answer) (left : FleetState) (new : Node) → IsDownOn (after_answer x left) new
+    → least_in (fleet_of new) ≡ Some left.least
+down_least x left new on = ap least_in on.1 ∙ ap (λ (g : ℕ → ℕ). Some g) (after_least x left)
+
+module _ (old new : Node) (f : FleetState) (was : fleet_of old ≡ Some f) where
+  same_least : (g : ℕ → ℕ) → least_in (fleet_of new) ≡ Some g → g ≡ f.least → KeepsLeast old new
+  same_least g is same = is ∙ ap (λ (h : ℕ → ℕ). Some h) same ∙ sym (ap least_in was)
+
+  over_least : (r : Rebuilt) (config : Config) (x : Answer) → IsTakenOver f r config new x → KeepsLeast old new
+  over_least r config x over = go over.freed over.succeeds over.stands
+    where
+      go : (freed : Result Unit TakeFault) (s : IsSuccessor config r f freed over.next)
+          → StandsAfter over.next freed new → KeepsLeast old new
+      go (Ok u) s stands = same_least over.next.fleet.least (ap least_in (in_world new over.next stands.0))
+          ((retire_spares s.taken over.next.fleet config.master (Ok u) s.retires).least ∙ s.on.least)
+      go (Err why) s stands =
+          same_least over.next.fleet.least (down_least (fault_answer why) over.next.fleet new stands.0)
+          ((retire_spares s.taken over.next.fleet config.master (Err why) s.retires).least ∙ s.on.least)
+
+-- no recovery raises a least head
+pub ends_least : (old new : Node) (options : Options) (a : Asked) (used : ℕ) (x : Answer) (number : ℕ)
+    → Ends old options a used new x number → KeepsLeast old new
+ends_least old new options a used x number (inl (up, is, same, n, u)) =
+    ap (λ (m : Node). least_in (fleet_of m)) same
+ends_least old new options a used x number (inr (f, down, inl (nothing, same, n, u))) =
+    ap (λ (m : Node). least_in (fleet_of m)) same
+ends_least old new options a used x number (inr (f, down, inr (table, found, next, inl (declined, n)))) =
+    same_least old new f down.1 declined.left.least (down_least x declined.left new declined.down) declined.on.least
+ends_least old new options a used x number (inr (f, down, inr (table, found, next, inr (over, n)))) =
+    over_least old new f down.1 table (config_of options used) x over

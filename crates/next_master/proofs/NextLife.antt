@@ -16,7 +16,6 @@ use Rattle.replica.specs.declared.op.TakeFault.{TakeFault}
 use Rattle.replica.specs.declared.op.TakeFault.TheVariants as take_fault
 use Rattle.replica.specs.Picture.{Replica, Picture, FleetState, AreHeld}
 use Rattle.versioned_map.specs.declared.command.Record.{Record}
-use Rattle.master.specs.Registry.{IsUnraised}
 use Rattle.master.specs.Valid.{IsValid}
 use Rattle.master.specs.World.{MasterValue, World, world}
 use Rattle.master_state.specs.declared.config.Config.{Config}
@@ -40,7 +39,6 @@ use Rattle.next_master.specs.Succession.{EndsRecovery}
 use Rattle.node.specs.Told.{HoldsLeft, IsUnadopted, Tells}
 use Rattle.next_master.proofs.Later.{later_checked, next_config_is}
 use Rattle.next_master.proofs.HowItEnds.{after_backups, after_least, after_picture, down_final, fleet_held}
-use Rattle.master.proofs.Unraised.{unraised_above, unraised_on}
 use Rattle.node.proofs.Standing.{legal_of}
 
 -- ---- numbers
@@ -73,10 +71,10 @@ pub spared_left : (d : MasterData) (l : Left) (old mid new : FleetState) (other 
 spared_left d l old mid new other apart on picture backups least of = record {
   crashed = of.crashed;
   valid = of.valid;
-  picture = of.picture;
+  shown = of.shown;
   opened = of.opened;
-  shown = λ b s. ap (λ (p : Picture). p b d.config.master s) picture
-      ∙ on.others b d.config.master s apart ∙ of.shown b s;
+  held = λ b s. ap (λ (p : Picture). p b d.config.master s) picture
+      ∙ on.others b d.config.master s apart ∙ of.held b s;
   backups = let was = of.backups in let same = on.backups in let last = backups in omega arith;
   least = least ∙ on.least ∙ of.least;
 }
@@ -158,16 +156,6 @@ module _ (fleet : MemoryFleet) (options : Options) (lists : Bool) (master : ℕ)
       let there = ap (λ (c : Config). c.backups) found.configured in
       omega arith
 
-  -- any head may be used of the master that is to adopt the table
-  pub is_unraised : (d : MasterData) (at : Position) → IsNodeAt old (config_of options master) d at
-      → IsUnraised config.master (fleet_state fleet)
-  is_unraised d at s =
-      let of = (was d at s).node_of.2 in
-      let here = ap (λ (c : Config). c.master) s.configured in
-      let up = found.greater in
-      unraised_above d.config.master config.master (fleet_state fleet) (omega arith)
-      (unraised_on d.config.master of.crashed (fleet_state fleet) of.least of.valid.least)
-
   declined : (d : MasterData) (at : Position) → IsNodeAt old (config_of options master) d at → (why : Refusal)
       → IsUnadopted (config_of options master) (life_of d) at (Recover order) why at
       → Tells (config_of options master) (life_of d) at (Recover order) (refusal_answer why) at
@@ -185,7 +173,7 @@ module _ (fleet : MemoryFleet) (options : Options) (lists : Bool) (master : ℕ)
       let holds : HoldsLeft (config_of options master) table.0 (fleet_state fleet) =
       subst (λ (k : Left). HoldsLeft (config_of options master) k (fleet_state fleet))
       (same_Some l table.0 (sym before.node_of.1 ∙ table.1))
-      (subst (λ (c : Config). HoldsLeft c l (fleet_state fleet)) s.configured before.node_of.2.shown) in
+      (subst (λ (c : Config). HoldsLeft c l (fleet_state fleet)) s.configured before.node_of.2.held) in
       let apart : d.config.master ≡ config.master → ⊥ =
       λ same. (let here = ap (λ (c : Config). c.master) s.configured in let up = found.greater in
       absurd (omega arith)) in (

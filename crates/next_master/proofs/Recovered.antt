@@ -11,7 +11,7 @@ use Rattle.entry.specs.Bag.{IsAmong}
 use Rattle.entry.specs.Meaning.{IsMeaning, among, contents_of}
 use Rattle.claims.specs.declared.rebuilt.Rebuilt.{Rebuilt}
 use Rattle.replica.specs.declared.holding.Holding.{Holding}
-use Rattle.replica.specs.Picture.{Picture, FleetState, left_on, shown_by, shown_of, survivors, IsHeld, AreHeld}
+use Rattle.replica.specs.Picture.{Picture, FleetState, Shown, left_on, survivors, IsHeld, AreHeld}
 use Rattle.replica.specs.Choice.{IsShownChoice}
 use Rattle.replica.specs.Survival.{BothSurvive}
 use Rattle.recovery_plan.specs.declared.fault.PlanFault.TheVariants as plan_fault
@@ -27,7 +27,6 @@ use Rattle.recovery.specs.Recovered.{IsSomePrefix, IsWant}
 use Rattle.recovery_plan.specs.Planned.{IsPlanFault, NamesLoss}
 use Rattle.recovery.specs.declared.recovery.RecoveryFault.{RecoveryFault}
 use Rattle.recovery.specs.declared.recovery.RecoveryFault.TheVariants as fault
-use Rattle.master.proofs.Unraised.{own_least}
 use Rattle.recovery.proofs.Choices.{bag-of-plan, surviving-choice}
 use Rattle.recovery.proofs.Counting.{orders_name}
 use Rattle.answers.specs.declared.answer.Answer.TheVariants as answer
@@ -42,12 +41,12 @@ use Rattle.node.proofs.WhatIsLeft.{held_of_left, left_at}
 -- the inventory of what is left of a picture shows it
 pub shows_left : (hs : List Holding) (d : MasterData) (l : Left) (f : FleetState) (master : ℕ)
     → d.config.master ≡ master
-    → IsLeftOf d l f → AreHeld hs f.picture → Shows hs (survivors (is_left l.lost) (shown_by l.picture)) master
+    → IsLeftOf d l f → AreHeld hs f.picture → Shows hs (survivors (is_left l.lost) l.shown) master
 shows_left hs d l f master number of shown h of_master =
     let at : d.config.master ≡ h.master = number ∙ sym of_master in
-    let eq : f.picture h.backup h.master h.segment ≡ left_on (is_left l.lost) l.picture h.backup h.master h.segment =
-    subst (λ (m : ℕ). f.picture h.backup m h.segment ≡ left_on (is_left l.lost) l.picture h.backup m h.segment) at
-    (of.shown h.backup h.segment) in
+    let eq : f.picture h.backup h.master h.segment ≡ left_on (is_left l.lost) l.shown.holds h.backup h.master h.segment =
+    subst (λ (m : ℕ). f.picture h.backup m h.segment ≡ left_on (is_left l.lost) l.shown.holds h.backup m h.segment) at
+    (of.held h.backup h.segment) in
     (λ among. sym eq ∙ (shown h).0 among, λ held. (shown h).1 (eq ∙ held))
 
 pub table_told : (d : MasterData) (node : Node) (config : Config) (at : Position) (r : Rebuilt)
@@ -81,22 +80,16 @@ module _ (node : Node) (fleet : MemoryFleet) (config : Config) (d : MasterData) 
     of_master : d.config.master ≡ master
     of_master = ap (λ (c : Config). c.master) s.configured ∙ number
 
-    shows : Shows hs (survivors (is_left left.0.lost) (shown_by left.0.picture)) master
+    shows : Shows hs (survivors (is_left left.0.lost) left.0.shown) master
     shows = shows_left hs d left.0 (fleet_state fleet) master of_master left.2 shown
 
-    -- no head of it was made too old
-    crashed_least : left.2.crashed.least d.config.master ≡ 0
-    crashed_least = own_least d.config.master left.2.crashed left.2.valid.least
+    -- the same heads may be used as when it was dropped
+    same_least : left.0.shown.least ≡ least
+    same_least = ap (λ (s : Shown). s.least) left.2.shown ∙ ap left.2.crashed.least of_master
+        ∙ sym (old ∙ ap (λ (g : ℕ → ℕ). g master) left.2.least)
 
-    none_old : 0 ≡ least
-    none_old =
-        sym (old ∙ ap (λ (g : ℕ → ℕ). g master) left.2.least ∙ ap left.2.crashed.least (sym of_master) ∙ crashed_least)
-
-    sound : IsSound (log_of d) (shown_by left.0.picture)
-    sound = subst (IsSound (log_of d)) same left.2.valid.sound
-      where
-        same : shown_of left.2.crashed d.config.master ≡ shown_by left.0.picture
-        same = λ i. record { holds = sym left.2.picture i; least = crashed_least i }
+    sound : IsSound (log_of d) left.0.shown
+    sound = subst (IsSound (log_of d)) (sym left.2.shown) left.2.valid.sound
 
     -- a table of the choice that the plan has
     pub table_found : (r : Rebuilt) → IsSomePrefix hs least master r → (will : List Part) (order : GroupOrder)
@@ -104,10 +97,10 @@ module _ (node : Node) (fleet : MemoryFleet) (config : Config) (d : MasterData) 
         → (l : Left) × (at.left ≡ Some l) × IsFoundAt config (life_of d) at l r
     table_found r recovers will order from =
         let found =
-        recovers (log_of d) (shown_by left.0.picture) (is_left left.0.lost) sound of_master none_old shows in
+        recovers (log_of d) left.0.shown (is_left left.0.lost) sound of_master same_least shows in
         let c = from.planned.0 in
-        let choice = surviving-choice hs least master (log_of d) (shown_by left.0.picture)
-        (is_left left.0.lost) of_master none_old shows c from.planned.1.choice in
+        let choice = surviving-choice hs least master (log_of d) left.0.shown
+        (is_left left.0.lost) of_master same_least shows c from.planned.1.choice in
         let bag = bag-of-plan hs least master c from.plan from.planned.1 in (
           left.0,
           left.1,
@@ -115,7 +108,7 @@ module _ (node : Node) (fleet : MemoryFleet) (config : Config) (d : MasterData) 
             table_told d node config at r s found,
             (
               c,
-              subst (λ (n : ℕ). IsShownChoice (survivors (is_left left.0.lost) (shown_by left.0.picture)) n c)
+              subst (λ (n : ℕ). IsShownChoice (survivors (is_left left.0.lost) left.0.shown) n c)
                   (ap (λ (k : Config). k.master) s.configured) choice,
               subst (λ (es : List Entry). IsMeaning (among es) (contents_of r.objects)) bag from.rebuilt.meaning,
             ),
@@ -129,10 +122,10 @@ module _ (node : Node) (fleet : MemoryFleet) (config : Config) (d : MasterData) 
     loss_named (fault.Plan loss) will order is from = inr (
       hs,
       held_of_left config d left.0 (fleet_state fleet) hs s.configured left.2 shown,
-      subst (λ (n : ℕ). IsPlanFault hs 0 n loss) (sym number)
-          (subst (λ (n : ℕ). IsPlanFault hs n master loss) (sym none_old) from.0),
-      subst (λ (n : ℕ). NamesLoss hs 0 n loss) (sym number)
-          (subst (λ (n : ℕ). NamesLoss hs n master loss) (sym none_old) from.1),
+      subst (λ (n : ℕ). IsPlanFault hs left.0.shown.least n loss) (sym number)
+          (subst (λ (n : ℕ). IsPlanFault hs n master loss) (sym same_least) from.0),
+      subst (λ (n : ℕ). NamesLoss hs left.0.shown.least n loss) (sym number)
+          (subst (λ (n : ℕ). NamesLoss hs n master loss) (sym same_least) from.1),
     )
     loss_named (fault.Replay refused) will order is from = inl is
 
@@ -145,7 +138,7 @@ module _ (node : Node) (fleet : MemoryFleet) (config : Config) (d : MasterData) 
         let here : Covers d.config.tablets will = subst (λ (k : Config). Covers k.tablets will)
         (sym s.configured) covers in
         let loss =
-        refuses (log_of d) (shown_by left.0.picture) (is_left left.0.lost) sound of_master none_old shows here names in (
+        refuses (log_of d) left.0.shown (is_left left.0.lost) sound of_master same_least shows here names in (
           (asked, refl),
           left.0,
           left.1,
@@ -153,10 +146,10 @@ module _ (node : Node) (fleet : MemoryFleet) (config : Config) (d : MasterData) 
             loss.0,
             loss_named e will order loss.0 from,
             λ both. loss.1 (subst
-                (λ (o : Option ℕ). BothSurvive (IsHomeBy d.config) o (shown_by left.0.picture) d.config.master
+                (λ (o : Option ℕ). BothSurvive (IsHomeBy d.config) o left.0.shown d.config.master
                 (is_left left.0.lost))
                 left.2.opened (subst
-                (λ (k : Config). BothSurvive (IsHomeBy k) left.0.opened (shown_by left.0.picture) k.master
+                (λ (k : Config). BothSurvive (IsHomeBy k) left.0.opened left.0.shown k.master
                 (is_left left.0.lost))
                 (sym s.configured) both)),
           ),

@@ -7,6 +7,7 @@ use Rattle.command_line.specs.declared.settings.Options.{Options}
 use Rattle.lines.specs.Grammar.{Recover}
 use Rattle.lines.specs.declared.line.ReplayOrder.{ReplayOrder}
 use Rattle.lines.specs.declared.line.ReplayOrder.TheVariants as replay_order
+use Rattle.master.specs.Registry.{IsUnraised}
 use Rattle.master.specs.Valid.{IsValid}
 use Rattle.master.specs.World.{MasterValue, World, retired_data}
 use Rattle.master_state.specs.declared.config.Config.{Config}
@@ -75,13 +76,14 @@ FindsTable fleet config r = (d : MasterData) (at : Position) → IsNodeAt (Down 
     (l : Left) × (at.left ≡ Some l) × IsFoundAt config (life_of d) at l r
 
 -- A table was found, and a configuration for a master with a greater number, by the options of later masters. The fleet
--- holds no replica of that one.
+-- holds no replica of that one, and any of its heads may be used.
 pub record IsFoundIn (fleet : MemoryFleet) (options : Options) (lists : Bool) (master : ℕ) (r : Rebuilt)
     (config : Config) : Type 0 where
   pub table : FindsTable fleet (config_of options master) r
   pub configured : config ≡ config_of (later_options lists options) config.master
   pub greater : master < config.master
   pub unused : (b s : ℕ) → (fleet_state fleet).picture b config.master s ≡ None
+  pub least : IsUnraised config.master (fleet_state fleet)
 
 -- whatever is left on the fleet of a master of this configuration, this answer tells why nothing was found
 abbrev pub FindsNone : MemoryFleet → Config → Answer → Type 0
@@ -181,8 +183,8 @@ pub record IsTakenOver (f : FleetState) (r : Rebuilt) (config : Config) (new : N
   pub stands : StandsAfter next freed new
 
 -- A recovery of what this fleet holds ended, and a later one is for the master with this number. Nothing was found, and
--- nothing changed. Or a table was found, and a master with the next number and these options was to adopt it: it did, or
--- it didn't.
+-- nothing changed. Or a table was found, and a master with the next number and these options was to adopt it: it did,
+-- or it didn't.
 abbrev pub EndsOn : FleetState → Options → Asked → ℕ → Node → Node → Answer → ℕ → Type 0
 EndsOn f options a used old new answer number =
     (FindsNothing f a answer × (new ≡ old) × (number ≡ a.master) × (used ≡ a.used))

@@ -4,7 +4,7 @@ ghost use Rattle.std.specs.Prelude.{◌≡◌, ◌⊎◌, ◌≤◌, ◌<◌, �
 ghost use Rattle.std.specs.Prelude.{IfSome, ◌^◌, ◌-◌};
 ghost use Rattle.backup.specs.State.{fleet_state};
 ghost use Rattle.backup.specs.declared.fleet.MemoryFleet.{MemoryFleet as FleetValue};
-ghost use Rattle.master.specs.Registry.{IsUnraised};
+ghost use Rattle.master.specs.Registry.{IsUnraised, AreUnraisedAbove};
 ghost use Rattle.master.specs.World.{World};
 ghost use Rattle.master_state.specs.Config.{config_fault};
 ghost use Rattle.master_state.specs.Data.{MasterData};
@@ -137,6 +137,7 @@ fn find_inheritance<H: Threads + Wait + Sync>(
 ) -> Result<Inheritance, Answer>
     requires covers { Covers (tables_to options.now.tables) will.now }
     requires order { IsOrder order }
+    requires later { AreUnraisedAbove used (fleet_state fleet.now) }
     ensures found { IfOk result (λ found.
         IsFoundIn fleet.now options.now lists_lengths master found.rebuilt found.config) }
     ensures fresh { IfOk result (λ found. used < found.config.master) }
@@ -178,7 +179,8 @@ fn find_inheritance<H: Threads + Wait + Sync>(
 }
 
 /// Recovers the table of the master with this number, has the next master adopt it, and frees the replicas of all
-/// others. The will covers the tablets of the options. The next master has the options of later masters.
+/// others. The will covers the tablets of the options. Any head may be used of a master with a greater number than those
+/// that were used. The next master has the options of later masters.
 pub fn recover_node<H: Threads + Wait + Sync>(
     rt: &H,
     alloc: Global,
@@ -193,6 +195,7 @@ pub fn recover_node<H: Threads + Wait + Sync>(
     requires covers { Covers (tables_to options.now.tables) will.now }
     requires order { IsOrder order }
     requires stands { (d : MasterData) × (at : Position) × IsNodeAt node.old (config_of options.now master) d at }
+    requires later { IfSome (fleet_of node.old) (AreUnraisedAbove used) }
     ensures recovers { Recovers node.old options.now lists_lengths master order node.new result.answer result.master }
     ensures ends { Ends node.old (later_options lists_lengths options.now)
         (ask master used will.now (order_named order)) result.used node.new result.answer result.master }

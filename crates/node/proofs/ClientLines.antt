@@ -35,7 +35,7 @@ use Rattle.node.proofs.Steps.{refused_left}
 
 -- ---- the life goes on
 
-module _ (m e : MasterValue MemoryFleet) (on : IsMade (made_now 64 m.knows) e.knows)
+module _ (m e : MasterValue MemoryFleet) (on : IsMade (made_now 64 (world fleet_state m)) (world fleet_state e))
     (valid : IsValid e.knows (fleet_state e.fleet))
     (clients rounds passes : ℕ) (config : Config) (d : MasterData) (at : Position)
     (s : IsNodeAt (Up m) config d at) where
@@ -182,13 +182,15 @@ module _ (old : Node) (m e : MasterValue MemoryFleet) (there : old ≡ Up m) (cl
   at_node : (config : Config) (d : MasterData) (at : Position) → IsNodeAt old config d at → IsNodeAt (Up m) config d at
   at_node config d at s = subst (λ (n : Node). IsNodeAt n config d at) there s
 
-  pub counted_told : (n : ℕ) → RunsClients clients rounds m.knows (Ok n) (world fleet_state e) → (config : Config)
+  pub counted_told : (n : ℕ) → RunsClients clients rounds (world fleet_state m) (Ok n) (world fleet_state e)
+      → (config : Config)
       → AnswersLine old config (Clients clients rounds passes) (Up e) (answer.Counted clients rounds n)
   counted_told n runs config d at s =
       counted m e runs.goes_on runs.valid clients rounds passes config d at
       (at_node config d at s) n runs.count runs.durable runs.accepted
 
-  pub refused_told : (fault : CallFault) → RunsClients clients rounds m.knows (Err fault) (world fleet_state e)
+  pub refused_told : (fault : CallFault)
+      → RunsClients clients rounds (world fleet_state m) (Err fault) (world fleet_state e)
       → (new : Node) (a : Answer)
       → RefusesCall (Up e) fault new a → (config : Config)
       → AnswersLine old config (Clients clients rounds passes) new a
@@ -198,7 +200,7 @@ module _ (old : Node) (m e : MasterValue MemoryFleet) (there : old ≡ Up m) (cl
 
   -- ---- what the clients made
 
-  pub counted_made : (n : ℕ) → RunsClients clients rounds m.knows (Ok n) (world fleet_state e)
+  pub counted_made : (n : ℕ) → RunsClients clients rounds (world fleet_state m) (Ok n) (world fleet_state e)
       → MakesClients old clients rounds (Up e) (answer.Counted clients rounds n)
   counted_made n runs = subst (λ (x : Node). MakesClients x clients rounds (Up e)
       (answer.Counted clients rounds n)) (sym there)
@@ -235,7 +237,8 @@ module _ (old : Node) (m e : MasterValue MemoryFleet) (there : old ≡ Up m) (cl
   call_made call_fault.CellRefused new a (is, same) = (is, stays_in new a answer.CellRefused is same refl)
   call_made call_fault.NotYours new a (is, same) = (is, stays_in new a answer.SeatUnknown is same refl)
 
-  pub refused_made : (fault : CallFault) → RunsClients clients rounds m.knows (Err fault) (world fleet_state e)
+  pub refused_made : (fault : CallFault)
+      → RunsClients clients rounds (world fleet_state m) (Err fault) (world fleet_state e)
       → (new : Node) (a : Answer)
       → RefusesCall (Up e) fault new a → MakesClients old clients rounds new a
   refused_made fault runs new a refuses =
@@ -251,12 +254,14 @@ master_in other n = other
 
 pub lent : (old : Node) (up m back : MasterValue MemoryFleet) (clients rounds : ℕ) (calls : Result ℕ CallFault)
     (known : Bool) → old ≡ Up up
-    → RunsClients clients rounds up.knows calls (world fleet_state back) → OnOk calls (IsTrue known) → old ≡ Up m
+    → RunsClients clients rounds (world fleet_state up) calls (world fleet_state back) → OnOk calls (IsTrue known)
+    → old ≡ Up m
     → Lends m clients rounds calls known (Up back)
 lent old up m back clients rounds calls known there runs tells is = record {
   back = back;
   is = refl;
-  runs = subst (λ (x : MasterValue MemoryFleet). RunsClients clients rounds x.knows calls (world fleet_state back))
+  runs = subst
+      (λ (x : MasterValue MemoryFleet). RunsClients clients rounds (world fleet_state x) calls (world fleet_state back))
       (ap (master_in up) (sym there ∙ is)) runs;
   tells = tells;
 }
@@ -264,8 +269,9 @@ lent old up m back clients rounds calls known there runs tells is = record {
 module _ (old mid : Node) (m : MasterValue MemoryFleet) (there : old ≡ Up m) (clients rounds passes : ℕ)
     (calls : Result ℕ CallFault) (known : Bool)
     (lends : Lends m clients rounds calls known mid) where
-  runs_as : (r : Result ℕ CallFault) → calls ≡ r → RunsClients clients rounds m.knows r (world fleet_state lends.back)
-  runs_as r is = subst (λ (x : Result ℕ CallFault). RunsClients clients rounds m.knows x
+  runs_as : (r : Result ℕ CallFault) → calls ≡ r
+      → RunsClients clients rounds (world fleet_state m) r (world fleet_state lends.back)
+  runs_as r is = subst (λ (x : Result ℕ CallFault). RunsClients clients rounds (world fleet_state m) x
       (world fleet_state lends.back)) is lends.runs
 
   pub counts : (n : ℕ) → calls ≡ Ok n → ((config : Config)

@@ -8,3 +8,4 @@ pub mod Tries
 pub mod ByHand
 pub mod ClientLines
 pub mod Downs
+pub mod LeastHeads

@@ -6,6 +6,7 @@ use Rattle.std.specs.Option.{option_map}
 use Rattle.lines.specs.Grammar.{LineValue, Idle, Roll, BeginRoll, Compact, Push, Clean, Begin, Copy, Seal, Free, Will}
 use Rattle.lines.specs.Grammar.{Hex, Log, Room, Holdings, Stop, Fault, Format, Crash, Lose, Recover, Clients}
 use Rattle.std.specs.declared.alloc.AllocError.{AllocError}
+use Rattle.cleaner.specs.declared.survivors.Survivors.{Survivors}
 use Rattle.replica.specs.declared.label.Label.{Label}
 use Rattle.backup.specs.Inventory.{AreRising}
 use Rattle.replica.specs.Picture.{FleetState, AreLabelsOf}
@@ -64,15 +65,15 @@ module _ (d e : MasterData) (old new : Node) (config : Config) (at : Position) (
       → Answered d new config at Roll (answer.Head id)
   head_told id rolls = (e, at, stays, ([], on.origin, on.history), (none, refl, roll_at (Ok id) rolls, refl))
 
-  pub clean_at : (victims : List ℕ) (r : Result (ℕ × ℕ) Refusal)
+  pub clean_at : (victims : List ℕ) (r : Result (Survivors × ℕ) Refusal)
       → Cleans (record { knows = d; fleet = f }) victims r (record { knows = e; fleet = g })
       → IsCleanAt config (life_to (life_of e) at.made) victims r
   clean_at victims r cleans = (record { knows = d; fleet = f }, record { knows = e; fleet = g }, before, after, cleans)
 
-  pub cleaned_told : (victims : List ℕ) (survivor head : ℕ)
-      → Cleans (record { knows = d; fleet = f }) victims (Ok (survivor, head)) (record { knows = e; fleet = g })
-      → Answered d new config at (Clean victims) (answer.Cleaned survivor head)
-  cleaned_told victims survivor head cleans = (
+  pub cleaned_told : (victims : List ℕ) (survivors : Survivors) (head : ℕ)
+      → Cleans (record { knows = d; fleet = f }) victims (Ok (survivors, head)) (record { knows = e; fleet = g })
+      → Answered d new config at (Clean victims) (answer.Cleaned survivors head)
+  cleaned_told victims survivors head cleans = (
     e,
     at,
     stays,
@@ -82,7 +83,7 @@ module _ (d e : MasterData) (old new : Node) (config : Config) (at : Position) (
       (
         victims,
         refl,
-        clean_at victims (Ok (survivor, head)) cleans,
+        clean_at victims (Ok (survivors, head)) cleans,
       ),
       refl,
     ),

@@ -33,11 +33,11 @@ pub held_of_left : (config : Config) (d : MasterData) (l : Left) (f : FleetState
     → d.config ≡ config → IsLeftOf d l f → AreHeld hs f.picture
     → AreLeft config l hs
 held_of_left config d l f hs same of shown h its =
-    let left = left_on (is_left l.lost) l.picture in
+    let left = left_on (is_left l.lost) l.shown.holds in
     let master : d.config.master ≡ h.master = ap (λ (c : Config). c.master) same ∙ sym its in
     let there : f.picture h.backup h.master h.segment ≡ left h.backup h.master h.segment =
     subst (λ (m : ℕ). f.picture h.backup m h.segment ≡ left h.backup m h.segment) master
-    (of.shown h.backup h.segment) in
+    (of.held h.backup h.segment) in
     subst (λ (r : Option Replica). IsAmong h hs ↔ (r ≡ Some
     (record { bytes = h.bytes; is_open = h.is_open }))) there (shown h)
 
@@ -66,9 +66,9 @@ left_of d fleet valid all = (
   record {
     crashed = fleet_state fleet;
     valid = valid;
-    picture = refl;
+    shown = refl;
     opened = refl;
-    shown = λ b s. refl;
+    held = λ b s. refl;
     backups = all;
     least = refl;
   },
@@ -107,15 +107,15 @@ cut_twice false gone r = refl
 
 -- what is left, less a backup
 pub lost_of : (d : MasterData) (l : Left) (old new : FleetState) (backup : ℕ) → new ≡ lost old backup → IsLeftOf d l old
-    → IsLeftOf d (record { picture = l.picture; opened = l.opened; lost = backup ∷ l.lost }) new
+    → IsLeftOf d (record { shown = l.shown; opened = l.opened; lost = backup ∷ l.lost }) new
 lost_of d l old new backup is of = record {
   crashed = of.crashed;
   valid = of.valid;
-  picture = of.picture;
+  shown = of.shown;
   opened = of.opened;
-  shown = λ b s. (λ i. (is i).picture b d.config.master s)
-      ∙ ap (λ (r : Option Replica). cond (not (backup == b)) r None) (of.shown b s)
-      ∙ cut_twice (backup == b) (is_kept l.lost b) (l.picture b d.config.master s);
+  held = λ b s. (λ i. (is i).picture b d.config.master s)
+      ∙ ap (λ (r : Option Replica). cond (not (backup == b)) r None) (of.held b s)
+      ∙ cut_twice (backup == b) (is_kept l.lost b) (l.shown.holds b d.config.master s);
   backups = let was = of.backups in let same = ap (λ (f : FleetState). f.backups) is in omega arith;
   least = ap (λ (f : FleetState). f.least) is ∙ of.least;
 }
@@ -126,9 +126,9 @@ pub same_picture : (d : MasterData) (l : Left) (old new : FleetState) → new.pi
 same_picture d l old new is same least of = record {
   crashed = of.crashed;
   valid = of.valid;
-  picture = of.picture;
+  shown = of.shown;
   opened = of.opened;
-  shown = λ b s. (λ i. is i b d.config.master s) ∙ of.shown b s;
+  held = λ b s. (λ i. is i b d.config.master s) ∙ of.held b s;
   backups = let was = of.backups in omega arith;
   least = least ∙ of.least;
 }
@@ -145,7 +145,7 @@ module _ (node : Node) (fleet : MemoryFleet) (config : Config) (d : MasterData) 
       → Answered d (Down new) config at (Lose backup) (answer.Lost backup)
   lost_told backup new is =
       let l = left_at.0 in
-      let less : Left = record { picture = l.picture; opened = l.opened; lost = backup ∷ l.lost } in (
+      let less : Left = record { shown = l.shown; opened = l.opened; lost = backup ∷ l.lost } in (
         d,
         record { made = at.made; acknowledged = at.acknowledged; left = Some less },
         record {

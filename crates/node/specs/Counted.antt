@@ -6,22 +6,22 @@ use Rattle.locked_log.specs.Made.{IsMade, made_now}
 use Rattle.log_model.specs.Data.{durable_of}
 use Rattle.master.specs.Valid.{IsValid}
 use Rattle.master.specs.World.{World}
-use Rattle.master_state.specs.Data.{MasterData}
 use Rattle.master_state.specs.Log.{log_of}
 use Rattle.store_clients.specs.Workloads.{AreAccepted}
 use Rattle.node.specs.Lives.{Life, Left, Position}
 
 -- ---- a master
 
--- Clients made their rounds over a master, which went on with its history. The result is how many of their calls were
--- accepted, or the first refusal. If none was refused, these are two for each round of each client. Then the client
--- with seat k, from 1 on, made just so many records, no other seat made one, and all records are durable.
-pub record RunsClients (clients rounds : ℕ) (old : MasterData) (calls : Result ℕ CallFault) (new : World) : Type 0 where
-  pub goes_on : IsMade (made_now 64 old) new.knows
+-- Clients made their rounds over a master, which went on with its history, and no least head was raised. The result is
+-- how many of their calls were accepted, or the first refusal. If none was refused, these are two for each round of each
+-- client. Then the client with seat k, from 1 on, made just so many records, no other seat made one, and all records
+-- are durable.
+pub record RunsClients (clients rounds : ℕ) (old : World) (calls : Result ℕ CallFault) (new : World) : Type 0 where
+  pub goes_on : IsMade (made_now 64 old) new
   pub valid : IsValid new.knows new.fleet
   pub count : IfOk calls (λ (n : ℕ). n ≡ 2 * rounds * clients)
   pub durable : OnOk calls (durable_of (log_of new.knows) ≡ length new.knows.history)
-  pub accepted : OnOk calls (AreAccepted clients rounds old.history new.knows.history)
+  pub accepted : OnOk calls (AreAccepted clients rounds old.knows.history new.knows.history)
 
 -- ---- its life
 

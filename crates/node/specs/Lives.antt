@@ -1,6 +1,6 @@
 -- A master's life, and what a crash leaves of it.
 use Rattle.std.specs.Prelude.{◌≡◌, ℕ, List, [], not, Bool, take, slice_get, Option, Some, None}
-use Rattle.replica.specs.Picture.{Picture, FleetState}
+use Rattle.replica.specs.Picture.{FleetState, Shown, shown_of}
 use Rattle.versioned_map.specs.declared.command.Record.{Record}
 use Rattle.versioned_map.specs.Versioned.{State}
 use Rattle.master_state.specs.declared.config.Config.{Config}
@@ -28,10 +28,10 @@ pub record HasLived (config : Config) (life : Life) (d : MasterData) (f : FleetS
 
 -- ---- what is left
 
--- What the backups held of a master when it was dropped, the newest head that was opened on all its homes, and which
--- backups have lost all they held since.
+-- What a recovery was shown of a master when it was dropped, the newest head that was opened on all its homes, and
+-- which backups have lost all they held since.
 pub record Left : Type 0 where
-  pub picture : Picture
+  pub shown : Shown
   pub opened : Option ℕ
   pub lost : List ℕ
 
@@ -40,7 +40,7 @@ is_left lost b = not (is_kept lost b)
 
 -- what a master over this fleet leaves
 abbrev pub left_now : MasterData → FleetState → Left
-left_now d f = record { picture = f.picture; opened = newest_opened (log_of d); lost = [] }
+left_now d f = record { shown = shown_of f d.config.master; opened = newest_opened (log_of d); lost = [] }
 
 -- a master that lived this life left this
 abbrev pub IsLeftBy : Config → Life → Left → Type 0

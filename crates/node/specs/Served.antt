@@ -10,8 +10,9 @@ use Rattle.store_seat.specs.declared.fault.CallFault.{CallFault}
 use Rattle.store_seat.specs.declared.fault.CallFault.TheVariants as call_fault
 use Rattle.std.specs.Option.{option_map}
 use Rattle.std.specs.declared.alloc.AllocError.{AllocError}
+use Rattle.cleaner.specs.declared.survivors.Survivors.{Survivors}
 use Rattle.replica.specs.declared.label.Label.{Label}
-use Rattle.replica.specs.Picture.{FleetState, AreLabelsOf, left_on}
+use Rattle.replica.specs.Picture.{FleetState, AreLabelsOf, left_on, shown_of}
 use Rattle.replica.specs.Take.{limited, no_limit}
 use Rattle.versioned_map.specs.declared.command.Command.{Command}
 use Rattle.versioned_map.specs.declared.command.Record.{Record}
@@ -47,13 +48,14 @@ use Rattle.node.specs.Told.{command_of, Tells}
 use Rattle.tablet_will.specs.declared.part.Part.{Part}
 use Rattle.tablet_will.specs.Parts.{Divides}
 
--- Of a master that is gone the fleet holds what its crash left, without the backups that were lost since.
+-- Of a master that is gone the fleet holds what its crash left, without the backups that were lost since, and shows the
+-- same least head.
 pub record IsLeftOf (d : MasterData) (l : Left) (f : FleetState) : Type 0 where
   pub crashed : FleetState
   pub valid : IsValid d crashed
-  pub picture : l.picture ≡ crashed.picture
+  pub shown : l.shown ≡ shown_of crashed d.config.master
   pub opened : l.opened ≡ newest_opened (log_of d)
-  pub shown : (b s : ℕ) → f.picture b d.config.master s ≡ left_on (is_left l.lost) l.picture b d.config.master s
+  pub held : (b s : ℕ) → f.picture b d.config.master s ≡ left_on (is_left l.lost) l.shown.holds b d.config.master s
   pub backups : d.config.backups ≤ f.backups
   pub least : f.least ≡ crashed.least
 
@@ -127,7 +129,7 @@ step_told (Ok (step_answer.Compacted segment len)) = Compacted segment len
 step_told (Ok (step_answer.Extended backup segment)) = Extended backup segment
 step_told (Ok (step_answer.Opened backup segment)) = Opened backup segment
 step_told (Ok (step_answer.Closed backup segment)) = Closed backup segment
-step_told (Ok (step_answer.Begun survivor)) = Begun survivor
+step_told (Ok (step_answer.Begun survivors)) = Begun survivors
 step_told (Ok step_answer.Moved) = Moved
 step_told (Ok step_answer.Carried) = Carried
 step_told (Ok step_answer.Dropped) = Dropped
@@ -146,8 +148,8 @@ reply_told (Ok reply) = Replied reply
 reply_told (Err r) = refusal_answer r
 
 -- what is answered to a whole cleaning
-abbrev pub clean_told : Result (ℕ × ℕ) Refusal → Answer
-clean_told (Ok (survivor, head)) = Cleaned survivor head
+abbrev pub clean_told : Result (Survivors × ℕ) Refusal → Answer
+clean_told (Ok (survivors, head)) = Cleaned survivors head
 clean_told (Err r) = refusal_answer r
 
 -- A node that is up makes just this step, and answers what comes of it. Any other does nothing.
@@ -164,7 +166,7 @@ MakesRoll old new answer = (new ≡ old) × (answer ≡ answers.Down)
 
 -- A node that is up makes just this cleaning, and answers what comes of it. Any other does nothing.
 abbrev pub MakesClean : Node → List ℕ → Node → Answer → Type 0
-MakesClean (Up m) victims new answer = (result : Result (ℕ × ℕ) Refusal) × (w : World)
+MakesClean (Up m) victims new answer = (result : Result (Survivors × ℕ) Refusal) × (w : World)
     × Cleans (world fleet_state m) victims result w × (answer ≡ clean_told result) × IsLeftIn w answer new
 MakesClean old victims new answer = (new ≡ old) × (answer ≡ answers.Down)
 
@@ -199,7 +201,7 @@ pub record Lends (m : MasterValue MemoryFleet) (clients rounds : ℕ) (calls : R
     (new : Node) : Type 0 where
   pub back : MasterValue MemoryFleet
   pub is : new ≡ Up back
-  pub runs : RunsClients clients rounds m.knows calls (world fleet_state back)
+  pub runs : RunsClients clients rounds (world fleet_state m) calls (world fleet_state back)
   pub tells : OnOk calls (IsTrue known)
 
 -- A refusal of clients is answered as any other. But a fleet that refused an op as spent, and isn't, is told as
@@ -221,7 +223,7 @@ RefusesCall old call_fault.NotYours new answer = (answer ≡ answers.SeatUnknown
 -- other node does nothing.
 abbrev pub MakesClients : Node → ℕ → ℕ → Node → Answer → Type 0
 MakesClients (Up m) clients rounds new answer = (calls : Result ℕ CallFault) × (w : World)
-    × RunsClients clients rounds m.knows calls w × IsClientsAnswer w.fleet clients rounds calls answer
+    × RunsClients clients rounds (world fleet_state m) calls w × IsClientsAnswer w.fleet clients rounds calls answer
     × IsLeftIn w answer new
 MakesClients old clients rounds new answer = (new ≡ old) × (answer ≡ answers.Down)
 

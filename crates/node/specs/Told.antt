@@ -12,11 +12,12 @@ use Rattle.lines.specs.Grammar.{Hex, Stop, Fault, Crash, Lose, Will, Recover, Ho
 use Rattle.lines.specs.Grammar.{Clients, Format}
 use Rattle.lines.specs.declared.line.ReplayOrder.{ReplayOrder}
 use Rattle.backup.specs.Inventory.{AreRising}
+use Rattle.cleaner.specs.declared.survivors.Survivors.{Survivors}
 use Rattle.replica.specs.Choice.{Choice, IsShownChoice, bag_of}
 use Rattle.entry.specs.Bag.{IsAmong}
 use Rattle.replica.specs.declared.holding.Holding.{Holding}
 use Rattle.replica.specs.declared.label.Label.{Label}
-use Rattle.replica.specs.Picture.{FleetState, left_on, IsHeld, AreLabelsOf, label_of, shown_by, survivors}
+use Rattle.replica.specs.Picture.{FleetState, left_on, IsHeld, AreLabelsOf, label_of, survivors}
 use Rattle.replica.specs.Survival.{BothSurvive}
 use Rattle.versioned_map.specs.declared.command.Command.{Command}
 use Rattle.versioned_map.specs.declared.command.Command.TheVariants as command
@@ -101,7 +102,7 @@ IsRollAt config life result = (old : World) × (new : World) × HasLived config 
     × HasLived config life new.knows new.fleet × Rolls old result new
 
 -- the same of a whole cleaning of these segments
-abbrev pub IsCleanAt : Config → Life → List ℕ → Result (ℕ × ℕ) Refusal → Type 0
+abbrev pub IsCleanAt : Config → Life → List ℕ → Result (Survivors × ℕ) Refusal → Type 0
 IsCleanAt config life victims result = (old : World) × (new : World) × HasLived config life old.knows old.fleet
     × HasLived config life new.knows new.fleet × Cleans old victims result new
 
@@ -191,7 +192,7 @@ IsRoomAt config life used free = (d : MasterData) × (f : FleetState) × HasLive
 -- of the master's replicas these are left
 abbrev pub AreLeft : Config → Left → List Holding → Type 0
 AreLeft config l hs = (h : Holding) → h.master ≡ config.master
-    → IsAmong h hs ↔ IsHeld (left_on (is_left l.lost) l.picture) h
+    → IsAmong h hs ↔ IsHeld (left_on (is_left l.lost) l.shown.holds) h
 
 -- what the backups hold: of a master that has lived this life, or what is left of it
 abbrev pub AreHeldAt : Config → Life → Option Left → List Label → Type 0
@@ -236,7 +237,7 @@ IsRecoveredAt life at r =
 
 -- the objects are those of a log that is chosen from what the backups still hold
 abbrev pub IsOfLeft : Config → Left → Rebuilt → Type 0
-IsOfLeft config l r = (c : Choice) × IsShownChoice (survivors (is_left l.lost) (shown_by l.picture)) config.master c
+IsOfLeft config l r = (c : Choice) × IsShownChoice (survivors (is_left l.lost) l.shown) config.master c
     × IsMeaning (among (bag_of c)) (contents_of r.objects)
 
 -- the line asks for a recovery, in some order
@@ -255,7 +256,7 @@ IsNextConfig old new = (old.master < new.master) × ((new.format ≡ old.format)
 -- of the master's replicas the fleet holds just what is left
 abbrev pub HoldsLeft : Config → Left → FleetState → Type 0
 HoldsLeft config l f =
-    (b s : ℕ) → f.picture b config.master s ≡ left_on (is_left l.lost) l.picture b config.master s
+    (b s : ℕ) → f.picture b config.master s ≡ left_on (is_left l.lost) l.shown.holds b config.master s
 
 -- A master of the new configuration doesn't adopt the table, over a fleet that holds what is left of the old one.
 abbrev pub IsListDeclined : Config → Left → Config → Rebuilt → Refusal → Type 0
@@ -272,13 +273,13 @@ IsUnadopted config life at line r next = IsRecover line × ((l : Left) × (at.le
 -- What the backups that are left hold of the master has this fault, and the loss that is named hides the log.
 abbrev pub NamesLossOf : Config → Left → RecoveryFault → Type 0
 NamesLossOf config l (recovery_fault.Plan loss) = (hs : List Holding) × AreLeft config l hs
-    × IsPlanFault hs 0 config.master loss × NamesLoss hs 0 config.master loss
+    × IsPlanFault hs l.shown.least config.master loss × NamesLoss hs l.shown.least config.master loss
 NamesLossOf config l (recovery_fault.Replay refused) = ⊥
 
 -- what the refusal names is lost, or memory ran out; if the backups that are left have head and segments, memory did
 abbrev pub IsLossOf : Config → Left → RecoveryFault → Type 0
 IsLossOf config l e = IsLossOrMemory e × (IsWant e ⊎ NamesLossOf config l e)
-    × (BothSurvive (IsHomeBy config) l.opened (shown_by l.picture) config.master (is_left l.lost) → IsWant e)
+    × (BothSurvive (IsHomeBy config) l.opened l.shown config.master (is_left l.lost) → IsWant e)
 
 -- ---- lines
 
@@ -335,9 +336,9 @@ Tells config life at line (answer.Opened backup segment) next = (at.left ≡ Non
     × IsStepAt config (life_to life at.made) step.Push (Ok (step_answer.Opened backup segment)) × (next ≡ at)
 Tells config life at line (answer.Closed backup segment) next = (at.left ≡ None) × (line ≡ Push)
     × IsStepAt config (life_to life at.made) step.Push (Ok (step_answer.Closed backup segment)) × (next ≡ at)
-Tells config life at line (answer.Begun survivor) next = (at.left ≡ None)
+Tells config life at line (answer.Begun survivors) next = (at.left ≡ None)
     × ((victims : List ℕ) × (line ≡ Begin victims)
-    × IsStepAt config (life_to life at.made) (step.BeginClean victims) (Ok (step_answer.Begun survivor)))
+    × IsStepAt config (life_to life at.made) (step.BeginClean victims) (Ok (step_answer.Begun survivors)))
     × (next ≡ at)
 Tells config life at line answer.Moved next = (at.left ≡ None) × (line ≡ Copy)
     × IsStepAt config (life_to life at.made) step.Copy (Ok step_answer.Moved) × (next ≡ at)
@@ -349,9 +350,9 @@ Tells config life at line (answer.Sealed backup) next = (at.left ≡ None) × (l
     × IsStepAt config (life_to life at.made) step.Seal (Ok (step_answer.Sealed backup)) × (next ≡ at)
 Tells config life at line (answer.Freed segment backup) next = (at.left ≡ None) × (line ≡ Free)
     × IsStepAt config (life_to life at.made) step.Free (Ok (step_answer.Freed segment backup)) × (next ≡ at)
-Tells config life at line (answer.Cleaned survivor head) next = (at.left ≡ None)
+Tells config life at line (answer.Cleaned survivors head) next = (at.left ≡ None)
     × ((victims : List ℕ) × (line ≡ Clean victims)
-    × IsCleanAt config (life_to life at.made) victims (Ok (survivor, head)))
+    × IsCleanAt config (life_to life at.made) victims (Ok (survivors, head)))
     × (next ≡ at)
 Tells config life at line (answer.Counted clients rounds calls) next = (at.left ≡ None)
     × AsksClients line clients rounds × AreCounted life at clients rounds calls next
@@ -385,7 +386,7 @@ Tells config life at line (answer.Lost backup) next = (line ≡ Lose backup) × 
     × (next ≡ record {
       made = at.made;
       acknowledged = at.acknowledged;
-      left = Some (record { picture = l.picture; opened = l.opened; lost = backup ∷ l.lost });
+      left = Some (record { shown = l.shown; opened = l.opened; lost = backup ∷ l.lost });
     })
 -- a table that was recovered and adopted begins another life
 Tells config life at line (answer.Recovered r) next = ⊥

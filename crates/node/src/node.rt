@@ -55,7 +55,7 @@ fn answer_of(made: StepAnswer) -> Answer
         StepAnswer::Closed(backup, segment) => Answer::Closed(backup, segment),
         StepAnswer::Rolling(id) => Answer::Opening(id),
         StepAnswer::Compacted(segment, len) => Answer::Compacted(segment, len),
-        StepAnswer::Begun(survivor) => Answer::Begun(survivor),
+        StepAnswer::Begun(survivors) => Answer::Begun(survivors),
         StepAnswer::Moved => Answer::Moved,
         StepAnswer::Carried => Answer::Carried,
         StepAnswer::Dropped => Answer::Dropped,
@@ -195,7 +195,7 @@ impl Node {
         let outcome = clean_all(up, victims);
         up.show_valid();
         match outcome {
-            Ok((survivor, head)) => Answer::Cleaned(survivor, head),
+            Ok((survivors, head)) => Answer::Cleaned(survivors, head),
             Err(refusal) => self.refuse(refusal),
         }
     }

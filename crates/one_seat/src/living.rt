@@ -2,7 +2,9 @@
 
 ghost use Rattle.std.specs.Prelude.{◌≡◌, ◌≤◌};
 ghost use Rattle.locked_log.specs.Ends.{IsFresh};
+ghost use Rattle.backup.specs.State.{fleet_state};
 ghost use Rattle.locked_log.specs.Made.{IsMade};
+ghost use Rattle.master.specs.World.{world};
 ghost use Rattle.store_lines.specs.Lives.{IsOpening};
 
 use crate::coordinator::Coordinator;
@@ -55,7 +57,7 @@ fn live_in<B: Naming, R: Wait, I: BufRead + Drop, O: Write + Drop>(
     requires cells { (blank.cells ≡ B.cells) × (blank.seats ≡ B.made.seats) }
     requires ledger { (blank.name ≡ B.name) × (blank.parts ≡ B.parts) }
     requires mark { blank.table ≡ B.table }
-    requires made { IsMade B.made master.knows }
+    requires made { IsMade B.made (world fleet_state master) }
 {
     match Store::<MemoryFleet, B>::new(alloc, blank, master) {
         Ok((store, seats)) => {

@@ -12,7 +12,6 @@ use Rattle.master_state.specs.declared.step.Refusal.{Refusal}
 use Rattle.master_state.specs.declared.step.Step.{Step}
 use Rattle.master_state.specs.declared.step.StepAnswer.{StepAnswer}
 use Rattle.master_state.specs.Data.{MasterData}
-use Rattle.master.specs.Registry.{IsUnraised}
 use Rattle.master.specs.Valid.{IsValid}
 use Rattle.master.specs.World.{World, world_of, retired_data}
 use Rattle.recovery.specs.declared.recovery.RecoveryFault.{RecoveryFault}
@@ -20,7 +19,6 @@ use Rattle.recovery.specs.declared.succession.Course.{Course}
 use Rattle.recovery.specs.declared.succession.NotAdopted.{NotAdopted}
 use Rattle.recovery.specs.Drilled.{IsDrill}
 use Rattle.recovery.specs.Succession.{IsNewest, with_number, IsDrillBy, IsSuccessor, IsNotAdopted}
-use Rattle.recovery.proofs.Drilling.{run_keeps}
 use Rattle.recovery.proofs.Succeeding.{run_newest, next_newest}
 
 -- ---- the next master
@@ -63,8 +61,8 @@ is_successor c d r left taken new before after retired same kept adopted on reti
 
 pub adopted_newest : (n : ℕ) (c d : Config) (r : Rebuilt) (left taken new : FleetState) (before : MasterData)
     (retired : Result Unit TakeFault) → d ≡ with_number (suc n) c → IsAdopted d r before
-    → IsAdoptedOn d.master left taken → Retires taken before.config.master retired new → IsNewest n left.picture
-    → IsNewest (suc n) new.picture
+    → IsAdoptedOn d.master left taken → Retires taken before.config.master retired new → IsNewest n left
+    → IsNewest (suc n) new
 adopted_newest n c d r left taken new before retired same adopted on retires newest =
     let number : d.master ≡ suc n = ap (λ (x : Config). x.master) same in
     next_newest n left taken new retired newest (subst (λ (m : ℕ). IsAdoptedOn m left taken) number on)
@@ -72,10 +70,9 @@ adopted_newest n c d r left taken new before retired same adopted on retires new
 
 -- ---- the configuration
 
-pub newest_again : (c e : Config) (n : ℕ) (f : FleetState) → e ≡ with_number n c → IsNewest n f.picture
-    → IsNewest e.master f.picture
+pub newest_again : (c e : Config) (n : ℕ) (f : FleetState) → e ≡ with_number n c → IsNewest n f → IsNewest e.master f
 newest_again c e n f is newest =
-    subst (λ (m : ℕ). IsNewest m f.picture) (sym (ap (λ (x : Config). x.master) is)) newest
+    subst (λ (m : ℕ). IsNewest m f) (sym (ap (λ (x : Config). x.master) is)) newest
 
 -- ---- the life
 
@@ -89,19 +86,10 @@ drill_by start k steps kept answers recovered left same asked is =
 
 pub drill_newest : (start : World) (k : Course) (answers : List (Result StepAnswer Refusal))
     (recovered : Result Rebuilt RecoveryFault) (left : FleetState) (n : ℕ) → n ≡ start.knows.config.master
-    → IsDrillBy start k answers recovered left → IsNewest start.knows.config.master start.fleet.picture
-    → IsNewest n left.picture
+    → IsDrillBy start k answers recovered left → IsNewest start.knows.config.master start.fleet → IsNewest n left
 drill_newest start k answers recovered left n same is newest =
-    subst (λ (m : ℕ). IsNewest m left.picture) (sym same)
+    subst (λ (m : ℕ). IsNewest m left) (sym same)
     (run_newest start is.stop k.steps.items answers left is.run is.fleet newest)
-
--- any head may be used of its master, and of any later one
-pub drill_unraised : (start : World) (k : Course) (answers : List (Result StepAnswer Refusal))
-    (recovered : Result Rebuilt RecoveryFault) (left : FleetState) (n : ℕ) → n ≡ start.knows.config.master
-    → IsDrillBy start k answers recovered left → IsUnraised n left
-drill_unraised start k answers recovered left n same is =
-    let config = run_keeps start is.stop k.steps.items answers is.run in
-    subst (λ (m : ℕ). IsUnraised m left) (ap (λ (c : Config). c.master) config ∙ sym same) is.valid.least
 
 pub is_not_adopted : (c d : Config) (n : ℕ) (r : Rebuilt) (left new : FleetState) (why : NotAdopted)
     → d ≡ with_number d.master c → n ≡ d.master → IsNotAdopted (with_number n c) r left why new

@@ -14,6 +14,7 @@ use Rattle.replica.specs.Op.{Free}
 use Rattle.replica.specs.Picture.{Replica, FleetState, is_same_place}
 use Rattle.replica.specs.Take.{effect, with_effect, Takes, Refuses}
 use Rattle.replica.specs.Retire.{freeing, TakesEach, Retires}
+use Rattle.replica.proofs.Retiring.{retire_spares}
 use Rattle.replay.specs.Adopting.{IsAdoptedOn}
 use Rattle.master_state.specs.declared.config.Config.{Config}
 use Rattle.master_state.specs.declared.step.Refusal.{Refusal}
@@ -23,6 +24,7 @@ use Rattle.master_state.specs.Data.{Origin}
 use Rattle.master_state.specs.Log.{opening_of}
 use Rattle.master.specs.Steps.{IsRun}
 use Rattle.master.specs.World.{MasterValue, World, world}
+use Rattle.master.proofs.Unraised.{above_on}
 use Rattle.recovery.specs.declared.succession.Course.{Course}
 use Rattle.recovery.specs.declared.succession.Lived.{Lived}
 use Rattle.recovery.specs.declared.succession.End.{End}
@@ -51,12 +53,24 @@ run_others old new (s ∷ ss) (a ∷ rest) run b m t other =
     ap (λ (c : Config). c.master) run.2.keeps.config in
     run_others run.0 new ss rest run.3 b m t (λ is. other (is ∙ same)) ∙ run.2.keeps.others b m t other
 
+-- no least head is raised
+run_least : (old new : World) (steps : List Step) (answers : List (Result StepAnswer Refusal))
+    → IsRun old steps answers new → new.fleet.least ≡ old.fleet.least
+run_least old new [] [] run = ap (λ (w : World). w.fleet.least) run
+run_least old new [] (a ∷ rest) run = absurd run
+run_least old new (s ∷ ss) [] run = absurd run
+run_least old new (s ∷ ss) (a ∷ rest) run = run_least run.0 new ss rest run.3 ∙ run.2.keeps.least
+
 pub run_newest : (old new : World) (steps : List Step) (answers : List (Result StepAnswer Refusal)) (left : FleetState)
-    → IsRun old steps answers new → left ≡ new.fleet → IsNewest old.knows.config.master old.fleet.picture
-    → IsNewest old.knows.config.master left.picture
-run_newest old new steps answers left run same newest b m s above =
-    ap (λ (f : FleetState). f.picture b m s) same
-    ∙ run_others old new steps answers run b m s (λ is. absurd (omega (arith, is, above))) ∙ newest b m s above
+    → IsRun old steps answers new → left ≡ new.fleet → IsNewest old.knows.config.master old.fleet
+    → IsNewest old.knows.config.master left
+run_newest old new steps answers left run same newest = record {
+  held = λ b m s above. ap (λ (f : FleetState). f.picture b m s) same
+      ∙ run_others old new steps answers run b m s (λ is. absurd (omega (arith, is, above)))
+      ∙ newest.held b m s above;
+  least = above_on old.knows.config.master old.fleet left
+      (ap (λ (f : FleetState). f.least) same ∙ run_least old new steps answers run) newest.least;
+}
 
 -- ---- replicas that are freed
 
@@ -100,11 +114,14 @@ module _ (b m s : ℕ) where
   retire_leaves f g keep (Err why) (inr is) none = subst IsFreeOn (sym is.1) none
 
 pub next_newest : (n : ℕ) (left taken new : FleetState) (result : Result Unit TakeFault)
-    → IsNewest n left.picture → IsAdoptedOn (suc n) left taken → Retires taken (suc n) result new
-    → IsNewest (suc n) new.picture
-next_newest n left taken new result newest on retires b m s above =
-    retire_leaves b m s taken new (suc n) result retires
-    (on.others b m s (λ is. absurd (omega (arith, is, above))) ∙ newest b m s (omega (arith, above)))
+    → IsNewest n left → IsAdoptedOn (suc n) left taken → Retires taken (suc n) result new
+    → IsNewest (suc n) new
+next_newest n left taken new result newest on retires = record {
+  held = λ b m s above. retire_leaves b m s taken new (suc n) result retires
+      (on.others b m s (λ is. absurd (omega (arith, is, above))) ∙ newest.held b m s (omega (arith, above)));
+  least = λ m above. ap (λ (h : ℕ → ℕ). h m) (retire_spares taken new (suc n) result retires).least
+      ∙ ap (λ (h : ℕ → ℕ). h m) on.least ∙ newest.least m (omega (arith, above));
+}
 
 -- ---- lives
 

@@ -1,6 +1,6 @@
 -- Lives that are drilled one after another. Each is ended and recovered, and a new master goes on with what came back.
 use Rattle.std.specs.Prelude.{◌≡◌, ℕ, suc, ◌<◌, ◌^◌, ◌-◌, List, [], ◌∷◌, ◌++◌, Result, Ok, Err, None}
-use Rattle.replica.specs.Picture.{Picture, FleetState}
+use Rattle.replica.specs.Picture.{FleetState}
 use Rattle.replica.specs.Retire.{Retires}
 use Rattle.replica.specs.declared.op.TakeFault.{TakeFault}
 use Rattle.claims.specs.declared.rebuilt.Rebuilt.{Rebuilt}
@@ -10,6 +10,7 @@ use Rattle.master_state.specs.declared.step.Refusal.{Refusal}
 use Rattle.master_state.specs.declared.step.Step.{Step}
 use Rattle.master_state.specs.declared.step.StepAnswer.{StepAnswer}
 use Rattle.master_state.specs.Log.{log_of}
+use Rattle.master.specs.Registry.{AreUnraisedAbove}
 use Rattle.master.specs.Steps.{IsRun}
 use Rattle.master.specs.Valid.{IsValid}
 use Rattle.master.specs.World.{World, world}
@@ -25,9 +26,10 @@ use Rattle.recovery.specs.Lives.{Life, AreLives}
 
 -- ---- numbers
 
--- no backup holds a replica of a master with a greater number
-abbrev pub IsNewest : ℕ → Picture → Type 0
-IsNewest master p = (b m s : ℕ) → master < m → p b m s ≡ None
+-- There was no master with a greater number: no backup holds a replica of one, and any of its heads may be used.
+pub record IsNewest (master : ℕ) (f : FleetState) : Type 0 where
+  pub held : (b m s : ℕ) → master < m → f.picture b m s ≡ None
+  pub least : AreUnraisedAbove master f
 
 -- the same configuration, for the master with this number
 abbrev pub with_number : ℕ → Config → Config

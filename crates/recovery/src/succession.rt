@@ -2,7 +2,6 @@
 
 ghost use Rattle.std.specs.Prelude.{◌≡◌, ◌≤◌, suc, None, IfOk, IfErr};
 ghost use Rattle.master_state.specs.Config.{config_fault};
-ghost use Rattle.master.specs.Registry.{IsUnraised};
 ghost use Rattle.master.specs.World.{world};
 ghost use Rattle.recovery.specs.Succession.{IsNewest, with_number, IsSuccessor, IsLived, IsNotAdopted, IsLast};
 ghost use Rattle.recovery.specs.Succession.{AreDrilled};
@@ -94,11 +93,10 @@ fn succeed<F: Bench>(
 ) -> Result<(Master<F>, Result<(), TakeFault>), (NotAdopted, F)>
     requires config { config_fault config.now ≡ None }
     requires backups { config.now.backups ≤ (F.Fleet.state fleet).backups }
-    requires newest { IsNewest number (F.Fleet.state fleet).picture }
-    requires least { IsUnraised number (F.Fleet.state fleet) }
+    requires newest { IsNewest number (F.Fleet.state fleet) }
     ensures succeeds { IfOk result (λ r. IsSuccessor (with_number (suc number) config.now) rebuilt.now
         (F.Fleet.state fleet) r.1 (world F.Fleet.state r.0)) }
-    ensures newest { IfOk result (λ r. IsNewest (suc number) (F.Fleet.state r.0.fleet).picture) }
+    ensures newest { IfOk result (λ r. IsNewest (suc number) (F.Fleet.state r.0.fleet)) }
     ensures refused { IfErr result (λ e.
         IsNotAdopted (with_number number config.now) rebuilt.now (F.Fleet.state fleet) e.0 (F.Fleet.state e.1)) }
 {
@@ -125,10 +123,10 @@ fn live<F: Bench>(
     course: &Course,
 ) -> Result<(Lived, Master<F>), End<F>>
     requires config { master.knows.config ≡ with_number master.knows.config.master config.now }
-    requires newest { IsNewest master.knows.config.master (F.Fleet.state master.fleet).picture }
+    requires newest { IsNewest master.knows.config.master (F.Fleet.state master.fleet) }
     ensures lived { IfOk result (λ r.
         IsLived (world F.Fleet.state master) course.now r.0 (world F.Fleet.state r.1)) }
-    ensures newest { IfOk result (λ r. IsNewest r.1.knows.config.master (F.Fleet.state r.1.fleet).picture) }
+    ensures newest { IfOk result (λ r. IsNewest r.1.knows.config.master (F.Fleet.state r.1.fleet)) }
     ensures config { IfOk result (λ r. r.1.knows.config ≡ with_number r.1.knows.config.master config.now) }
     ensures ends { IfErr result (IsLast F.Fleet.state (world F.Fleet.state master) course.now) }
 {
@@ -181,10 +179,10 @@ fn live<F: Bench>(
 
 /// Lives one life after another: its steps, its end, its recovery from what these backups hold, and a new master that
 /// adopts what was recovered and frees the replicas of all others. The new master has the number of the last one and
-/// one more, and is else configured alike. No backup may hold replicas of a greater number than the first one's. It
-/// stops if a recovery or an adoption is refused, or if memory runs out, and hands back what there is. If replicas of
-/// earlier masters stay because their freeing ended in a fault, the next life goes on beside them; after a fault of a
-/// backup its master is halted, and the life after it takes over.
+/// one more, and is else configured alike. There may have been no master with a greater number than the first one's.
+/// It stops if a recovery or an adoption is refused, or if memory runs out, and hands back what there is. If replicas
+/// of earlier masters stay because their freeing ended in a fault, the next life goes on beside them; after a fault of
+/// a backup its master is halted, and the life after it takes over.
 pub fn run_lives<F: Bench>(
     alloc: Global,
     master: Master<F>,
@@ -192,7 +190,7 @@ pub fn run_lives<F: Bench>(
     courses: &[Course],
 ) -> Drills<F>
     requires config { master.knows.config ≡ config.now }
-    requires newest { IsNewest master.knows.config.master (F.Fleet.state master.fleet).picture }
+    requires newest { IsNewest master.knows.config.master (F.Fleet.state master.fleet) }
     ensures { AreDrilled F.Fleet.state (world F.Fleet.state master) courses.now result.lived.items result.end }
 {
     let mut up = master;

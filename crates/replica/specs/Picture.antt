@@ -32,10 +32,6 @@ pub record Shown : Type 0 where
   pub holds : Picture
   pub least : ℕ
 
--- a picture shows itself, and any of its heads may be used
-abbrev pub shown_by : Picture → Shown
-shown_by p = record { holds = p; least = 0 }
-
 -- what is shown if these backups are left
 abbrev pub survivors : (ℕ → Bool) → Shown → Shown
 survivors keep s = record { holds = left_on keep s.holds; least = s.least }

@@ -61,13 +61,13 @@ module _ (config : Config) (life : Life) where
   rises at line (answer.Extended backup segment) next t = as_before at next t.3
   rises at line (answer.Opened backup segment) next t = as_before at next t.3
   rises at line (answer.Closed backup segment) next t = as_before at next t.3
-  rises at line (answer.Begun survivor) next t = as_before at next t.2
+  rises at line (answer.Begun survivors) next t = as_before at next t.2
   rises at line answer.Moved next t = as_before at next t.3
   rises at line answer.Carried next t = as_before at next t.3
   rises at line answer.Dropped next t = as_before at next t.3
   rises at line (answer.Sealed backup) next t = as_before at next t.3
   rises at line (answer.Freed segment backup) next t = as_before at next t.3
-  rises at line (answer.Cleaned survivor head) next t = as_before at next t.2
+  rises at line (answer.Cleaned survivors head) next t = as_before at next t.2
   rises at line (answer.Counted clients rounds calls) next t = t.2.more
   rises at line (answer.Log ids) next t = as_before at next t.3
   rises at line (answer.Room used free) next t = as_before at next t.3
@@ -223,12 +223,12 @@ module _ (config : Config) (opening : State) (history more : List Record) where
       step_longer at _ step.Push (Ok (step_answer.Opened backup segment)) next within t
   tells_longer at line (answer.Closed backup segment) next within after t =
       step_longer at _ step.Push (Ok (step_answer.Closed backup segment)) next within t
-  tells_longer at line (answer.Begun survivor) next within after t = (
+  tells_longer at line (answer.Begun survivors) next within after t = (
     t.0,
     (
       t.1.0,
       t.1.1,
-      subst (λ (l : Life). IsStepAt config l (step.BeginClean t.1.0) (Ok (step_answer.Begun survivor)))
+      subst (λ (l : Life). IsStepAt config l (step.BeginClean t.1.0) (Ok (step_answer.Begun survivors)))
           (same_front at.made within) t.1.2,
     ),
     t.2,
@@ -243,12 +243,12 @@ module _ (config : Config) (opening : State) (history more : List Record) where
       step_longer at _ step.Seal (Ok (step_answer.Sealed backup)) next within t
   tells_longer at line (answer.Freed segment backup) next within after t =
       step_longer at _ step.Free (Ok (step_answer.Freed segment backup)) next within t
-  tells_longer at line (answer.Cleaned survivor head) next within after t = (
+  tells_longer at line (answer.Cleaned survivors head) next within after t = (
     t.0,
     (
       t.1.0,
       t.1.1,
-      subst (λ (l : Life). IsCleanAt config l t.1.0 (Ok (survivor, head)))
+      subst (λ (l : Life). IsCleanAt config l t.1.0 (Ok (survivors, head)))
           (same_front at.made within) t.1.2,
     ),
     t.2,

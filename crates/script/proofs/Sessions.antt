@@ -38,7 +38,7 @@ ok_of_no_err (Err e) P none all = absurd (cc)
 -- a will that stays, or divides the tablets of the node's master, covers the session's tablets
 pub covered_anew : (s : Session) (new : List Part) → DividesAnew s.node s.will new → Stands s
     → Covers (tables_to s.options.tables) new
-covered_anew s new anew (covers, (d, at, stands)) = go (anew (config_of s.options s.master) d at stands)
+covered_anew s new anew (covers, (d, at, stands), later) = go (anew (config_of s.options s.master) d at stands)
   where
     go : (new ≡ s.will) ⊎ Divides (tables_to s.options.tables) new → Covers (tables_to s.options.tables) new
     go (inl same) = subst (λ (w : List Part). Covers (tables_to s.options.tables) w) (sym same) covers
@@ -67,7 +67,7 @@ command_keeps_format old line new same command asks = same
 -- its master's history may have as many records as the options say
 pub has_records : (s : Session) → Stands s → (m : MasterValue MemoryFleet) → s.node ≡ Up m
     → m.knows.config.history ≡ s.options.history
-has_records s (covers, (d, at, stands)) m up =
+has_records s (covers, (d, at, stands), later) m up =
     let of : IsOf (Up m) at.left d = subst (λ (n : Node). IsOf n at.left d) up stands.node_of in
     ap (λ (x : MasterData). x.config.history) of.1 ∙ ap (λ (c : Config). c.history) stands.configured
 

@@ -28,7 +28,7 @@ use Rattle.command_line.specs.declared.settings.Options.{Options}
 use Rattle.lines.specs.Grammar.{LineValue, Recover}
 use Rattle.next_master.specs.Configuration.{config_of}
 use Rattle.node.specs.Lives.{Life, Position, at_start}
-use Rattle.script.specs.Sessions.{RunsLine, BeginsSession, IsCovered, Stands}
+use Rattle.script.specs.Sessions.{RunsLine, BeginsSession, IsCovered, AreLaterUnraised, Stands}
 use Rattle.next_master.specs.Recoveries.{standing_of}
 use Rattle.node.specs.Served.{AnswersLine, IsNodeAt, life_of}
 use Rattle.answers.specs.Texts.{answer_text}
@@ -37,6 +37,7 @@ use Rattle.script.specs.Telling.{at_first, Moves, AreTelling, TellLives, Told}
 use Rattle.node.specs.Told.{Tells}
 use Rattle.script.specs.Turns.{RunsText, IsPrinted, PrintsText, TakesTurn, IsNoMore}
 use Rattle.script.proofs.Sessions.{options_kept, options_renewed, options_stay}
+use Rattle.script.proofs.LaterMasters.{begins_unraised, line_unraised}
 use Rattle.script.proofs.Succeeding.{nothing_more, telling_longer, telling_more, with_more}
 use Rattle.node.proofs.Standing.{legal_of, same_opening}
 use Rattle.entry.specs.Meaning.{contents_of}
@@ -121,6 +122,7 @@ pub record Running (options : Options) (session : Session) (had left held holds 
   pub run : AreRunOn start told session
   pub covers : IsCovered session
   pub stands : IsNodeAt session.node (config_of session.options session.master) knows at
+  pub later : AreLaterUnraised session
   pub count : suc (length told) ≡ number
   pub lines : All (IsScriptLine options.backups) told
   pub opening : first.opening ≡ empty_state
@@ -148,6 +150,7 @@ starts_running options session had held begins =
       run = refl;
       covers = begins.covers;
       stands = subst (λ (c : Config). IsNodeAt session.node c d at_start) (sym same) begins.stands.1;
+      later = begins_unraised options session begins;
       count = refl;
       lines = All-nil (IsScriptLine options.backups);
       opening = empty_opening d begins.stands.3;
@@ -159,7 +162,7 @@ starts_running options session had held begins =
 -- the session stands for some master
 pub running_stands : (options : Options) (session : Session) (had left held holds : Option (List ℕ)) (number : ℕ)
     → Running options session had left held holds number → Stands session
-running_stands options session had left held holds number r = (r.covers, (r.knows, r.at, r.stands))
+running_stands options session had left held holds number r = (r.covers, (r.knows, r.at, r.stands), r.later)
 
 -- ---- where a line leads
 
@@ -333,8 +336,9 @@ module _ (options : Options) (old : Session) (had mid left held wrote holds : Op
           set = options_on old new runs.line a options.format runs.runs ∙ r.set;
           begins = r.begins;
           run = run_on;
-          covers = covers_on old new runs.line a runs.runs (r.covers, (r.knows, r.at, r.stands));
+          covers = covers_on old new runs.line a runs.runs (r.covers, (r.knows, r.at, r.stands), r.later);
           stands = after_line.2;
+          later = line_unraised old new runs.line a runs.runs r.later;
           count = omega arith;
           lines = line_there;
           opening = r.opening;

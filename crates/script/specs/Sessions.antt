@@ -10,6 +10,7 @@ use Rattle.log_head.specs.Head.{is_open}
 use Rattle.master_state.specs.declared.config.Config.{Config}
 use Rattle.master_state.specs.declared.step.Refusal.TheVariants.{Nothing}
 use Rattle.master_state.specs.Data.{MasterData, fresh_data, no_origin}
+use Rattle.master.specs.Registry.{AreUnraisedAbove}
 use Rattle.master.specs.World.{World}
 use Rattle.answers.specs.declared.answer.Answer.{Answer}
 use Rattle.answers.specs.declared.answer.Answer.TheVariants.{Counted, NumbersSpent}
@@ -36,10 +37,15 @@ use Rattle.next_master.specs.Recoveries.{Asked, Ends, MakesLimit, Recovers, ask,
 abbrev pub IsCovered : Session → Type 0
 IsCovered s = Covers (tables_to s.options.tables) s.will
 
--- the session stands for some master, at some position
+-- any head may be used of each master with a greater number than those that were used
+abbrev pub AreLaterUnraised : Session → Type 0
+AreLaterUnraised s = IfSome (fleet_of s.node) (AreUnraisedAbove s.used)
+
+-- the session stands for some master, at some position, and a later one may begin
 abbrev pub Stands : Session → Type 0
 Stands s = IsCovered s
     × ((d : MasterData) × (at : Position) × IsNodeAt s.node (config_of s.options s.master) d at)
+    × AreLaterUnraised s
 
 -- a new master of this configuration, over a fleet of so many backups that holds nothing
 abbrev pub new_world : Config → World

@@ -64,7 +64,8 @@ pub(crate) const FIRST_MASTER: u64 = 1;
 /// `start` makes an empty fleet with a master whose head is open. `run_line` runs one line, and gives the answer to
 /// print, or the place of the record whose reply is to be printed.
 ///
-/// - What holds: the will covers the tablets, and the node stands for one life of a master after another (*Stands*).
+/// - What holds: the will covers the tablets, the node stands for one life of a master after another, and later masters
+///   may begin (*Stands*).
 /// - Refusals: a line that the node refuses is answered, and the session goes on. `LineFault` comes only for a line
 ///   that names a backup that there isn't, or if memory runs out before the line began; then nothing has changed.
 /// - Cost: what the node's own call costs. A session has no more than the node, a will and a few words.

@@ -8,6 +8,7 @@ ghost use Rattle.locked_log.specs.Made.{IsMade, made_now};
 ghost use Rattle.store_seat.specs.Seats.{SeatValue};
 ghost use Rattle.locked_log.specs.Sharing.{AreSeatsAfter};
 ghost use Rattle.master.specs.Valid.{IsValid};
+ghost use Rattle.master.specs.World.{world};
 ghost use Rattle.store_clients.specs.Clients.{Matches};
 ghost use Rattle.store_clients.specs.Workloads.{AreAccepted, HasServed, IsBack};
 
@@ -60,7 +61,7 @@ pub fn clients_over<F: Fleet + Send, R: Threads + Wait + Sync, G: Gate + Sync>(
     requires records { records ≡ master.knows.config.history }
     requires clients { work.clients ≤ 63 }
     requires rounds { work.rounds < 2 ^ 40 }
-    ensures made { IsMade (made_now 64 master.knows) result.master.knows }
+    ensures made { IsMade (made_now 64 (world F.state master)) (world F.state result.master) }
     ensures valid { IsValid result.master.knows (F.state result.master.fleet) }
     ensures count { IfOk result.calls (λ n. n ≡ 2 * work.rounds * work.clients) }
     ensures durable { OnOk result.calls
@@ -94,10 +95,10 @@ fn clients_in<F: Fleet + Send, B: Naming + Send + Sync, R: Threads + Wait + Sync
     requires cells { (blank.cells ≡ B.cells) × (blank.seats ≡ B.made.seats) }
     requires ledger { (blank.name ≡ B.name) × (blank.parts ≡ B.parts) }
     requires mark { blank.table ≡ B.table }
-    requires made { B.made ≡ made_now 64 master.knows }
+    requires made { B.made ≡ made_now 64 (world F.state master) }
     requires clients { work.clients ≤ 63 }
     requires rounds { work.rounds < 2 ^ 40 }
-    ensures made { IsMade (made_now 64 master.knows) result.master.knows }
+    ensures made { IsMade (made_now 64 (world F.state master)) (world F.state result.master) }
     ensures valid { IsValid result.master.knows (F.state result.master.fleet) }
     ensures count { IfOk result.calls (λ n. n ≡ 2 * work.rounds * work.clients) }
     ensures durable { OnOk result.calls

@@ -11,7 +11,7 @@ use entry::NoMemory;
 use master::{Config, Master};
 use next_master::{later_options, next_number};
 use recovery::{PlanFault, RecoveryFault};
-use replica::Inventory;
+use replica::{Fleet, Inventory};
 use script::{Answer, Options, configuration};
 use std::alloc::Global;
 
@@ -63,7 +63,7 @@ fn fitting(options: &Options, fleet: &MemoryFleet, config: Config) -> Result<Con
     requires unused { (b s : ℕ) → (fleet_state fleet.now).picture b config.master s ≡ None }
     ensures { IfOk result (CanBegin options.now (fleet_state fleet.now)) }
 {
-    if config.backups > fleet.backups() || !fleet.is_unraised(config.master) {
+    if config.backups > fleet.backups() || fleet.least(config.master) != 0 {
         return Err(want());
     }
     match config.check() {

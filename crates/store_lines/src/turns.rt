@@ -79,7 +79,7 @@ fn answer_of(answer: StepAnswer) -> Answer {
         StepAnswer::Closed(backup, segment) => Answer::Closed(backup, segment),
         StepAnswer::Rolling(id) => Answer::Opening(id),
         StepAnswer::Compacted(segment, len) => Answer::Compacted(segment, len),
-        StepAnswer::Begun(survivor) => Answer::Begun(survivor),
+        StepAnswer::Begun(survivors) => Answer::Begun(survivors),
         StepAnswer::Moved => Answer::Moved,
         StepAnswer::Carried => Answer::Carried,
         StepAnswer::Dropped => Answer::Dropped,
@@ -151,8 +151,8 @@ fn roll<B: Naming, R: Wait>(rt: &R, store: &Store<MemoryFleet, B>) -> Answer {
 /// Cleans these segments, from the begin of a pass to the last free.
 fn clean<B: Naming, R: Wait>(rt: &R, store: &Store<MemoryFleet, B>, victims: Row<u64>) -> Answer {
     match store.turn(rt, CleanTurn::BeginClean(victims)) {
-        Ok(StepAnswer::Begun(survivor)) => match finish_pass(rt, store) {
-            Ok(head) => Answer::Cleaned(survivor, head),
+        Ok(StepAnswer::Begun(survivors)) => match finish_pass(rt, store) {
+            Ok(head) => Answer::Cleaned(survivors, head),
             Err(refusal) => refuse(rt, store, refusal),
         },
         Ok(answer) => answer_of(answer),

@@ -5,14 +5,15 @@ use Rattle.master_state.specs.declared.config.Config.{Config}
 use Rattle.master_state.specs.Data.{Origin, no_origin}
 use Rattle.places.specs.Secrets.{fast_hasher}
 
--- How many seats it has, the configuration of its master, what the history began with, and which records it had when
--- the store was made, of which so many were durable.
+-- How many seats it has, the configuration of its master, what the history began with, which records it had when the
+-- store was made, of which so many were durable, and the least heads that its fleet had then.
 pub record Made : Type 0 where
   pub seats : ℕ
   pub config : Config
   pub origin : Origin
   pub begun : List Record
   pub durable : ℕ
+  pub least : ℕ → ℕ
 
 -- no store's
 abbrev pub nobody : Made
@@ -34,4 +35,5 @@ nobody = record {
   origin = no_origin;
   begun = [];
   durable = 0;
+  least = λ master. 0;
 }

@@ -28,12 +28,14 @@ pub fn file<B: Naming>(
     requires cell { place < length row.old }
     requires known { Knows book.old.items seat.old }
     requires room { seat.old.count + 1 < 2 ^ 64 }
-    ensures row { MatchBool result (row.new ≡ slice_set row.old place (Some (shown_record what.now))) (row.new ≡ row.old) }
+    ensures row { MatchBool result
+        (row.new ≡ slice_set row.old place (Some (shown_record what.now))) (row.new ≡ row.old) }
     ensures book { book.new.items
         ≡ slice_set book.old.items seat.old.number (account seat.old.first (seat.old.count + 1)) }
     ensures total { total.new.total ≡ total.old.total + 1 }
     ensures refused { MatchBool result (is_refused.new ≡ is_refused.old) (is_refused.new ≡ true) }
-    ensures seat { MatchBool result (seat.new ≡ noted seat.old (told place (shown_record what.now))) (seat.new ≡ unnoted seat.old) }
+    ensures seat { MatchBool result
+        (seat.new ≡ noted seat.old (told place (shown_record what.now))) (seat.new ≡ unnoted seat.old) }
 {
     let at = place as usize;
     let took = row.set(alloc, at, what);

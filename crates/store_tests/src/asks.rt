@@ -74,7 +74,7 @@ fn told(reply: &Reply) -> Told {
 
 fn kind(answer: &Result<StepAnswer, Refusal>) -> (&'static str, u64, u64) {
     match answer {
-        Ok(StepAnswer::Begun(id)) => ("begun", *id, 0),
+        Ok(StepAnswer::Begun(survivors)) => ("begun", survivors.first, survivors.count as u64),
         Ok(StepAnswer::Moved) => ("moved", 0, 0),
         Ok(StepAnswer::Carried) => ("carried", 0, 0),
         Ok(StepAnswer::Dropped) => ("dropped", 0, 0),

@@ -119,7 +119,7 @@ const TURNED: &[(usize, Act)] = &[
     (0, Act::Calls(X, 13, ("ok", 14))),
     (0, Act::Calls(X, 14, ("ok", 15))),
     (0, Act::Fails(X, None, Refusal::Full)),
-    (0, Act::Turns(("begun", 6, 0))),
+    (0, Act::Turns(("begun", 6, 1))),
     (0, Act::Turns(("dropped", 0, 0))),
     (0, Act::Turns(("carried", 0, 0))),
     (0, Act::Turns(("dropped", 0, 0))),

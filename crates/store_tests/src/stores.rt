@@ -3,6 +3,7 @@
 ghost use Rattle.std.specs.Prelude.{◌≡◌, ◌≤◌};
 ghost use Rattle.locked_log.specs.Ends.{IsFresh};
 ghost use Rattle.locked_log.specs.Made.{IsMade};
+ghost use Rattle.master.specs.World.{world};
 
 use crate::asks::{Act, is_answered};
 use crate::masters::{RECORDS, small_master};
@@ -91,7 +92,7 @@ fn day<F: Bench + Send + Drop, B: Naming + Send + Sync, R: Threads + Wait + Sync
     requires cells { (blank.cells ≡ B.cells) × (blank.seats ≡ B.made.seats) }
     requires ledger { (blank.name ≡ B.name) × (blank.parts ≡ B.parts) }
     requires mark { blank.table ≡ B.table }
-    requires made { IsMade B.made master.knows }
+    requires made { IsMade B.made (world F.Fleet.state master) }
 {
     match Store::<F, B>::new(alloc, blank, master) {
         Ok((store, seats)) => Some(evening(rt, alloc, store, watch, seats, asks)),

@@ -1,5 +1,7 @@
+use Rattle.backup.specs.State.{fleet_state}
 use Rattle.locked_log.proofs.Lasting.{made_at_first}
+use Rattle.master.specs.World.{world}
 use Rattle.asked_again.proofs.life.try_live.Goals as goal
 
 pub live_in-requires-clause-made : goal.live_in-requires-clause-made
-live_in-requires-clause-made g c = made_at_first c.in-Ok.blank.seats c.args.master.knows
+live_in-requires-clause-made g c = made_at_first c.in-Ok.blank.seats (world fleet_state c.args.master)

@@ -1,7 +1,8 @@
 use Rattle.std.proofs.Common.{ℕ, List, Some, sym, ap, subst, ◌∙◌}
 use Rattle.images.specs.Images.{ImagesValue}
-use Rattle.cleaner.specs.Passes.{ids_in, HasRoom}
-use Rattle.cleaner.proofs.Leaving.{left_room, ids_kept}
+use Rattle.cleaner.specs.KeptLengths.{HasRoomsIn}
+use Rattle.cleaner.specs.Passes.{ids_in, CopiesOne}
+use Rattle.cleaner.proofs.Leaving.{left_rooms, ids_kept}
 use Rattle.bytes_tests.proofs.passes.copies.Goals as goal
 
 pub loop-becomes-preserved : goal.loop-becomes-preserved
@@ -14,12 +15,13 @@ loop-becomes-preserved c =
     let later = c.copy_one-copied.new.index.held in
     let ids = ids_in images 2 (Some 4) in
     let copied = c.copy_one-copied.result in
-    let copies = c.copy_one-copied.ensures.copied in
     let i = c.loop-becomes.invariant in
-    let same = ids_kept ids p q images after held later copied copies 2 (Some 4) in
+    let copies = subst (λ (n : ℕ). CopiesOne n ids p images held copied q after later) i.size
+    c.copy_one-copied.ensures.copied in
+    let same = ids_kept 512 ids p q images after held later copied copies 2 (Some 4) in
     record {
       pass = c.copy_one-copied.ensures.pass;
-      room = subst (λ (ns : List ℕ). HasRoom 512 ns q after later) (sym same)
-          (left_room 512 ids p q images after held later copied i.pass copies i.room);
+      room = subst (λ (ns : List ℕ). HasRoomsIn 512 ns q after later) (sym same)
+          (left_rooms 512 ids p q images after held later copied i.pass copies i.room);
       size = ap (λ (v : ImagesValue). v.segment) c.copy_one-copied.ensures.images ∙ i.size;
     }

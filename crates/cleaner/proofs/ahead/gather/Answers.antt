@@ -21,15 +21,15 @@ loop-preserved c =
     (subst (λ n. IsGathered seed es c.args.from (c.loop.counter + 1) (at + n) (xs ++ x ∷ [])) (sym c.len-at.ensures)
     next)
 
-pub returns-in_default : goal.returns-in_default
-returns-in_default c =
+pub returns-in_default-clause-ahead : goal.returns-in_default-clause-ahead
+returns-in_default-clause-ahead c =
     let i = c.loop.invariant in
     gathered_ahead c.args.index.now.held.seed c.args.segment.now c.args.from c.loop.seen.items i.all
     (gathered_some c.args.index.now.held.seed c.args.segment.now c.args.from c.loop.counter c.loop.at c.loop.seen.items
     i c.requires.at c.in_default.ensures.other)
 
-pub returns : goal.returns
-returns c =
+pub returns-clause-ahead : goal.returns-clause-ahead
+returns-clause-ahead c =
     let i = c.loop.invariant in
     gathered_ahead c.args.index.now.held.seed c.args.segment.now c.args.from c.loop.seen.items i.all
     (λ none. omega (arith, i.few, ap (λ (xs : List Seen). length xs) none, c.loop-test.false))

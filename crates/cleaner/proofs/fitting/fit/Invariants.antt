@@ -4,5 +4,5 @@ use Rattle.cleaner.proofs.fitting.fit.Given as goal
 
 abbrev pub invariant-loop-read : goal.invariant-loop-read
 invariant-loop-read l =
-    IsRead (ids_in l.images.images l.head l.fn.new) l.index.held
-    (images_in l.images.images) l.victims l.read l.kept l.left
+    IsRead l.segment (ids_in l.images.images l.head l.fn.new) l.index.held (images_in l.images.images) l.victims l.read
+    l.level l.left

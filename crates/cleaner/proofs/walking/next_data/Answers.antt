@@ -13,8 +13,8 @@ unreachable-requires c =
     not_unread es c.bytes-text.result.now c.bytes-text.ensures.text c.bytes-text.ensures.valid.each b.before b.rest at
     (cut_of es at b) c.loop-at-test.true c.in_default.ensures.complete
 
-pub returns-then-is_data : goal.returns-then-is_data
-returns-then-is_data c =
+pub returns-then-is_data-clause-finds : goal.returns-then-is_data-clause-finds
+returns-then-is_data-clause-finds c =
     let es = c.args.segment.now in
     let at = c.loop-at.at in
     let w = c.loop-at.invariant.way in
@@ -43,7 +43,7 @@ loop-at-preserved c =
     let end = cut_length es nb.before nb.rest (at + n) (cut_of es (at + n) nb) in
     record { way = next; within = omega (arith, end, ap length c.bytes-text.ensures.text) }
 
-pub returns : goal.returns
-returns c =
+pub returns-clause-finds : goal.returns-clause-finds
+returns-clause-finds c =
     way_end c.args.segment.now c.args.from c.loop-at.at c.loop-at.invariant.way
     (omega (arith, c.loop-at-test.false, ap length c.bytes-text.ensures.text))

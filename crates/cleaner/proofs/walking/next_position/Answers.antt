@@ -28,7 +28,7 @@ returns-in-Some-next_data c =
     let es = c.in-Some.segment in
     going_found (images_in images) vs c.args.from now c.loop-position.invariant s (drop (now.victim + 1) vs)
     (drop_more vs now.victim 0 c.loop-position-test.true) es (image_is images s es c.in-Some.ensures)
-    c.in-Some-next_data.at c.in-Some-next_data.ensures
+    c.in-Some-next_data.at c.in-Some-next_data.ensures.finds
 
 pub loop-position-preserved : goal.loop-position-preserved
 loop-position-preserved c =
@@ -39,7 +39,7 @@ loop-position-preserved c =
     let es = c.in-Some.segment in
     going_next (images_in images) vs c.args.from now c.loop-position.invariant s (drop (now.victim + 1) vs)
     (drop_more vs now.victim 0 c.loop-position-test.true) es (image_is images s es c.in-Some.ensures)
-    c.in_default-next_data.ensures c.loop-position-test.true refl
+    c.in_default-next_data.ensures.finds c.loop-position-test.true refl
 
 pub returns : goal.returns
 returns c =

@@ -3,7 +3,11 @@ use Rattle.entry.specs.declared.digest.Digest.TheVariants.{Lengths}
 use Rattle.entry.proofs.LengthLemmas.{length-ids_in}
 use Rattle.log_head.specs.Head.{digest_in}
 use Rattle.log_head.proofs.Listing.{are_lengths, is_digest}
+use Rattle.log_head.proofs.RisingIds.{others_apart}
 use Rattle.log_head.proofs.rolling.next_digest.Goals as goal
+
+pub next_segments-requires-clause-outside : goal.next_segments-requires-clause-outside
+next_segments-requires-clause-outside c = others_apart _ _ c.args.id c.requires.rise
 
 pub new-requires : goal.new-requires
 new-requires c =

@@ -5,5 +5,5 @@ use Rattle.log_head.proofs.rolling.next_segments.Given as goal
 
 abbrev pub invariant-loop-place : goal.invariant-loop-place
 invariant-loop-place l =
-    IsListing l.old l.image l.leaving.victims.now (shown_ids l.digest) l.leaving.survivor l.leaving.survivor_len
-    l.segments.items l.waits l.place (vec_capacity l.segments)
+    IsListing l.old l.image l.leaving.victims.now (shown_ids l.digest) l.leaving.survivors.now l.segments.items
+    l.waits l.place (vec_capacity l.segments)

@@ -48,7 +48,8 @@ loop-at-preserved-then-not-is_survivor c =
     d.index (c.id-id.ensures i) (c.segment.ensures i))))) in
     record {
       best = c.rank.ensures.placed
-          ∙ ap (λ (xs : List Candidate). take 8 (placed (record { id = c.id-id.result; kept = c.kept_bytes-kept.result }) xs))
+          ∙ ap (λ (xs : List Candidate).
+          take 32 (placed (record { id = c.id-id.result; kept = c.kept_bytes-kept.result }) xs))
           c.loop-at.invariant.best
           ∙ walk_placed d c.as_slice-images.result.now c.loop-at.at image c.loop-at-test.true c.loop-at.auto.at
           c.index-images-at.is
@@ -64,7 +65,7 @@ returns c =
     let none : c.loop-at.at ≡ 0 = omega (arith, c.loop-at-test.false) in
     c.loop-at.invariant.best
     ∙ ap (best_from d c.as_slice-images.result.now) none
-    ∙ ap (λ (cs : List Image). take 8 (sorted (of_images d cs))) c.as_slice-images.ensures.images
-    ∙ ap (λ (xs : List Candidate). take 8 (sorted xs)) (sym
+    ∙ ap (λ (cs : List Image). take 32 (sorted (of_images d cs))) c.as_slice-images.ensures.images
+    ∙ ap (λ (xs : List Candidate). take 32 (sorted xs)) (sym
     (candidates_are d c.core.invariant.2 c.as_slice-images.ensures.valid.rising))
-    ∙ ap (λ (m : MasterData). take 8 (sorted (candidates m))) c.core.view_is
+    ∙ ap (λ (m : MasterData). take 32 (sorted (candidates m))) c.core.view_is

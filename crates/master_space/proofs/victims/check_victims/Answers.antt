@@ -20,6 +20,6 @@ returns-in_err-check_victim c =
     let open_now : is_some c.args.core.now.pass ≡ false =
     sym (ap (λ (d : MasterData). is_some d.pass) c.core.view_is) ∙ sym c.is_some.ensures ∙ c.if-is_some.false in
     let some : (length c.args.victims.now == 0) ≡ false = sym c.is_empty.ensures ∙ c.if-is_empty.false in
-    let few : nat_lt 8 (length c.args.victims.now) ≡ false =
+    let few : nat_lt 32 (length c.args.victims.now) ≡ false =
     grind (arith, nat_tests, c.if-victims-gt-MAX_VICTIMS.false) in
     rw (failed.1, failed.2, open_now, some, few) (sym fault)

@@ -40,6 +40,7 @@ returns-in-Ok-configuration-clause-found g c =
     subst (λ (hs : List Holding). c.in-Some.number ≡ suc (max c.max-greatest.result (greatest_of hs)))
     c.as_slice.ensures
     c.in-Some.ensures.next in
+    let next_number = c.in-Some.ensures.next in
     record {
       table = λ d at s. table_found (Down c.args.fleet.now) c.args.fleet.now
           (config_of c.args.options.now c.args.master) d at refl s c.in-Ok.inventory c.least.result
@@ -51,6 +52,7 @@ returns-in-Ok-configuration-clause-found g c =
       unused = next_unused c.in-Ok.inventory (fleet_state c.args.fleet.now).picture c.max-greatest.result
           c.in-Ok-configuration.config.master c.in-Ok.ensures.shown
           (number ∙ next);
+      least = c.requires.later c.in-Ok-configuration.config.master (omega (arith, number, least, next_number));
     }
 
 pub returns-clause-none : goal.returns-clause-none

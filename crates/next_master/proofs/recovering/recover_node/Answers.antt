@@ -3,6 +3,7 @@ use Rattle.std.specs.Prelude.{None, IfSome}
 use Rattle.backup.specs.State.{fleet_state}
 use Rattle.lines.specs.Grammar.{Recover}
 use Rattle.lines.specs.declared.line.ReplayOrder.TheVariants.{Forward}
+use Rattle.master.specs.Registry.{AreUnraisedAbove}
 use Rattle.master_state.specs.declared.config.Config.{Config}
 use Rattle.replica.specs.Picture.{FleetState}
 use Rattle.answers.specs.declared.answer.Answer.TheVariants as answer
@@ -12,7 +13,7 @@ use Rattle.next_master.specs.Configuration.{config_of}
 use Rattle.next_master.specs.Numbers.{AreSpent, IsNextNumber}
 use Rattle.next_master.specs.Recoveries.{IsDeclined, IsTakenOver}
 use Rattle.node.specs.Served.{AnswersLine, IsOf, fleet_of, world_of}
-use Rattle.next_master.proofs.NextLife.{cut_told, declined_told, has_backups, is_unraised, not_of_cut}
+use Rattle.next_master.proofs.NextLife.{cut_told, declined_told, has_backups, not_of_cut}
 use Rattle.next_master.proofs.NextLife.{not_of_refusal, recovered_told}
 use Rattle.next_master.proofs.HowItEnds.{cut_over, down_on, taken_over}
 use Rattle.node.proofs.Standing.{stays_told}
@@ -28,6 +29,10 @@ returns-in-Err-clause-recovers g c =
           (stays_told (Down c.in-Down.fleet) old (Recover order) c.in-Err.answer (c.in-Err.ensures.none order)),
     )
 
+pub find_inheritance-requires-clause-later : goal.find_inheritance-requires-clause-later
+find_inheritance-requires-clause-later g c = λ κs outlive.
+    subst (λ (n : Node). IfSome (fleet_of n) (AreUnraisedAbove c.args.used)) c.in-Down.is c.requires.later
+
 pub adopt-requires-clause-fleet : goal.adopt-requires-clause-fleet
 adopt-requires-clause-fleet g c =
     let s = c.requires.stands in
@@ -38,9 +43,7 @@ adopt-requires-clause-fleet g c =
           found c.args.node.now
           c.in-Down.is Forward s.0 s.1 s.2,
       found.unused,
-      is_unraised c.in-Down.fleet c.args.options.now c.args.lists_lengths c.args.master c.in-Ok.found.rebuilt c.in-Ok.found.config
-          found c.args.node.now
-          c.in-Down.is Forward s.0 s.1 s.2,
+      found.least,
     )
 
 pub returns-in-Some-clause-recovers : goal.returns-in-Some-clause-recovers

@@ -1,8 +1,13 @@
+use Rattle.backup.specs.State.{fleet_state}
 use Rattle.locked_log.specs.Made.{made_now}
+use Rattle.master.specs.World.{world}
 use Rattle.one_seat.proofs.living.live.Given as goal
 
 abbrev pub ghosts-live_in-B-Naming : goal.ghosts-live_in-B-Naming
-ghosts-live_in-B-Naming g a = record { table = a.blank.table; made = made_now a.blank.seats a.master.knows }
+ghosts-live_in-B-Naming g a = record {
+  table = a.blank.table;
+  made = made_now a.blank.seats (world fleet_state a.master);
+}
 
 abbrev pub ghosts-live_in-B-Labels : goal.ghosts-live_in-B-Labels
 ghosts-live_in-B-Labels g a = record { cells = a.blank.cells }

@@ -4,7 +4,7 @@ use Rattle.claims.specs.declared.rebuilt.Rebuilt.{Rebuilt}
 use Rattle.master.specs.World.{world}
 use Rattle.recovery.specs.declared.recovery.RecoveryFault.{RecoveryFault}
 use Rattle.recovery.specs.Succession.{IsDrillBy}
-use Rattle.recovery.proofs.Following.{drill_by, drill_newest, drill_unraised, newest_again, is_not_adopted}
+use Rattle.recovery.proofs.Following.{drill_by, drill_newest, newest_again, is_not_adopted}
 use Rattle.recovery.proofs.succession.live.Goals as goal
 
 pub succeed-requires-clause-newest : goal.succeed-requires-clause-newest
@@ -16,16 +16,6 @@ succeed-requires-clause-newest g c =
     drill_newest start k d.answers.items d.recovered (state d.fleet) c.number-number.result c.number-number.ensures
     (drill_by start k c.as_slice.result.now c.as_slice-2.result.now d.answers.items d.recovered (state d.fleet)
     c.as_slice.ensures.value c.as_slice-2.ensures.value c.in-Ok.ensures.drill) c.requires.newest
-
-pub succeed-requires-clause-least : goal.succeed-requires-clause-least
-succeed-requires-clause-least g c =
-    let state = g.F.Fleet.state in
-    let start = world state c.args.master in
-    let k = c.args.course.now in
-    let d = c.in-Ok.drill in
-    drill_unraised start k d.answers.items d.recovered (state d.fleet) c.number-number.result c.number-number.ensures
-    (drill_by start k c.as_slice.result.now c.as_slice-2.result.now d.answers.items d.recovered (state d.fleet)
-    c.as_slice.ensures.value c.as_slice-2.ensures.value c.in-Ok.ensures.drill)
 
 pub returns-in-Ok-succeed-clause-newest : goal.returns-in-Ok-succeed-clause-newest
 returns-in-Ok-succeed-clause-newest g c =

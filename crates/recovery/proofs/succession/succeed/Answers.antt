@@ -1,7 +1,6 @@
 use Rattle.std.proofs.Common.{◌≡◌, suc, ap, subst, arith}
 use Rattle.replay.specs.Adopting.{DeclinesList}
 use Rattle.master_state.specs.declared.config.Config.{Config}
-use Rattle.master.proofs.Unraised.{unraised_above}
 use Rattle.recovery.specs.Succession.{with_number}
 use Rattle.recovery.proofs.Following.{config_next, is_successor, adopted_newest}
 use Rattle.recovery.proofs.succession.succeed.Goals as goal
@@ -11,7 +10,7 @@ adopt_list-requires-clause-least g c =
     let same = config_next c.args.config.now c.in-Ok.config c.args.number c.in-Some.next c.in-Ok.ensures
     c.in-Some.ensures.1 in
     let number : c.in-Ok.config.master ≡ suc c.args.number = ap (λ (x : Config). x.master) same in
-    unraised_above c.args.number c.in-Ok.config.master (g.F.Fleet.state c.args.fleet) (omega arith) c.requires.least
+    c.requires.newest.least c.in-Ok.config.master (omega (arith, number))
 
 pub returns-in-Err-adopt_list-clause-refused : goal.returns-in-Err-adopt_list-clause-refused
 returns-in-Err-adopt_list-clause-refused g c =

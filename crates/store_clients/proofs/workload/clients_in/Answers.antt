@@ -3,13 +3,14 @@ use Rattle.store_seat.specs.Made.{Made}
 use Rattle.locked_log.specs.Made.{IsMade}
 use Rattle.locked_log.specs.Sharing.{AreOfSeats, AreSeatsAfter}
 use Rattle.locked_log.proofs.Lasting.{made_at_first}
+use Rattle.master.specs.World.{world}
 use Rattle.store_clients.proofs.Counts.{accepted, fits}
 use Rattle.store_clients.proofs.workload.clients_in.Goals as goal
 
 pub share-requires-clause-made : goal.share-requires-clause-made
 share-requires-clause-made g c =
-    let d = c.args.master.knows in
-    subst (λ (m : Made). IsMade m d) (sym c.requires.made) (made_at_first 64 d)
+    let w = world g.F.Fleet.state c.args.master in
+    subst (λ (m : Made). IsMade m w) (sym c.requires.made) (made_at_first 64 w)
 
 pub overflow_mul-result-in-Ok-outcome : goal.overflow_mul-result-in-Ok-outcome
 overflow_mul-result-in-Ok-outcome g c =

@@ -1,8 +1,9 @@
 use Rattle.locked_log.specs.Made.{made_now}
+use Rattle.master.specs.World.{world}
 use Rattle.store_clients.proofs.workload.clients_over.Given as goal
 
 abbrev pub ghosts-clients_in-B-Naming : goal.ghosts-clients_in-B-Naming
-ghosts-clients_in-B-Naming g a = record { table = a.blank.table; made = made_now 64 a.master.knows }
+ghosts-clients_in-B-Naming g a = record { table = a.blank.table; made = made_now 64 (world g.F.Fleet.state a.master) }
 
 abbrev pub ghosts-clients_in-B-Labels : goal.ghosts-clients_in-B-Labels
 ghosts-clients_in-B-Labels g a = record { cells = a.blank.cells }

@@ -6,5 +6,4 @@ pub new-requires-2-clause-none : goal.new-requires-2-clause-none
 new-requires-2-clause-none c = λ b s. ap (λ (f : FleetState). f.picture b c.args.config.master s) c.in_ok-fleet.ensures.new
 
 pub new-requires-2-clause-least : goal.new-requires-2-clause-least
-new-requires-2-clause-least c =
-    record { least = λ m above. ap (λ (f : FleetState). f.least m) c.in_ok-fleet.ensures.new }
+new-requires-2-clause-least c = ap (λ (f : FleetState). f.least c.args.config.master) c.in_ok-fleet.ensures.new

@@ -6,4 +6,4 @@ pub returns-in-Ok-clause-none : goal.returns-in-Ok-clause-none
 returns-in-Ok-clause-none c = λ b m s. ap (λ (f : FleetState). f.picture b m s) c.in-Ok.ensures.new
 
 pub returns-in-Ok-clause-least : goal.returns-in-Ok-clause-least
-returns-in-Ok-clause-least c = record { least = λ m above. ap (λ (f : FleetState). f.least m) c.in-Ok.ensures.new }
+returns-in-Ok-clause-least c = ap (λ (f : FleetState). f.least c.args.config.now.master) c.in-Ok.ensures.new

@@ -1,8 +1,13 @@
+use Rattle.backup.specs.State.{fleet_state}
 use Rattle.locked_log.specs.Made.{made_now}
+use Rattle.master.specs.World.{world_of}
 use Rattle.store_tests.proofs.stores.run_day.Given as goal
 
 abbrev pub ghosts-day-B-Naming : goal.ghosts-day-B-Naming
-ghosts-day-B-Naming g a = record { table = a.blank.table; made = made_now a.blank.seats a.master.knows }
+ghosts-day-B-Naming g a = record {
+  table = a.blank.table;
+  made = made_now a.blank.seats (world_of a.master.knows (fleet_state a.master.fleet.fleet));
+}
 
 abbrev pub ghosts-day-B-Labels : goal.ghosts-day-B-Labels
 ghosts-day-B-Labels g a = record { cells = a.blank.cells }

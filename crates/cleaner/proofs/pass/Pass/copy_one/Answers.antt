@@ -1,8 +1,8 @@
-use Rattle.std.proofs.Common.{ℕ, ◌+◌, List, get_or, refl, subst}
+use Rattle.std.proofs.Common.{ℕ, ◌+◌, ◌<◌, List, get_or, refl, subst}
 use Rattle.cleaner.specs.Passes.{images_in, ids_in, seen_len}
 use Rattle.cleaner.specs.Walks.{GoesTo, Treats}
 use Rattle.cleaner.proofs.Places.{place_at}
-use Rattle.cleaner.proofs.Steps.{own_room, after_there, after_cursor, copies, stays_pass}
+use Rattle.cleaner.proofs.Steps.{own_room, filling_after, after_there, after_cursor, copies, stays_pass}
 use Rattle.cleaner.proofs.pass.Pass.copy_one.Goals.{After-treat-copied, After-go_on}
 use Rattle.cleaner.proofs.pass.Pass.copy_one.Goals as goal
 
@@ -15,16 +15,28 @@ treat-copied-requires-clause-room c =
 
 -- the entry was treated
 treated : (c : After-treat-copied)
-    → Treats (ids_in c.args.images.now.images c.args.head c.args.new) c.args.images.now.images c.args.index.now.held
+    → Treats c.args.images.now.segment (ids_in c.args.images.now.images c.args.head c.args.new)
+    c.args.images.now.images c.args.index.now.held
     (place_at (get_or c.args.self.now.victims c.args.self.now.cursor.victim 0) c.args.self.now.cursor.at)
-    c.args.self.now.survivor c.treat-copied.result (seen_len c.in-Some.seen) c.treat-copied.new.images.images
-    c.treat-copied.new.index.held
+    c.args.self.now.survivors c.args.self.now.filling c.treat-copied.result (seen_len c.in-Some.seen)
+    c.treat-copied.new.filling c.treat-copied.new.images.images c.treat-copied.new.index.held
 treated c =
     let p = c.args.self.now in
     let images = c.args.images.now.images in
-    subst (λ (vs : List ℕ). Treats (ids_in images c.args.head c.args.new) images c.args.index.now.held
-    (place_at (get_or vs p.cursor.victim 0) p.cursor.at) p.survivor c.treat-copied.result (seen_len c.in-Some.seen)
-    c.treat-copied.new.images.images c.treat-copied.new.index.held) c.as_slice-victims.ensures c.treat-copied.ensures.treated
+    subst (λ (vs : List ℕ). Treats c.args.images.now.segment (ids_in images c.args.head c.args.new) images
+    c.args.index.now.held (place_at (get_or vs p.cursor.victim 0) p.cursor.at) p.survivors p.filling
+    c.treat-copied.result (seen_len c.in-Some.seen) c.treat-copied.new.filling c.treat-copied.new.images.images
+    c.treat-copied.new.index.held) c.as_slice-victims.ensures c.treat-copied.ensures.treated
+
+-- the survivor that is filled then is one of them
+within : (c : After-treat-copied) → c.treat-copied.new.filling < c.args.self.now.survivors.count
+within c =
+    let images = c.args.images.now.images in
+    let held = c.args.index.now.held in
+    filling_after held.seed c.args.self.now images c.requires.pass c.requires.more c.args.images.now.segment
+    (ids_in images c.args.head c.args.new) held refl c.treat-copied.result (seen_len c.in-Some.seen)
+    c.treat-copied.new.filling c.treat-copied.new.images.images c.treat-copied.new.index.held (treated c)
+    c.requires.room
 
 -- and the cursor goes on behind it
 gone : (c : After-go_on)
@@ -46,31 +58,35 @@ go_on-requires-clause-there c =
     let images = c.args.images.now.images in
     let held = c.args.index.now.held in
     rw c.as_slice-victims.ensures (after_there held.seed c.args.self.now images c.requires.pass c.requires.more
-    (ids_in images c.args.head c.args.new) held refl c.treat-copied.result (seen_len c.in-Some.seen)
-    c.treat-copied.new.images.images c.treat-copied.new.index.held (treated (goal.at.go_on-requires-clause-there c).After-treat-copied))
+    c.args.images.now.segment (ids_in images c.args.head c.args.new) held refl c.treat-copied.result (seen_len c.in-Some.seen)
+    c.treat-copied.new.filling c.treat-copied.new.images.images c.treat-copied.new.index.held (treated (goal.at.go_on-requires-clause-there c).After-treat-copied))
 
 pub go_on-requires-clause-cursor : goal.go_on-requires-clause-cursor
 go_on-requires-clause-cursor c =
     let images = c.args.images.now.images in
     let held = c.args.index.now.held in
     rw c.as_slice-victims.ensures (after_cursor held.seed c.args.self.now images c.requires.pass c.requires.more
-    (ids_in images c.args.head c.args.new) held refl c.treat-copied.result (seen_len c.in-Some.seen)
-    c.treat-copied.new.images.images c.treat-copied.new.index.held (treated (goal.at.go_on-requires-clause-cursor c).After-treat-copied))
+    c.args.images.now.segment (ids_in images c.args.head c.args.new) held refl c.treat-copied.result (seen_len c.in-Some.seen)
+    c.treat-copied.new.filling c.treat-copied.new.images.images c.treat-copied.new.index.held (treated (goal.at.go_on-requires-clause-cursor c).After-treat-copied))
 
 pub returns-clause-copied : goal.returns-clause-copied
 returns-clause-copied c =
     let images = c.args.images.now.images in
     let held = c.args.index.now.held in
-    copies held.seed c.args.self.now images c.requires.pass c.requires.more (ids_in images c.args.head c.args.new)
-    held refl c.treat-copied.result (seen_len c.in-Some.seen) c.treat-copied.new.images.images c.treat-copied.new.index.held
-    (treated (goal.at.returns-clause-copied c).After-treat-copied) c.go_on.new.cursor
+    copies held.seed c.args.self.now images c.requires.pass c.requires.more c.args.images.now.segment
+    (ids_in images c.args.head c.args.new) held refl c.treat-copied.result (seen_len c.in-Some.seen)
+    c.treat-copied.new.filling c.treat-copied.new.images.images c.treat-copied.new.index.held
+    (treated (goal.at.returns-clause-copied c).After-treat-copied) (within (goal.at.returns-clause-copied c).After-treat-copied)
+    c.go_on.new.cursor
     (gone (goal.at.returns-clause-copied c).After-go_on)
 
 pub returns-clause-pass : goal.returns-clause-pass
 returns-clause-pass c =
     let images = c.args.images.now.images in
     let held = c.args.index.now.held in
-    stays_pass held.seed c.args.self.now images c.requires.pass c.requires.more (ids_in images c.args.head c.args.new)
-    held refl c.treat-copied.result (seen_len c.in-Some.seen) c.treat-copied.new.images.images c.treat-copied.new.index.held
-    (treated (goal.at.returns-clause-pass c).After-treat-copied) c.go_on.new.cursor
+    stays_pass held.seed c.args.self.now images c.requires.pass c.requires.more c.args.images.now.segment
+    (ids_in images c.args.head c.args.new) held refl c.treat-copied.result (seen_len c.in-Some.seen)
+    c.treat-copied.new.filling c.treat-copied.new.images.images c.treat-copied.new.index.held
+    (treated (goal.at.returns-clause-pass c).After-treat-copied) (within (goal.at.returns-clause-pass c).After-treat-copied)
+    c.go_on.new.cursor
     (gone (goal.at.returns-clause-pass c).After-go_on)

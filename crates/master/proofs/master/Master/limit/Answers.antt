@@ -12,7 +12,7 @@ invariant_of-self g c =
       before = kept.before;
       holds = kept.holds;
       backups = kept.backups;
-      least = record { least = kept.least.least };
+      least = kept.least;
       now = kept.now;
       running = kept.running;
       apart = kept.apart;

@@ -1,6 +1,6 @@
-use Rattle.std.proofs.Common.{◌≡◌, ℕ, ◌<◌, false, sym, ap, subst, ◌∙◌}
-use Rattle.std.specs.Prelude.{Option, Some, None, IfSome, is_none, if◌then◌else◌}
-use Rattle.cleaner.specs.declared.pass.Pass.{Pass}
+use Rattle.std.proofs.Common.{◌≡◌, ℕ, ◌<◌, false, refl, sym, ap, subst, ◌∙◌}
+use Rattle.std.specs.Prelude.{Option, Some, None, IfSome, IsSome, is_none, if◌then◌else◌}
+use Rattle.entry.specs.Bag.{IsAmong}
 use Rattle.clean_model.specs.Steps.{seal_op}
 use Rattle.log_model.specs.Ops.{LogOp, op_of}
 use Rattle.replica.specs.Op.{OpValue, shown_op}
@@ -9,6 +9,7 @@ use Rattle.replica.specs.Take.{Takes, Refuses}
 use Rattle.replica.specs.declared.op.TakeFault.{TakeFault}
 use Rattle.master_state.specs.declared.step.Refusal.TheVariants.{Nothing}
 use Rattle.master_state.specs.declared.step.StepAnswer.TheVariants.{Sealed}
+use Rattle.master_state.specs.Budget.{survivors_of}
 use Rattle.master_state.specs.Causes.{seal_refusal}
 use Rattle.master_state.specs.Data.{MasterData}
 use Rattle.master_state.specs.Invariant.{IsCore}
@@ -16,8 +17,7 @@ use Rattle.master_state.specs.Log.{memory_of, home}
 use Rattle.master_state.specs.Steps.{sealed_data}
 use Rattle.master.specs.Invariant.{IsWellKept}
 use Rattle.master.specs.Passes.{IsSealOp, Seals}
-use Rattle.master.proofs.Sealed.{IsToSeal, to_seal, is_seal_op, sealed_kept, seal_accepted, seal_not_wrong, seal_failed}
-use Rattle.master.proofs.Sealed.{seal_declined}
+use Rattle.master.proofs.Sealed.{is_seal_op, sealed_kept, seal_accepted, seal_not_wrong, seal_failed, seal_declined}
 use Rattle.master.proofs.master.Master.seal.Given as given
 use Rattle.master.proofs.master.Master.seal.Goals as goal
 use Rattle.master.proofs.master.Master.seal.Goals.{After-take}
@@ -42,28 +42,23 @@ module _ (g : given.Over) (c : goal.After-take g) where
   passed : seal_refusal d ≡ None
   passed =
       c.to_seal.ensures.refused running
-      ∙ ap (λ (x : Option ℕ). if is_none x then Some Nothing else None) c.in-Some.is
-
-  next : IsToSeal d c.in-Some.replica
-  next = to_seal d c.in-Some.replica (sym c.to_seal.ensures.next ∙ c.in-Some.is)
+      ∙ ap (λ (x : Option (ℕ × ℕ)). if is_none x then Some Nothing else None) c.in-Some.is
 
   abbrev o : LogOp
-  o = seal_op (memory_of d) next.pass.survivor (home d.config next.pass.survivor c.in-Some.replica)
+  o = seal_op (memory_of d) c.in-Some.survivor (home d.config c.in-Some.survivor c.in-Some.replica)
 
   few : c.in-Some.replica < d.config.replicas
-  few = subst (λ (x : Option ℕ). IfSome x (λ (j : ℕ). j < d.config.replicas)) c.in-Some.is c.to_seal.ensures.few
+  few = subst (λ (x : Option (ℕ × ℕ)). IfSome x (λ (y : ℕ × ℕ). y.1 < d.config.replicas)) c.in-Some.is
+      c.to_seal.ensures.few
 
   is : IsSealOp d o
-  is = is_seal_op d kept.core c.in-Some.replica few next
+  is = is_seal_op d kept.core c.in-Some.survivor c.in-Some.replica few (sym c.to_seal.ensures.next ∙ c.in-Some.is)
 
   op : shown_op c.seal_op-op.result ≡ op_of d.config.master o
-  op =
-      (subst (λ (x : Option Pass). IfSome x (λ (p : Pass). (b : ℕ)
-      → shown_op c.seal_op-op.result ≡ op_of d.config.master (seal_op (memory_of d) p.survivor b))) next.opened
-      c.seal_op-op.ensures) o.backup
+  op = c.seal_op-op.ensures o.backup
 
   backup : c.home-backup.result ≡ o.backup
-  backup = c.home-backup.ensures ∙ ap (λ (x : OpValue). home d.config x.segment c.in-Some.replica) op
+  backup = c.home-backup.ensures
 
   takes : Takes f c.home-backup.result (shown_op c.seal_op-op.result) after
       → Takes f o.backup (op_of d.config.master o) after
@@ -80,6 +75,15 @@ module _ (g : given.Over) (c : goal.After-take g) where
       subst (λ (b : ℕ). Seals (record { knows = d; fleet = f }) (Sealed b)
       (record { knows = sealed_data d; fleet = after })) (sym backup)
       (seal_accepted d f kept passed o is after (takes took))
+
+pub seal_op-op-requires : goal.seal_op-op-requires
+seal_op-op-requires g c =
+    subst (λ (x : Option (ℕ × ℕ)). IfSome x (λ (y : ℕ × ℕ). IsAmong y.0 (survivors_of c.self.inside.core.pass)))
+    c.in-Some.is c.to_seal.ensures.survivor
+
+pub sealed-requires : goal.sealed-requires
+sealed-requires g c =
+    subst (λ (x : Option (ℕ × ℕ)). IsSome x) (sym (sym c.to_seal.ensures.next ∙ c.in-Some.is)) refl
 
 pub invariant_of-self : goal.invariant_of-self
 invariant_of-self g c =

@@ -1,31 +1,32 @@
-use Rattle.std.proofs.Common.{◌≡◌, ℕ, ◌+◌, ◌<◌, ◌≤◌, List, [], ◌∷◌, drop, length, refl, sym, ap, subst, ◌∙◌, arith}
+use Rattle.std.proofs.Common.{◌≡◌, ℕ, ◌+◌, ◌*◌, ◌<◌, ◌≤◌, List, ◌++◌, drop, length, refl, sym, ap, subst, ◌∙◌, arith}
 use Rattle.std.specs.Prelude.{Option, Some, None}
 use Rattle.std.specs.Result.{result_err}
-use Rattle.std.proofs.lemmas.List.{length-append}
-use Rattle.entry.specs.Text.{text_of}
-use Rattle.segment.proofs.UnitLemmas.{length-survivor}
-use Rattle.clean_model.specs.Intact.{survivor_entries}
+use Rattle.std.proofs.lemmas.List.{length-append, length-map}
+use Rattle.std.proofs.lemmas.List.FromFn.{length-range_with_len}
 use Rattle.clean_model.specs.Steps.{MayBeginClean}
 use Rattle.cleaner.specs.declared.pass.Cursor.{Cursor}
 use Rattle.cleaner.specs.declared.pass.Pass.{Pass}
-use Rattle.cleaner.specs.Passes.{images_in, places_of, rest_of, IsCursorAt, AreVictims}
-use Rattle.images.specs.Image.{Image, whole_image}
-use Rattle.images.specs.Images.{ImagesValue, count_of, free_seglets}
-use Rattle.images.specs.Sorted.{image_of, added}
+use Rattle.cleaner.specs.declared.survivors.Survivors.{Survivors}
+use Rattle.cleaner.specs.Passes.{images_in, places_of, rest_of, survivor_ids, IsCursorAt, AreVictims}
+use Rattle.images.specs.Image.{Image}
+use Rattle.images.specs.Images.{ImagesValue, AreWithin, free_seglets}
+use Rattle.images.specs.Sorted.{AreBelow}
 use Rattle.master_state.specs.contracts.state.Core.{the_view}
 use Rattle.master_state.specs.declared.step.Refusal.{Refusal}
 use Rattle.master_state.specs.declared.step.StepAnswer.TheVariants.{Begun}
-use Rattle.master_state.specs.Causes.{clean_refusal}
+use Rattle.master_state.specs.Budget.{whole_seglets}
+use Rattle.master_state.specs.Causes.{survivors_for, clean_refusal}
 use Rattle.master_state.specs.Data.{MasterData}
-use Rattle.master_state.specs.Images.{survivor_image}
+use Rattle.master_state.specs.Images.{survivor_image, survivor_images}
 use Rattle.master_state.specs.Invariant.{IsCore, AreImagesOf}
 use Rattle.master_state.specs.Log.{log_of, memory_of}
-use Rattle.master_state.specs.Steps.{fresh_pass, BeginsPass}
+use Rattle.master_state.specs.Steps.{fresh_pass, next_survivors, BeginsPass}
 use Rattle.master_space.proofs.FreeVictims.{MayBegin, may_begin_pass}
-use Rattle.master_space.proofs.PassBegun.{survivor, closed_then, last, none_yet, victims_fit}
-use Rattle.master_space.proofs.PassOpened.{survivor_free, opened_core, begins_pass, may_clean_now}
-use Rattle.master_state.proofs.Refusals.{sizes_of}
+use Rattle.master_space.proofs.PassBegun.{closed_then, victims_fit}
+use Rattle.master_space.proofs.PassIds.{images_below}
+use Rattle.master_space.proofs.PassOpened.{survivors_free, opened_core, begins_pass, may_clean_now}
 use Rattle.master_space.proofs.cleaning.CoreCleans.begin_clean.Goals as goal
+use Rattle.master_space.proofs.cleaning.CoreCleans.begin_clean.Goals.{After-reserve}
 
 -- what the tests let pass
 admitted : (d self : MasterData) (victims row : List ℕ) (o : Option Refusal) → d ≡ self → row ≡ victims
@@ -34,72 +35,7 @@ admitted : (d self : MasterData) (victims row : List ℕ) (o : Option Refusal) �
 admitted d self victims row o same listed is none =
     (λ i. clean_refusal (same i) (sym listed i)) ∙ sym is ∙ none
 
--- the new image
-image_is : (d : MasterData) (v : ImagesValue) (x : Image) → v.segment ≡ d.config.segment
-    → x ≡ whole_image d.next (survivor_entries d.config.master d.next) v.segment → x ≡ survivor_image d.config d.next
-image_is d v x own is = is ∙ ap (λ (n : ℕ). whole_image d.next (survivor_entries d.config.master d.next) n) own
-
--- the images are the same beside their room
-kept_closed : (old mid new : ImagesValue) → mid ≡ old → new ≡ record mid { room = new.room }
-    → new ≡ record old { room = new.room }
-kept_closed old mid new same grown = grown ∙ (λ i. record (same i) { room = new.room })
-
-pub begin-pass-requires : goal.begin-pass-requires
-begin-pass-requires c =
-    let d = the_view c.self.inside in
-    let passed = admitted d c.args.self.now c.args.victims c.as_slice.result.now _ c.self.view_is c.as_slice.ensures
-    c.admit_pass.ensures
-    (ap result_err c.in_ok-near.was) in
-    subst (λ (v : ImagesValue). AreVictims v.images d.next c.args.victims) (sym (kept_closed c.self.inside.closed c.begin_survivor.new.self c.reserve.new.self c.begin_survivor.ensures.same c.reserve.ensures.same))
-    (victims_fit d c.self.invariant.2 c.args.victims (may_begin_pass d c.args.victims passed))
-
-pub add_image-requires-clause-other : goal.add_image-requires-clause-other
-add_image-requires-clause-other c =
-    let d = the_view c.self.inside in
-    let passed = admitted d c.args.self.now c.args.victims c.as_slice.result.now _ c.self.view_is c.as_slice.ensures
-    c.admit_pass.ensures
-    (ap result_err c.in_ok-near.was) in
-    let image = image_is d c.self.inside.closed c.in_ok-survivor.survivor c.self.invariant.1.segment
-    c.in_ok-survivor.ensures.survivor in
-    subst (λ (x : Image). image_of c.reserve.new.self.images x.id ≡ None) (sym image)
-    (subst (λ (v : ImagesValue). image_of v.images d.next ≡ None) (sym (kept_closed c.self.inside.closed c.begin_survivor.new.self c.reserve.new.self c.begin_survivor.ensures.same c.reserve.ensures.same))
-    (none_yet d c.self.invariant.2 c.args.victims (may_begin_pass d c.args.victims passed)))
-
-pub add_image-requires-clause-within : goal.add_image-requires-clause-within
-add_image-requires-clause-within c =
-    let d = the_view c.self.inside in
-    let image = image_is d c.self.inside.closed c.in_ok-survivor.survivor c.self.invariant.1.segment
-    c.in_ok-survivor.ensures.survivor in
-    let len = ap (λ (x : Image). length (text_of x.segment)) image
-    ∙ length-survivor d.config.master d.next in
-    let segment = ap (λ (v : ImagesValue). v.segment) (kept_closed c.self.inside.closed c.begin_survivor.new.self c.reserve.new.self c.begin_survivor.ensures.same c.reserve.ensures.same) ∙ c.self.invariant.1.segment in
-    let least = (sizes_of d.config c.self.invariant.2.config).least_segment in
-    omega (arith, len, segment)
-
-pub add_image-requires-clause-free : goal.add_image-requires-clause-free
-add_image-requires-clause-free c =
-    let d = the_view c.self.inside in
-    let passed = admitted d c.args.self.now c.args.victims c.as_slice.result.now _ c.self.view_is c.as_slice.ensures
-    c.admit_pass.ensures
-    (ap result_err c.in_ok-near.was) in
-    let image = image_is d c.self.inside.closed c.in_ok-survivor.survivor c.self.invariant.1.segment
-    c.in_ok-survivor.ensures.survivor in
-    let closed = c.reserve.new.self in
-    subst (λ (x : Image). count_of closed.segment closed.seglet x ≤ free_seglets closed) (sym image)
-    (survivor_free d c.self.invariant.2 c.args.victims (may_begin_pass d c.args.victims passed) closed
-    c.self.inside.closed
-    c.self.invariant.1 refl (kept_closed c.self.inside.closed c.begin_survivor.new.self closed c.begin_survivor.ensures.same c.reserve.ensures.same))
-
-pub add_image-requires-clause-memory : goal.add_image-requires-clause-memory
-add_image-requires-clause-memory c = λ _.
-    let d = the_view c.self.inside in
-    let image = image_is d c.self.inside.closed c.in_ok-survivor.survivor c.self.invariant.1.segment
-    c.in_ok-survivor.ensures.survivor in
-    let room = ap (λ (x : Image). x.room) image in
-    let segment = ap (λ (v : ImagesValue). v.segment) (kept_closed c.self.inside.closed c.begin_survivor.new.self c.reserve.new.self c.begin_survivor.ensures.same c.reserve.ensures.same) ∙ c.self.invariant.1.segment in
-    omega (arith, room, segment)
-
-module _ (c : goal.Joined-self) where
+module _ (c : After-reserve) where
   abbrev d : MasterData
   d = the_view c.self.inside
 
@@ -110,74 +46,152 @@ module _ (c : goal.Joined-self) where
   victims = c.args.victims
 
   passed : clean_refusal d victims ≡ None
-  passed = admitted d c.args.self.now victims c.as_slice.result.now _ c.self.view_is c.as_slice.ensures
-      c.admit_pass.ensures
-      (ap result_err c.in_ok-near.was)
+  passed = admitted d c.args.self.now victims c.as_slice.result.now _ c.self.view_is
+      c.as_slice.ensures c.admit_pass.ensures.refused (ap result_err c.in_ok-size.was)
 
   may : MayBegin d victims
   may = may_begin_pass d victims passed
 
+  count : c.in_ok-size.size.survivors ≡ survivors_for d victims
+  count =
+      c.in_ok-size.ensures.survivors ∙ (λ i. survivors_for (sym c.self.view_is i) (c.as_slice.ensures i))
+
+  abbrev asked : Survivors
+  asked = record { first = d.next; count = c.in_ok-size.size.survivors }
+
+  survivors : asked ≡ next_survivors d victims
+  survivors = λ i. record { first = d.next; count = count i }
+
+  short : AreWithin d.config.segment d.closed
+  short = subst (λ (n : ℕ). AreWithin n d.closed) c.self.invariant.1.segment c.show_valid.ensures.within
+
+  -- the images once the survivors are added
+  images_of : (w : ImagesValue) → w ≡ record c.reserve.new.self {
+    images = c.reserve.new.self.images ++ survivor_images d.config (survivor_ids asked);
+  } → w.images ≡ closed_then d core victims may
+  images_of w is =
+      ap (λ (v : ImagesValue). v.images) is
+      ∙ (λ i. (c.reserve.ensures.same i).images ++ survivor_images d.config (survivor_ids (survivors i)))
+
+pub add_survivors-requires-clause-sizes : goal.add_survivors-requires-clause-sizes
+add_survivors-requires-clause-sizes c =
+    subst (AreImagesOf c.self.inside.config) (sym c.reserve.ensures.same) (let own = c.self.invariant.1 in
+    record { segment = own.segment; seglet = own.seglet; seglets = own.seglets })
+
+pub add_survivors-requires-clause-numbers : goal.add_survivors-requires-clause-numbers
+add_survivors-requires-clause-numbers c =
+    let a = (goal.at.add_survivors-requires-clause-numbers c).After-reserve in
+    let same = count a in let le = (may a).next in omega (arith, same, le)
+
+pub add_survivors-requires-clause-newest : goal.add_survivors-requires-clause-newest
+add_survivors-requires-clause-newest c =
+    let a = (goal.at.add_survivors-requires-clause-newest c).After-reserve in
+    subst (λ (v : ImagesValue). AreBelow (d a).next v.images) (sym c.reserve.ensures.same)
+    (images_below (d a) (core a) (may a).victims.none)
+
+pub add_survivors-requires-clause-room : goal.add_survivors-requires-clause-room
+add_survivors-requires-clause-room c =
+    let enough = c.in_ok-reserve.ensures.ok in
+    let same = ap (λ (v : ImagesValue). length v.images) c.reserve.ensures.same in
+    omega (arith, enough, same)
+
+pub add_survivors-requires-clause-free : goal.add_survivors-requires-clause-free
+add_survivors-requires-clause-free c =
+    let a = (goal.at.add_survivors-requires-clause-free c).After-reserve in
+    subst (λ (n : ℕ). n * whole_seglets (d a).config ≤ free_seglets c.reserve.new.self) (sym (count a))
+    (survivors_free (d a) (core a) (victims a) (may a) c.reserve.new.self c.self.inside.closed c.self.invariant.1 refl
+    c.reserve.ensures.same)
+
+pub begin-pass-requires : goal.begin-pass-requires
+begin-pass-requires c =
+    let a = (goal.at.begin-pass-requires c).After-reserve in
+    subst (λ (cs : List Image). AreVictims cs (d a).next (victims a))
+    (sym (images_of a c.add_survivors.new.closed c.in_ok-add_survivors.ensures.ok))
+    (victims_fit (d a) (core a) (victims a) (may a))
+
+module _ (c : goal.Joined-self) where
+  abbrev a : After-reserve
+  a = (goal.at.returns-clause-valid c).After-reserve
+
+  abbrev k : MasterData
+  k = the_view c.self.inside
+
   abbrev cursor : Cursor
   cursor = c.begin-pass.result.cursor
 
-  images : c.reserve.new.self.images ≡ d.closed
-  images = ap (λ (v : ImagesValue). v.images) (kept_closed c.self.inside.closed c.begin_survivor.new.self c.reserve.new.self c.begin_survivor.ensures.same c.reserve.ensures.same)
+  abbrev next : Survivors
+  next = next_survivors k c.args.victims
 
-  begun : c.begin-pass.result ≡ fresh_pass victims d.next cursor
-  begun = c.begin-pass.ensures.begun
+  images : c.add_survivors.new.closed.images ≡ closed_then k (core a) c.args.victims (may a)
+  images = images_of a c.add_survivors.new.closed c.in_ok-add_survivors.ensures.ok
 
-  begins : rest_of (images_in d.closed) (fresh_pass victims d.next cursor) ≡ places_of (images_in d.closed) victims
+  begun : c.begin-pass.result ≡ fresh_pass c.args.victims next cursor
+  begun = c.begin-pass.ensures.begun ∙ (λ i. fresh_pass c.args.victims (survivors a i) cursor)
+
+  abbrev after : List Image
+  after = closed_then k (core a) c.args.victims (may a)
+
+  begins : rest_of (images_in after) (fresh_pass c.args.victims next cursor)
+      ≡ places_of (images_in after) c.args.victims
   begins =
-      subst (λ (x : List Image × Pass). rest_of (images_in x.0) x.1 ≡ places_of (images_in x.0) victims)
-      (λ i. (images i, begun i))
-      c.begin-pass.ensures.rest
+      subst (λ (x : List Image × Pass). rest_of (images_in x.0) x.1 ≡ places_of (images_in x.0) c.args.victims)
+      (λ i. (images i, begun i)) c.begin-pass.ensures.rest
 
-  at : IsCursorAt d.index.seed (images_in d.closed) (drop cursor.victim victims) cursor
-  at = subst (λ (cs : List Image). IsCursorAt d.index.seed (images_in cs) (drop cursor.victim victims) cursor) images
-      c.begin-pass.ensures.cursor
-
-  closed : c.add_image.new.self.images ≡ closed_then d core victims may
-  closed =
-      ap (λ (v : ImagesValue). v.images) c.add_image.ensures
-      ∙ (λ i. added (image_is d c.self.inside.closed c.in_ok-survivor.survivor c.self.invariant.1.segment
-      c.in_ok-survivor.ensures.survivor i) (images i))
-      ∙ last d core victims may
+  at : IsCursorAt k.index.seed (images_in after) (drop cursor.victim c.args.victims) cursor
+  at = subst (λ (cs : List Image). IsCursorAt k.index.seed (images_in cs) (drop cursor.victim c.args.victims) cursor)
+      images c.begin-pass.ensures.cursor
 
   abbrev left : MasterData
-  left = record d { closed = c.add_image.new.self.images; next = d.next + 1; pass = Some c.begin-pass.result }
+  left = record k {
+    closed = c.add_survivors.new.closed.images;
+    next = k.next + c.in_ok-size.size.survivors;
+    pass = Some c.begin-pass.result;
+  }
 
-  is : record d {
-    closed = closed_then d core victims may;
-    next = d.next + 1;
-    pass = Some (fresh_pass victims d.next cursor);
+  is : record k {
+    closed = after;
+    next = k.next + survivors_for k c.args.victims;
+    pass = Some (fresh_pass c.args.victims next cursor);
   } ≡ left
-  is = λ i. record d { closed = sym closed i; next = d.next + 1; pass = Some (sym begun i) }
+  is = λ i. record k {
+    closed = sym images i;
+    next = k.next + sym (count a) i;
+    pass = Some (sym begun i);
+  }
 
   valid_then : IsCore left
-  valid_then = subst IsCore is (opened_core d core victims may cursor begins c.begin-pass.ensures.within at)
+  valid_then = subst IsCore is (opened_core k (core a) c.args.victims (may a) cursor begins
+      c.begin-pass.ensures.within at (short a))
 
-  begins_then : BeginsPass d victims (Begun d.next) left
+  begins_then : BeginsPass k c.args.victims (Begun (asked a)) left
   begins_then =
-      subst (BeginsPass d victims (Begun d.next)) is (begins_pass d core victims may cursor begins
-      c.begin-pass.ensures.within at passed)
+      subst (λ (x : Survivors × MasterData). BeginsPass k c.args.victims (Begun x.0) x.1)
+      (λ i. (sym (survivors a) i, is i))
+      (begins_pass k (core a) c.args.victims (may a) cursor begins c.begin-pass.ensures.within at (short a)
+      (passed a))
 
-  room_then : length c.add_image.new.self.images < c.add_image.new.self.room
+  room_then : length c.add_survivors.new.closed.images < c.add_survivors.new.closed.room
   room_then =
-      let more = c.in_ok-reserve.ensures.ok in
-      let same : c.add_image.new.self.room ≡ c.reserve.new.self.room =
-      ap (λ (v : ImagesValue). v.room) c.add_image.ensures in
-      let count = ap length closed ∙ length-append d.closed (survivor d core victims may ∷ []) in
-      let before = ap (λ (v : ImagesValue). length v.images) c.begin_survivor.ensures.same in
-      omega (arith, more, same, count, before)
+      let enough = c.in_ok-reserve.ensures.ok in
+      let room = ap (λ (v : ImagesValue). v.room) c.in_ok-add_survivors.ensures.ok in
+      let all = ap (λ (v : ImagesValue). length v.images) c.in_ok-add_survivors.ensures.ok
+      ∙ length-append c.reserve.new.self.images (survivor_images k.config (survivor_ids (asked a))) in
+      let new = length-map (survivor_ids (asked a)) (survivor_image k.config)
+      ∙ length-range_with_len k.next c.in_ok-size.size.survivors in
+      let same = ap (λ (v : ImagesValue). length v.images) c.reserve.ensures.same in
+      omega (arith, enough, room, all, new, same)
 
-  sizes_then : AreImagesOf d.config c.add_image.new.self
+  sizes_then : AreImagesOf k.config c.add_survivors.new.closed
   sizes_then =
-      let own = c.self.invariant.1 in
-      subst (AreImagesOf d.config) (sym c.add_image.ensures) (record {
-        segment = ap (λ (v : ImagesValue). v.segment) (kept_closed c.self.inside.closed c.begin_survivor.new.self c.reserve.new.self c.begin_survivor.ensures.same c.reserve.ensures.same) ∙ own.segment;
-        seglet = ap (λ (v : ImagesValue). v.seglet) (kept_closed c.self.inside.closed c.begin_survivor.new.self c.reserve.new.self c.begin_survivor.ensures.same c.reserve.ensures.same) ∙ own.seglet;
-        seglets = ap (λ (v : ImagesValue). v.seglets) (kept_closed c.self.inside.closed c.begin_survivor.new.self c.reserve.new.self c.begin_survivor.ensures.same c.reserve.ensures.same) ∙ own.seglets;
-      })
+      subst (AreImagesOf k.config) (sym c.in_ok-add_survivors.ensures.ok)
+      (let first = subst (AreImagesOf k.config) (sym c.reserve.ensures.same) (let own = c.self.invariant.1 in
+      record { segment = own.segment; seglet = own.seglet; seglets = own.seglets }) in
+      record { segment = first.segment; seglet = first.seglet; seglets = first.seglets })
+
+pub overflow_add-self : goal.overflow_add-self
+overflow_add-self c =
+    let a = (goal.at.overflow_add-self c).After-reserve in
+    let same = count a in let le = (may a).next in omega (arith, same, le)
 
 pub invariant_of-self-2 : goal.invariant_of-self-2
 invariant_of-self-2 c = (
@@ -192,8 +206,9 @@ returns-clause-begun c = rw (← c.self.view_is) (begins_then c)
 
 pub returns-clause-may : goal.returns-clause-may
 returns-clause-may c =
-    subst (λ (m : MasterData). MayBeginClean (log_of m) (memory_of m) (victims c)) c.self.view_is
-    (may_clean_now (d c) (core c) (victims c) (may c))
+    let a = (goal.at.returns-clause-may c).After-reserve in
+    subst (λ (m : MasterData). MayBeginClean (log_of m) (memory_of m) c.args.victims) c.self.view_is
+    (may_clean_now (d a) (core a) c.args.victims (may a))
 
 pub returns-clause-valid : goal.returns-clause-valid
 returns-clause-valid c = valid_then c

@@ -31,12 +31,13 @@ module _ (c : goal.After-copy_answer) where
   opened : d.pass ≡ Some p
   opened = c.in-Some.is
 
-  one : CopiesOne (log_set_ids d) p d.closed d.index c.copy_one-copied.result q c.copy_one-copied.new.images.images
-      c.copy_one-copied.new.index.held
+  one : CopiesOne d.config.segment (log_set_ids d) p d.closed d.index c.copy_one-copied.result q
+      c.copy_one-copied.new.images.images c.copy_one-copied.new.index.held
   one =
-      subst (λ (ids : List ℕ). CopiesOne ids p d.closed d.index c.copy_one-copied.result q c.copy_one-copied.new.images.images
-      c.copy_one-copied.new.index.held)
-      (λ i. ids_in d.closed (c.id-head.ensures.id i) (c.opening_id-new.ensures i)) c.copy_one-copied.ensures.copied
+      subst (λ (x : ℕ × List ℕ). CopiesOne x.0 x.1 p d.closed d.index c.copy_one-copied.result q
+      c.copy_one-copied.new.images.images c.copy_one-copied.new.index.held)
+      (λ i. (c.self.invariant.1.segment i, ids_in d.closed (c.id-head.ensures.id i) (c.opening_id-new.ensures i)))
+      c.copy_one-copied.ensures.copied
 
   valid_then : IsCore (record d {
     closed = c.copy_one-copied.new.images.images;
@@ -51,7 +52,7 @@ module _ (c : goal.After-copy_answer) where
   room_then : IsSome d.head.roll → length c.copy_one-copied.new.images.images < c.copy_one-copied.new.images.room
   room_then some =
       let was = c.self.invariant.0 some in
-      let len = ap length one.survivor ∙ length_same d.closed p.survivor one.entry _ in
+      let len = ap length one.survivor ∙ length_same d.closed (p.survivors.first + q.filling) one.entry _ in
       let room = ap (λ (v : ImagesValue). v.room) c.copy_one-copied.ensures.images in
       omega (arith, was, len, room)
 

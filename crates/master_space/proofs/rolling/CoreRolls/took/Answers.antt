@@ -22,6 +22,7 @@ use Rattle.master_state.proofs.LogIds.{absent, no_head}
 use Rattle.master_space.proofs.Taken.{taken_core, opened_core}
 use Rattle.master_space.proofs.Closing.{left_early, core_ended, ended_taken, ended_valid, early_taken, early_valid}
 use Rattle.master_space.proofs.Closing.{none_then, old_is, some_then}
+use Rattle.master_space.proofs.PassIds.{numbers_of}
 use Rattle.master_space.proofs.Budgets.{closed_seglets, closing_fits, free_again}
 use Rattle.master_space.proofs.rolling.CoreRolls.took.Goals as goal
 
@@ -273,3 +274,7 @@ returns-in_default-clause-taken c = rw (← c.self.view_is) (taken_still c)
 
 pub returns-in_default-clause-valid : goal.returns-in_default-clause-valid
 returns-in_default-clause-valid c = core_still c
+
+-- what ends a pass wants of its survivors
+pub end_pass-requires-clause-numbers : goal.end_pass-requires-clause-numbers
+end_pass-requires-clause-numbers c = numbers_of (the_view c.self.inside) c.self.invariant.2

@@ -20,13 +20,13 @@ returns-in-Ok-clause-told c = λ config d at s.
     let ids = c.args.victims in
     let was : IsOf (Up c.in-Up.up) at.left d = subst (λ (n : Node). IsOf n at.left d) c.in-Up.is s.node_of in
     let on : LivesOn d m.knows [] = subst (λ (x : MasterData). LivesOn x m.knows []) was.1 c.in-Ok.ensures.goes_on in
-    let cleaned : IsCleaned (record { knows = d; fleet = f }) ids c.in-Ok.survivor c.in-Ok.head
+    let cleaned : IsCleaned (record { knows = d; fleet = f }) ids c.in-Ok.survivors c.in-Ok.head
     (record { knows = m.knows; fleet = g }) =
-    subst (λ (x : MasterData). IsCleaned (record { knows = x; fleet = f }) ids c.in-Ok.survivor c.in-Ok.head
+    subst (λ (x : MasterData). IsCleaned (record { knows = x; fleet = f }) ids c.in-Ok.survivors c.in-Ok.head
     (record { knows = m.knows; fleet = g }))
     was.1 c.in-Ok.ensures.cleaned in
     cleaned_told d m.knows c.args.self.now (Up m) config at s was.0 (refl, refl, c.show_valid-2.ensures) f
-    g was.2 c.show_valid-2.ensures on ids c.in-Ok.survivor c.in-Ok.head cleaned
+    g was.2 c.show_valid-2.ensures on ids c.in-Ok.survivors c.in-Ok.head cleaned
 
 pub returns-in-Err-clause-told : goal.returns-in-Err-clause-told
 returns-in-Err-clause-told c = λ config d at s.

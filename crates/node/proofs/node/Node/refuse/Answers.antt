@@ -7,7 +7,7 @@ use Rattle.master.specs.World.{World}
 use Rattle.log_model.specs.Data.{newest_opened}
 use Rattle.master_state.specs.Data.{MasterData}
 use Rattle.master_state.specs.Log.{log_of}
-use Rattle.replica.specs.Picture.{FleetState, Picture}
+use Rattle.replica.specs.Picture.{FleetState, Shown, shown_of}
 use Rattle.replica.specs.Take.{limited, no_limit}
 use Rattle.node.specs.declared.node.Node.{Node}
 use Rattle.node.specs.declared.node.Node.TheVariants.{Up}
@@ -23,12 +23,12 @@ returns-in-Up c = inr (
       let was : IsOf (Up c.in-Up.up) None d = subst (λ (n : Node). IsOf n None d) c.in-Up.is of in
       let held = sym (ap fleet_of c.in-Up.is) ∙ fleet in
       let same : limited.knows ≡ d = ap (λ (w : World). w.knows) c.limit.ensures.limited ∙ was.1 in
-      let picture : (fleet_state limited.fleet).picture ≡ f.picture =
-      ap (λ (w : World). w.fleet.picture) c.limit.ensures.limited
-      ∙ ap (λ (o : Option FleetState). (unwrap_or o f).picture) held in
+      let shown : shown_of (fleet_state limited.fleet) d.config.master ≡ shown_of f d.config.master =
+      ap (λ (w : World). shown_of w.fleet d.config.master) c.limit.ensures.limited
+      ∙ ap (λ (o : Option FleetState). shown_of (unwrap_or o f) d.config.master) held in
       let valid = subst (λ (x : MasterData). IsValid x (fleet_state limited.fleet)) same c.limit.ensures.valid in
-      subst (λ (p : Picture). IsOf c.drop_master.new.self (Some
-      (record { picture = p; opened = newest_opened (log_of d); lost = [] })) d) picture
+      subst (λ (s : Shown). IsOf c.drop_master.new.self (Some
+      (record { shown = s; opened = newest_opened (log_of d); lost = [] })) d) shown
       (c.drop_master.ensures.left d (fleet_state limited.fleet) (refl, same, valid) refl),
   (
     c.drop_master.ensures.down,

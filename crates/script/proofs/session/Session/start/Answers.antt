@@ -17,8 +17,7 @@ new-requires-2-clause-none c = λ b s. ap (λ (f : FleetState). f.picture b c.in
     c.in_ok-fleet.ensures.new
 
 pub new-requires-2-clause-least : goal.new-requires-2-clause-least
-new-requires-2-clause-least c =
-    record { least = λ m above. ap (λ (f : FleetState). f.least m) c.in_ok-fleet.ensures.new }
+new-requires-2-clause-least c = ap (λ (f : FleetState). f.least c.in_ok-config.config.master) c.in_ok-fleet.ensures.new
 
 pub returns : goal.returns
 returns c =
