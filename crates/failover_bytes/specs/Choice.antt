@@ -1,0 +1,65 @@
+-- The model's choices as replicas with bytes, and which head counts.
+use Rattle.std.specs.Prelude.{ℕ, ◌≤◌, max, List, [], ◌∷◌, ◌++◌, map, length, Bool, Option, Some, None, nat_le}
+use Rattle.std.specs.Prelude.{if◌then◌else◌, option_to_list}
+use Rattle.replica.specs.declared.holding.Holding.{Holding}
+use Rattle.replica.specs.Choice.{Choice}
+use Rattle.replica.specs.Picture.{Shown}
+use Rattle.replica.specs.Survival.{HoldsHead}
+use Rattle.failover_model.specs.Choice.{Choice as ModelChoice, Holding as ModelHolding, IsNewestOpened}
+use Rattle.log_model.specs.Data.{Start}
+use Rattle.failover_model.specs.Data.{FailData, HasTaken, new_of}
+use Rattle.failover_bytes.specs.Text.{bytes_for}
+
+-- ---- choices
+
+abbrev pub holding_for : ℕ → ModelHolding → Holding
+holding_for master h = record {
+  backup = h.backup;
+  master = master;
+  segment = h.segment;
+  bytes = bytes_for master h.segment h.replica.text;
+  is_open = h.replica.is_open;
+}
+
+abbrev pub choice_for : ℕ → ModelChoice → Choice
+choice_for master c = record {
+  opening = c.opening;
+  head = holding_for master c.head;
+  others = map (holding_for master) c.others;
+}
+
+-- ---- which losses leave one
+
+-- a head counts once as many backups as replicas took its Open, one of which holds it
+abbrev pub Counts : FailData → ℕ → Shown → ℕ → Type 0
+Counts d master shown s =
+    (d.config.replicas ≤ length (d.took s)) × ((b : ℕ) × HasTaken d s b × HoldsHead shown master b s)
+
+-- the newest head that counts, if it may be used; None if none that counts may be used
+abbrev pub IsNewestCounted : (ℕ → Type 0) → ℕ → Option ℕ → Type 0
+IsNewestCounted counts least (Some s) = IsNewestOpened counts least s
+IsNewestCounted counts least None = (s : ℕ) → counts s → least ≤ s → ⊥
+
+-- ---- which that is, of a log that is kept
+
+-- as many backups as replicas took the head's Open
+abbrev pub is_opened : FailData → ℕ → Bool
+is_opened d s = nat_le d.config.replicas (length (d.took s))
+
+-- the greater of a head and another one, if there is one
+abbrev pub greater : ℕ → Option ℕ → Option ℕ
+greater s None = Some s
+greater s (Some t) = Some (max s t)
+
+-- the greatest of these heads that was opened on as many backups as replicas
+abbrev pub greatest_opened : FailData → List Start → Option ℕ
+greatest_opened d [] = None
+greatest_opened d (n ∷ ns) = if is_opened d n.id then greater n.id (greatest_opened d ns) else greatest_opened d ns
+
+-- the head in force, and those that a roll is opening, or was opening as a failover began
+abbrev pub heads_now : FailData → List Start
+heads_now d = option_to_list (new_of d.mode) ++ (d.abandoned ++ d.head.start ∷ [])
+
+-- the newest head that was opened on as many backups as replicas
+abbrev pub newest_opened : FailData → Option ℕ
+newest_opened d = greatest_opened d (heads_now d)

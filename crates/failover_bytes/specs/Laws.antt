@@ -1,0 +1,132 @@
+-- What the model says of a log is so of the bytes that spell it.
+use Rattle.std.specs.Prelude.{◌≡◌, ◌↔◌, ℕ, ◌<◌, ◌++◌, length, Bool, Option, Some, Result}
+use Rattle.replica.specs.declared.op.TakeFault.{TakeFault}
+use Rattle.replica.specs.declared.op.TakeFault.TheVariants as take_fault
+use Rattle.entry.specs.Text.{Opening}
+use Rattle.replica.specs.Choice.{Choice, IsShownChoice, IsUsableHead, IsUsableReplica, bag_of}
+use Rattle.replica.specs.Picture.{Replica, Shown, FleetState, shown_of, survivors}
+use Rattle.replica.specs.Survival.{HoldsHead, BothSurvive}
+use Rattle.log_model.specs.Sound.{IsTextOfSegment}
+use Rattle.failover_model.specs.Text.{Text, length_of, IsUsable}
+use Rattle.failover_model.specs.Shown.{Shown as ModelShown, HoldsHead as ModelHoldsHead, Op, taken}
+use Rattle.failover_model.specs.Shown.{survivors as model_survivors}
+use Rattle.failover_model.specs.Choice.{Choice as ModelChoice, Holding as ModelHolding, IsChoice}
+use Rattle.failover_model.specs.Choice.{BothSurvive as ModelBothSurvive, bag_of as model_bag}
+use Rattle.failover_model.specs.Data.{Head, FailData, IsHome, front, front_entries}
+use Rattle.failover_model.specs.Log.{Texts, IsLogHeld}
+use Rattle.log_model.specs.Data.{start_entries}
+use Rattle.failover_model.specs.Runs.{IsFaulted}
+use Rattle.failover_model.specs.Sound.{IsSound, WasOpened}
+use Rattle.failover_bytes.specs.Text.{entries_for, bytes_for}
+use Rattle.failover_bytes.specs.Spelled.{AreSegments, IsSpelled, read_shown}
+use Rattle.failover_bytes.specs.Ops.{IsOnFleet, TakesOp, RefusesOp, OpGives}
+use Rattle.failover_bytes.specs.Choice.{holding_for, choice_for, Counts, IsNewestCounted, newest_opened}
+use Rattle.failover_bytes.specs.Sound.{IsSoundInBytes}
+
+-- ---- texts
+
+-- A text has as many bytes as the model counts, so an Extend goes on where the model says.
+abbrev pub LengthIsSame : Type 0
+LengthIsSame = (master segment : ℕ) (t : Text) → length (bytes_for master segment t) ≡ length_of t
+
+-- A head's text is its opening, and behind it what was loaded and the units.
+abbrev pub HeadIsWritten : Type 0
+HeadIsWritten = (master count : ℕ) (h : Head)
+    → entries_for master h.start.id (front h count) ≡ start_entries master h.start ++ front_entries h count
+
+-- Replicas that are segments' texts, whose headers name them, spell what is read of them.
+abbrev pub TextsAreSpelled : Type 0
+TextsAreSpelled = (master : ℕ) (shown : Shown)
+    → ((b s : ℕ) (r : Replica) → shown.holds b master s ≡ Some r → IsTextOfSegment r.bytes master s)
+    → IsSpelled master shown (read_shown master shown)
+
+-- They spell nothing else, and are segments' texts.
+abbrev pub SpelledIsRead : Type 0
+SpelledIsRead = (master : ℕ) (shown : Shown) (p : ModelShown) → IsSpelled master shown p
+    → (read_shown master shown ≡ p)
+    × ((b s : ℕ) (r : Replica) → shown.holds b master s ≡ Some r → IsTextOfSegment r.bytes master s)
+
+-- ---- ops
+
+-- An op that fits in the model fits the fleet, which takes it unless it is spent.
+abbrev pub OpFits : Type 0
+OpFits = (master : ℕ) (f : FleetState) (p q : ModelShown) (o : Op) → IsSpelled master (shown_of f master) p
+    → taken p o ≡ Some q → IsOnFleet f o → f.takes < f.end → (g : FleetState) × TakesOp master f o g
+
+-- No fleet answers Wrong to it.
+abbrev pub OpIsNeverWrong : Type 0
+OpIsNeverWrong = (master : ℕ) (f g : FleetState) (p q : ModelShown) (o : Op) → IsSpelled master (shown_of f master) p
+    → taken p o ≡ Some q → IsOnFleet f o → RefusesOp master f o take_fault.Wrong g → ⊥
+
+-- An op that the fleet takes fits in the model, and the fleet then spells what the model shows.
+abbrev pub TakenIsSpelled : Type 0
+TakenIsSpelled = (master : ℕ) (f g : FleetState) (p : ModelShown) (o : Op) → IsSpelled master (shown_of f master) p
+    → TakesOp master f o g
+    → (q : ModelShown) × (taken p o ≡ Some q) × (AreSegments master q → IsSpelled master (shown_of g master) q)
+
+-- After a fault it spells what the model showed, or what it shows with the op taken.
+abbrev pub FaultIsSpelled : Type 0
+FaultIsSpelled = (master : ℕ) (f g : FleetState) (p : ModelShown) (o : Op) → IsSpelled master (shown_of f master) p
+    → RefusesOp master f o take_fault.Fault g
+    → (q : ModelShown) × IsFaulted p o q × (AreSegments master q → IsSpelled master (shown_of g master) q)
+
+-- Replicas of other masters, and their least heads, stay.
+abbrev pub OthersStay : Type 0
+OthersStay = (master : ℕ) (f g : FleetState) (o : Op) (result : Result Unit TakeFault) (b m s : ℕ)
+    → OpGives master f o result g → (m ≡ master → ⊥) → (g.picture b m s ≡ f.picture b m s) × (g.least m ≡ f.least m)
+
+-- ---- choices
+
+-- A replica may be used in the model just if the real one may.
+abbrev pub UsableIsSame : Type 0
+UsableIsSame = (master : ℕ) (opening : Opening) (h : ModelHolding)
+    → IsUsable opening.digest h.segment h.replica ↔ IsUsableReplica opening (holding_for master h)
+
+-- So may a head.
+abbrev pub HeadIsSame : Type 0
+HeadIsSame = (master : ℕ) (shown : Shown) (p : ModelShown) (b s : ℕ) → IsSpelled master shown p
+    → ModelHoldsHead p b s ↔ (HoldsHead shown master b s × IsUsableHead shown.least s)
+
+-- Each choice of the newest log from any survivors spells a choice of the model, with the same bag.
+abbrev pub ChoiceIsSpelled : Type 0
+ChoiceIsSpelled = (master : ℕ) (shown : Shown) (p : ModelShown) (keep : ℕ → Bool) (c : Choice)
+    → IsSpelled master shown p → IsShownChoice (survivors keep shown) master c
+    → (m : ModelChoice) × IsChoice (model_survivors keep p) m × (c ≡ choice_for master m) × (bag_of c ≡ model_bag m)
+
+-- Each choice of the model is spelled by one.
+abbrev pub SpelledIsChoice : Type 0
+SpelledIsChoice = (master : ℕ) (shown : Shown) (p : ModelShown) (keep : ℕ → Bool) (m : ModelChoice)
+    → IsSpelled master shown p → IsChoice (model_survivors keep p) m
+    → IsShownChoice (survivors keep shown) master (choice_for master m)
+
+-- ---- soundness
+
+-- If both survive, they do so in the model.
+abbrev pub SurvivesInModel : Type 0
+SurvivesInModel = (master : ℕ) (d : FailData) (shown : Shown) (p : ModelShown) (keep : ℕ → Bool) (newest : Option ℕ)
+    → IsSpelled master shown p → IsNewestCounted (Counts d master shown) shown.least newest
+    → BothSurvive (IsHome d) newest shown master keep → ModelBothSurvive (IsHome d) (WasOpened d p) p keep
+
+-- If they do so in the model, both survive, where each home of the newest head that counts holds it.
+abbrev pub ModelSurvives : Type 0
+ModelSurvives = (master : ℕ) (d : FailData) (shown : Shown) (p : ModelShown) (keep : ℕ → Bool) (newest : Option ℕ)
+    → IsSpelled master shown p → IsNewestCounted (Counts d master shown) shown.least newest
+    → ((s b : ℕ) → newest ≡ Some s → IsHome d s b → HoldsHead shown master b s)
+    → ModelBothSurvive (IsHome d) (WasOpened d p) p keep → BothSurvive (IsHome d) newest shown master keep
+
+-- Of a log that is kept the newest opened head is the newest that counts.
+abbrev pub NewestIsOpened : Type 0
+NewestIsOpened = (master : ℕ) (d : FailData) (texts : Texts) (shown : Shown) (p : ModelShown)
+    → IsSpelled master shown p → IsLogHeld d texts p
+    → IsNewestCounted (Counts d master shown) shown.least (newest_opened d)
+
+-- Of a log that is kept each home of that head holds it.
+abbrev pub HomesHoldNewest : Type 0
+HomesHoldNewest = (master : ℕ) (d : FailData) (texts : Texts) (shown : Shown) (p : ModelShown) (s b : ℕ)
+    → IsSpelled master shown p → IsLogHeld d texts p → IsNewestCounted (Counts d master shown) shown.least (Some s)
+    → IsHome d s b → HoldsHead shown master b s
+
+-- If the model's picture is sound, so is the one that spells it.
+abbrev pub SpelledIsSound : Type 0
+SpelledIsSound = (master : ℕ) (d : FailData) (shown : Shown) (p : ModelShown) → IsSpelled master shown p → IsSound d p
+    → IsSoundInBytes master d shown

@@ -1,0 +1,38 @@
+-- What a master whose backups may fail keeps true of the replicas on them, whichever of these are left.
+use Rattle.std.specs.Prelude.{◌≡◌, ℕ, ◌≤◌, max, length, take, Bool, Option, Some}
+use Rattle.entry.specs.Meaning.{IsMeaning, IsClean, among, bound_of}
+use Rattle.replica.specs.Choice.{Choice, IsShownChoice, bag_of}
+use Rattle.replica.specs.Picture.{Replica, Shown, survivors}
+use Rattle.replica.specs.Survival.{BothSurvive}
+use Rattle.versioned_map.specs.History.{commands_of}
+use Rattle.versioned_map.specs.Versioned.{IsSafeAfter}
+use Rattle.log_model.specs.Sound.{IsTextOfSegment, BearOneDigest}
+use Rattle.failover_model.specs.Data.{FailData, IsHome, state_after, durable_of}
+use Rattle.failover_model.specs.Log.{AreOfTablets}
+use Rattle.failover_bytes.specs.Choice.{Counts, IsNewestCounted}
+
+-- a choice of the master's newest log from what is shown if these backups are left
+abbrev pub IsLeftChoice : ℕ → Shown → (ℕ → Bool) → Choice → Type 0
+IsLeftChoice master shown keep c = IsShownChoice (survivors keep shown) master c
+
+-- The choice stands for the map after this many of the commands, each durable one among them, and gives a safe
+-- version for what follows.
+pub record StandsForPrefix (d : FailData) (c : Choice) (count : ℕ) : Type 0 where
+  pub durable : durable_of d ≤ count
+  pub within : count ≤ length d.history
+  pub meaning : IsMeaning (among (bag_of c)) (state_after d count).contents
+  pub safe : IsSafeAfter d.opening (take count (commands_of d.history)) (max c.opening.safe (bound_of (bag_of c)))
+
+-- The sound picture, as it is shown.
+pub record IsSoundInBytes (master : ℕ) (d : FailData) (shown : Shown) : Type 0 where
+  -- each replica of the master is a segment's text whose header names it
+  pub texts : (b s : ℕ) (r : Replica) → shown.holds b master s ≡ Some r → IsTextOfSegment r.bytes master s
+  pub digests : BearOneDigest shown.holds master
+  -- whichever backups are left, each choice is clean, holds the master's keys alone, and stands for a prefix
+  pub clean : (keep : ℕ → Bool) (c : Choice) → IsLeftChoice master shown keep c → IsClean (among (bag_of c))
+  pub keys : (keep : ℕ → Bool) (c : Choice) → IsLeftChoice master shown keep c → AreOfTablets d.config (bag_of c)
+  pub prefix : (keep : ℕ → Bool) (c : Choice) → IsLeftChoice master shown keep c
+      → (count : ℕ) × StandsForPrefix d c count
+  -- if both survive there is a choice
+  pub choice : (keep : ℕ → Bool) (newest : Option ℕ) → IsNewestCounted (Counts d master shown) shown.least newest
+      → BothSurvive (IsHome d) newest shown master keep → (c : Choice) × IsLeftChoice master shown keep c

@@ -1,0 +1,100 @@
+-- What images and texts have when a unit is appended to the head; and a command that appends nothing.
+use Rattle.std.proofs.Common.{◌≡◌, ℕ, ◌⊎◌, inl, inr, Bool, true, false, cond, List, [], ◌++◌, length, refl, sym, ap}
+use Rattle.std.proofs.Common.{subst, ◌∙◌, append_assoc}
+use Rattle.std.specs.Prelude.{Option, Some, None}
+use Rattle.std.proofs.lemmas.Bool.{cases_eq}
+use Rattle.entry.specs.declared.entry.Entry.{Entry}
+use Rattle.entry.specs.Bag.{IsAmong}
+use Rattle.entry.specs.Meaning.{Versioned}
+use Rattle.entry.proofs.BagLemmas.{among_left, among_right, among_either}
+use Rattle.versioned_map.specs.declared.command.Command.{Command}
+use Rattle.versioned_map.specs.declared.command.Command.TheVariants.{Get, Put, Delete}
+use Rattle.versioned_map.specs.Represents.{unit_of}
+use Rattle.versioned_map.specs.Units.{put_unit, delete_unit}
+use Rattle.versioned_map.specs.Versioned.{State, is_met, after_put, after_delete, after_command}
+use Rattle.log_model.specs.Data.{entries_of}
+use Rattle.log_model.proofs.Fronts.{unit_entries}
+use Rattle.clean_model.specs.Memory.{Images}
+use Rattle.clean_model.specs.Steps.{images_with}
+use Rattle.clean_model.specs.Tracked.{AreTexted}
+use Rattle.clean_model.proofs.AppendedUnits.{images_last, images_out}
+use Rattle.failover_model.specs.Text.{Text}
+use Rattle.failover_model.specs.Data.{FailData, front}
+use Rattle.failover_model.specs.Log.{Texts, IsLogged}
+use Rattle.failover_model.specs.Steps.{with_appended, texts_appended}
+use Rattle.failover_model.proofs.States.{whole_front, own_entries}
+use Rattle.failover_model.proofs.Texts.{text_there, text_other}
+use Rattle.failover_clean.specs.Memory.{FailMemory, entries_in, log_ids, log_set_of}
+
+-- ---- nothing
+
+-- a command that appends nothing changes nothing
+pub unit_none : (st : State) (segment : ℕ) (c : Command) → unit_of st segment c ≡ [] → after_command st c ≡ st
+unit_none st segment (Get k) is = refl
+unit_none st segment (Put k value when) is = go (st.contents k) (is_met when (st.contents k)) is where
+  go : (x : Option Versioned) (b : Bool) → cond b (put_unit st.safe segment k value x) [] ≡ []
+      → cond b (after_put st k value x) st ≡ st
+  go x false is = refl
+  go None true is = absurd (cc)
+  go (Some v) true is = absurd (cc)
+unit_none st segment (Delete k) is = go (st.contents k) is where
+  go : (x : Option Versioned) → delete_unit segment k x ≡ [] → after_delete st k x ≡ st
+  go None is = refl
+  go (Some v) is = absurd (cc)
+
+-- ---- a unit
+
+module _ (d : FailData) (m : FailMemory) (texts : Texts) (log : IsLogged d texts) (unit : List Entry) where
+  abbrev id : ℕ
+  id = d.head.start.id
+
+  abbrev now : Texts
+  now = texts_appended d texts unit
+
+  abbrev images : Images
+  images = images_with m.images id unit
+
+  abbrev whole : Text
+  whole = front (with_appended d d.history unit).head (length (with_appended d d.history unit).head.units)
+
+  text_now : entries_in now id ≡ entries_in texts id ++ unit
+  text_now =
+      ap (λ (t : Text). t.entries) (text_there texts id whole)
+      ∙ whole_front (with_appended d d.history unit).head
+      ∙ ap (λ (es : List Entry). d.head.loaded ++ es) (unit_entries d.head.units (length d.history) unit)
+      ∙ sym (append_assoc d.head.loaded (entries_of d.head.units) unit)
+      ∙ ap (λ (es : List Entry). es ++ unit) (sym (own_entries d texts log))
+
+  pub text_still : (z : ℕ) → (z ≡ id → ⊥) → now.text z ≡ texts.text z
+  text_still z other = text_other texts id whole z other
+
+  entries_still : (z : ℕ) → (z ≡ id → ⊥) → entries_in now z ≡ entries_in texts z
+  entries_still z other = ap (λ (t : Text). t.entries) (text_still z other)
+
+  -- what a text has an image has, or the text had it
+  pub appended_from : (z : ℕ) (f : Entry) → IsAmong f (entries_in now z)
+      → IsAmong f (images z) ⊎ IsAmong f (entries_in texts z)
+  appended_from z f l = elim (cases_eq z id) [
+    | inl same ↦
+        elim (among_either f (entries_in texts id) unit
+        (subst (λ (es : List Entry). IsAmong f es) (ap (entries_in now) same ∙ text_now) l)) [
+          | inl a ↦ inr (subst (λ (y : ℕ). IsAmong f (entries_in texts y)) (sym same) a)
+          | inr u ↦ inl (subst (λ (y : ℕ). IsAmong f (images y)) (sym same) (images_last m.images id unit f u))
+        ]
+    | inr other ↦ inr (subst (λ (es : List Entry). IsAmong f es) (entries_still z other) l)
+  ]
+
+  -- what an image has its text has
+  pub appended_texted : AreTexted (log_set_of d m texts) m.pass → (z : ℕ) (f : Entry) → IsAmong z (log_ids d m)
+      → (IsAmong z m.pass.survivors → ⊥) → IsAmong f (images z) → IsAmong f (entries_in now z)
+  appended_texted before z f c not l = elim (images_out m.images id z unit f l) [
+    | inl a ↦ (
+        let old = before z f c not a in
+        elim (cases_eq z id) as (λ _. IsAmong f (entries_in now z)) [
+          | inl same ↦ subst (λ (es : List Entry). IsAmong f es) (sym (ap (entries_in now) same ∙ text_now))
+              (among_left f (entries_in texts id) unit (subst (λ (y : ℕ). IsAmong f (entries_in texts y)) same old))
+          | inr other ↦ subst (λ (es : List Entry). IsAmong f es) (sym (entries_still z other)) old
+        ])
+    | inr w ↦ subst (λ (es : List Entry). IsAmong f es) (sym (ap (entries_in now) w.0 ∙ text_now))
+        (among_right f (entries_in texts id) unit w.1)
+  ]

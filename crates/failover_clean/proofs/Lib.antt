@@ -1,0 +1,16 @@
+pub mod Ids
+pub mod Coverage
+pub mod Sealed
+pub mod Compacting
+pub mod Copying
+pub mod Appending
+pub mod Applying
+pub mod Taking
+pub mod Rolling
+pub mod Ending
+pub mod Committing
+pub mod Failing
+pub mod Repairing
+pub mod Beginning
+pub mod Sealing
+pub mod NewMaster

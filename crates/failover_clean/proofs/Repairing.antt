@@ -1,0 +1,191 @@
+-- A lost replica of another segment is sealed anew from its image.
+use Rattle.std.proofs.Common.{◌≡◌, ℕ, ◌<◌, ◌⊎◌, inl, inr, true, false, List, [], ◌∷◌, ◌++◌, Some, refl, sym, ap, subst}
+use Rattle.std.proofs.Common.{◌∙◌, arith}
+use Rattle.std.specs.Prelude.{Option, None, ◌==◌}
+use Rattle.std.proofs.lemmas.Bool.{cases_eq}
+use Rattle.std.proofs.lemmas.Bool.Decides.{nat_tests}
+use Rattle.entry.specs.declared.key.Key.{Key}
+use Rattle.entry.specs.declared.entry.Entry.{Entry}
+use Rattle.entry.specs.Bag.{IsAmong}
+use Rattle.entry.specs.Meaning.{IsOfKey}
+use Rattle.entry.proofs.BagLemmas.{among_push, among_left}
+use Rattle.log_model.specs.Data.{Start, entries_of}
+use Rattle.log_model.specs.Ids.{has}
+use Rattle.clean_model.specs.Memory.{LogSet, new_ids}
+use Rattle.failover_model.specs.Shown.{Shown, Op, taken}
+use Rattle.failover_model.specs.Data.{FailData, new_of, state_of}
+use Rattle.failover_model.specs.Log.{Texts, BasesStand, IsLogHeld, IsStanding}
+use Rattle.failover_model.specs.Steps.{with_taken, Reseals, texts_resealed}
+use Rattle.failover_model.proofs.Images.{between_stands}
+use Rattle.failover_model.proofs.Lists.{taken_either}
+use Rattle.failover_model.proofs.Pictures.{sealed}
+use Rattle.failover_model.proofs.Resealing.{reseals_held, reseals_standing}
+use Rattle.failover_model.proofs.States.{own_entries}
+use Rattle.failover_clean.specs.Intact.{AreRepaired, IsIntact}
+use Rattle.failover_clean.specs.Laws.{ImageIsRepair, RepairKeeps}
+use Rattle.failover_clean.specs.Memory.{FailMemory, entries_in, log_ids, log_set_of}
+use Rattle.failover_clean.proofs.Ids.{ids_out, in_digest, now_out, now_others}
+use Rattle.failover_clean.proofs.Sealed.{still_sealed}
+use Rattle.failover_clean.proofs.Taking.{apart, still}
+
+module _ (d : FailData) (m : FailMemory) (p : Shown) (i : IsIntact d m p) where
+  -- another segment of the digest in force is no survivor
+  other_apart : (s : ℕ) → IsAmong s d.head.start.others → IsAmong s m.pass.survivors → ⊥
+  other_apart s listed survivor =
+      i.chosen.outside s survivor (among_left s d.head.start.others (d.head.start.id ∷ []) listed)
+
+  other_counts : (s : ℕ) → IsAmong s d.head.start.others → IsAmong s (log_ids d m)
+  other_counts s listed = in_digest d m s (now_others d.head.start s i.log.held.logged.head.below listed)
+
+  -- what its image has its text has
+  image_within : (s : ℕ) → IsAmong s d.head.start.others → (e : Entry) → IsAmong e (m.images s)
+      → IsAmong e (entries_in i.log.texts s)
+  image_within s listed e l = i.around.texted s e (other_counts s listed) (other_apart s listed) l
+
+pub image_is_repair : ImageIsRepair
+image_is_repair d m p s b i may = record {
+  b = b;
+  s = s;
+  image = m.images s;
+  mode = may.mode;
+  listed = may.listed;
+  works = may.works;
+  apart = may.apart;
+  few = may.few;
+  within = image_within d m p i s may.listed;
+  op = refl;
+  gives = refl;
+}
+
+module _ (d e : FailData) (m : FailMemory) (p q : Shown) (o : Op) (i : IsIntact d m p)
+    (is : Reseals d i.log.texts o e) (of_image : is.image ≡ m.images is.s) (within : is.b < d.config.backups)
+    (took : taken p o ≡ Some q) where
+  abbrev old : Texts
+  old = i.log.texts
+
+  abbrev now : Texts
+  now = texts_resealed old is
+
+  abbrev s : ℕ
+  s = is.s
+
+  images_here : now.images s ≡ is.image ∷ old.images s
+  images_here = let t : (s == s) ≡ true = grind (arith, nat_tests) in rw t refl
+
+  images_there : (z : ℕ) → (z ≡ s → ⊥) → now.images z ≡ old.images z
+  images_there z other = let t : (z == s) ≡ false = grind (arith, nat_tests) in rw t refl
+
+  repaired : AreRepaired m now
+  repaired z xs k f at_one of l = elim (cases_eq z s) as (λ _. IsAmong f xs) [
+    | inl same ↦ elim (subst (λ (ys : List (List Entry)). IsAmong xs ys) (ap now.images same ∙ images_here) at_one)
+        as (λ _. IsAmong f xs) [
+          | inl new ↦ subst (λ (ys : List Entry). IsAmong f ys)
+              (ap m.images same ∙ sym of_image ∙ new) l
+          | inr before ↦ i.repaired z xs k f
+              (subst (λ (y : ℕ). IsAmong xs (old.images y)) (sym same) before) of l
+        ]
+    | inr other ↦ i.repaired z xs k f
+        (subst (λ (ys : List (List Entry)). IsAmong xs ys) (images_there z other) at_one) of l
+  ]
+
+  both_held : IsLogHeld d now q × IsLogHeld e now q
+  both_held = reseals_held d e old p q o i.log.held is within took
+
+  abbrev log : LogSet
+  log = log_set_of d m old
+
+  -- the head has nothing yet
+  head_bare : entries_in old d.head.start.id ≡ []
+  head_bare =
+      let none = i.log.held.logged.repairs is.mode in
+      own_entries d old i.log.held.logged
+      ∙ ap (λ (es : List Entry). es ++ entries_of d.head.units) none.0 ∙ ap entries_of none.1
+
+  no_new : new_of d.mode ≡ None
+  no_new = ap new_of is.mode
+
+  stands : BasesStand now d.head.start (state_of d)
+  stands base at =
+      between_stands log m.pass m.index m.rest (state_of d) d.next d.head.start.safe now d.head.start.others base
+      i.tracked i.passing i.around
+      (record {
+        counts = λ z c. other_counts d m p i z c;
+        image = λ z es k f c variant of l. elim variant as (λ _. IsAmong f es) [
+          | inl text ↦ subst (λ (xs : List Entry). IsAmong f xs) (sym text) (image_within d m p i z c f l)
+          | inr image ↦ repaired z es k f image of l
+        ];
+        text = λ z es k f c variant of l. elim variant as (λ _. IsAmong f (entries_in old z)) [
+          | inl text ↦ subst (λ (xs : List Entry). IsAmong f xs) text l
+          | inr image ↦ both_held.0.logged.images z es f image l
+        ];
+      })
+      (record {
+        rest = λ z c. elim (ids_out d m z c)
+            as (λ _. IsAmong z d.head.start.others ⊎ (IsAmong z m.pass.survivors
+            ⊎ ((k : Key) (f : Entry) → IsOfKey k f → IsAmong f (m.images z) → ⊥))) [
+              | inl l ↦ elim (among_push z d.head.start.others d.head.start.id (now_out d.head.start z l).0)
+                  as (λ _. IsAmong z d.head.start.others ⊎ (IsAmong z m.pass.survivors
+                  ⊎ ((k : Key) (f : Entry) → IsOfKey k f → IsAmong f (m.images z) → ⊥))) [
+                    | inl other ↦ inl other
+                    | inr own ↦ inr (inr (λ k f of a.
+                        subst (λ (xs : List Entry). IsAmong f xs) (ap (entries_in old) (sym own) ∙ head_bare)
+                        (i.around.texted z f c (λ survivor. i.chosen.outside z survivor (now_out d.head.start z l).0)
+                        a)))
+                  ]
+              | inr (inl l) ↦ absurd (subst (λ (x : Option Start). IsAmong z (new_ids x)) no_new l)
+              | inr (inr l) ↦ inr (inl l)
+            ];
+        victims = i.chosen.victims;
+      })
+      (i.repairs is.mode) at
+
+  both_stand : IsStanding d now × IsStanding e now
+  both_stand = reseals_standing d e old p q o i.log.held i.log.standing is stands within took
+
+  survivor_apart : (z : ℕ) → IsAmong z m.pass.survivors → z ≡ s → ⊥
+  survivor_apart z survivor same =
+      other_apart d m p i s is.listed (subst (λ (x : ℕ). IsAmong x m.pass.survivors) same survivor)
+
+  made : (taken_now : ℕ → List ℕ) → IsLogHeld (record d { took = taken_now }) now q
+      → IsStanding (record d { took = taken_now }) now
+      → ((z b : ℕ) → IsAmong z m.pass.survivors → has (taken_now z) b ≡ true → has (d.took z) b ≡ true)
+      → IsIntact (record d { took = taken_now }) m q
+  made taken_now held standing took_same = record {
+    log = record { texts = now; held = held; standing = standing };
+    tracked = i.tracked;
+    passing = i.passing;
+    around = i.around;
+    repaired = repaired;
+    chosen = i.chosen;
+    sealing = still_sealed d (record d { took = taken_now }) m old now p q m.images m.index m.commits i.sealing
+        (λ z survivor. refl) (λ z survivor. refl) (λ z survivor. images_there z (survivor_apart z survivor))
+        (λ b z survivor. apart p q is.b s _ o is.op took b z (survivor_apart z survivor)) took_same;
+    rolling = i.rolling;
+    committed = λ c.
+        let was = i.committed c in record { real = was.real; done = was.done; images = was.images };
+    waiting = record {
+      out = i.waiting.out;
+      below = i.waiting.below;
+      held = λ w at works. still p q is.b s _ o is.op took
+          (λ x given. (_, (sealed _ (p.holds is.b s) x given).1)) w.backup w.segment (i.waiting.held w at works);
+    };
+    recorded = i.recorded;
+    repairs = i.repairs;
+    real = i.real;
+  }
+
+pub repair_keeps : RepairKeeps
+repair_keeps d e m p q o i is of_image within took =
+    let held = both_held d e m p q o i is of_image within took in
+    let stand = both_stand d e m p q o i is of_image within took in
+    let now = texts_resealed i.log.texts is in (
+      made d e m p q o i is of_image within took d.took held.0 stand.0 (λ z b survivor has_it. has_it),
+      subst (λ (x : FailData). IsIntact x m q) (sym is.gives)
+          (made d e m p q o i is of_image within took (with_taken d.took is.s is.b)
+          (subst (λ (x : FailData). IsLogHeld x now q) is.gives held.1)
+          (subst (λ (x : FailData). IsStanding x now) is.gives stand.1)
+          (λ z b survivor has_it. elim (taken_either d.took is.s is.b z b has_it) as (λ _. has (d.took z) b ≡ true) [
+            | inl at ↦ absurd (survivor_apart d e m p q o i is of_image within took z survivor at.0)
+            | inr old ↦ old
+          ])),
+    )

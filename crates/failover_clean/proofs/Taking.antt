@@ -1,0 +1,211 @@
+-- An op of a roll or a failover that is taken leaves all intact.
+use Rattle.std.proofs.Common.{◌≡◌, ℕ, ◌⊎◌, inl, inr, true, List, [], ◌∷◌, ◌++◌, length, Some, refl, sym, ap, subst, ◌∙◌}
+use Rattle.std.specs.Prelude.{Option, IsSome}
+use Rattle.std.proofs.lemmas.Option.{same_Some}
+use Rattle.entry.specs.Bag.{IsAmong}
+use Rattle.log_model.specs.Data.{Start}
+use Rattle.log_model.specs.Ids.{has}
+use Rattle.clean_model.specs.Intact.{IsPassOf}
+use Rattle.clean_model.specs.Memory.{new_ids, LogSet}
+use Rattle.clean_model.specs.Tracked.{IsTracked, IsPassing, IsAround}
+use Rattle.failover_model.specs.Text.{Replica}
+use Rattle.failover_model.specs.Shown.{Holds, Shown, Act, Op, On, effect, with_replica, taken}
+use Rattle.failover_model.specs.Data.{Mode, Calm, Closes, Repairs, FailData, new_of, state_of}
+use Rattle.failover_model.specs.Log.{IsLogHeld, IsStanding}
+use Rattle.failover_model.specs.Steps.{with_taken, with_count, ids_now}
+use Rattle.failover_model.proofs.Closing.{closes_held, closes_standing}
+use Rattle.failover_model.proofs.HeadOps.{extends_held, extends_standing}
+use Rattle.failover_model.proofs.Lists.{taken_either}
+use Rattle.failover_model.proofs.Opening.{opens_held, opens_standing, raises_held, raises_standing}
+use Rattle.failover_model.proofs.Pictures.{is_taken, unchanged, still_held, opened, closed, extended}
+use Rattle.failover_model.proofs.Replacing.{replaces_held, replaces_standing}
+use Rattle.failover_clean.specs.Covered.{map_of}
+use Rattle.failover_clean.specs.Intact.{IsIntact}
+use Rattle.failover_clean.specs.Laws.{ExtendKeeps, OpenKeeps, ReplaceKeeps, RaiseKeeps, CloseKeeps}
+use Rattle.failover_clean.specs.Memory.{FailMemory, entries_in}
+use Rattle.failover_clean.proofs.Sealed.{still_sealed}
+
+-- The segment is no head, neither that in force nor the new one.
+pub record IsNoHead (d : FailData) (s : ℕ) : Type 0 where
+  pub head : s ≡ d.head.start.id → ⊥
+  pub new : (n : Start) → new_of d.mode ≡ Some n → s ≡ n.id → ⊥
+
+module _ (d : FailData) (m : FailMemory) (p : Shown) (i : IsIntact d m p) where
+  survivor_no_head : (s : ℕ) → IsAmong s m.pass.survivors → IsNoHead d s
+  survivor_no_head s survivor = record {
+    head = λ same. i.chosen.outside s survivor (among_own d.head.start.others s same);
+    new = λ n is same. i.chosen.not_new s n survivor is (sym same);
+  } where
+    among_own : (ids : List ℕ) (s : ℕ) → s ≡ d.head.start.id → IsAmong s (ids ++ d.head.start.id ∷ [])
+    among_own [] s same = inl (sym same)
+    among_own (t ∷ ids) s same = inr (among_own ids s same)
+
+  -- what an op leaves: of a master with these counts and this mode, and a picture that has what it had elsewhere
+  module _ (counts : ℕ → ℕ) (shut : List ℕ) (took : ℕ → List ℕ) (mode : Mode) (q : Shown)
+      (new : new_of mode ≡ new_of d.mode)
+      (real : (mode ≡ Calm) ⊎ (mode ≡ Repairs) → (d.mode ≡ Calm) ⊎ (d.mode ≡ Repairs))
+      (repairs : mode ≡ Repairs → d.mode ≡ Repairs)
+      (took_same : (s b : ℕ) → IsNoHead d s → has (took s) b ≡ true → has (d.took s) b ≡ true)
+      (held_same : (b s : ℕ) → IsNoHead d s → q.holds b s ≡ p.holds b s)
+      (some_still : (b s : ℕ) → IsSome (p.holds b s) → IsSome (q.holds b s)) where
+    abbrev e : FailData
+    e = record d { counts = counts; shut = shut; took = took; mode = mode }
+
+    abbrev ids_of : Option Start → List ℕ
+    ids_of o = ids_now d.head.start ++ (new_ids o ++ m.pass.survivors)
+
+    abbrev set_of : Option Start → LogSet
+    set_of o = record { ids = ids_of o; image = m.images; text = entries_in i.log.texts }
+
+    pub moved_on : IsLogHeld e i.log.texts q → IsStanding e i.log.texts → IsIntact e m q
+    moved_on held standing = record {
+      log = record { texts = i.log.texts; held = held; standing = standing };
+      tracked = subst (λ (o : Option Start). IsTracked (set_of o) m.pass m.index (map_of d)) (sym new) i.tracked;
+      passing = subst (λ (o : Option Start). IsPassing (ids_of o) m.images m.pass m.index m.rest) (sym new) i.passing;
+      around = subst
+          (λ (o : Option Start). IsAround (set_of o) m.pass (map_of d) (state_of d).safe d.next) (sym new) i.around;
+      repaired = i.repaired;
+      chosen = subst (λ (o : Option Start). IsPassOf d.head.start o m.pass) (sym new) i.chosen;
+      sealing = still_sealed d e m i.log.texts i.log.texts p q m.images m.index m.commits i.sealing
+          (λ s survivor. refl) (λ s survivor. refl) (λ s survivor. refl)
+          (λ b s survivor. held_same b s (survivor_no_head s survivor))
+          (λ s b survivor has_it. took_same s b (survivor_no_head s survivor) has_it);
+      rolling = λ n is. i.rolling n (sym new ∙ is);
+      committed = λ c.
+          let was = i.committed c in record { real = was.real; done = was.done; images = was.images };
+      waiting = record {
+        out = λ w at c.
+            i.waiting.out w at (subst (λ (o : Option Start). IsAmong w.segment (ids_of o)) new c);
+        below = i.waiting.below;
+        held = λ w at works. some_still w.backup w.segment (i.waiting.held w at works);
+      };
+      recorded = λ n is. i.recorded n (sym new ∙ is);
+      repairs = λ is. i.repairs (repairs is);
+      real = λ is. i.real (real is);
+    }
+
+-- an op on a backup that puts or changes a replica of one segment
+module _ (p q : Shown) (b s : ℕ) (act : Act) (o : Op) (is : o ≡ On b s act) (took : taken p o ≡ Some q) where
+  pub apart : (c t : ℕ) → (t ≡ s → ⊥) → q.holds c t ≡ p.holds c t
+  apart c t other =
+      let at = is_taken p q o b s act is took in
+      ap (λ (w : Shown). w.holds c t) at.same ∙ unchanged p.holds b s at.x c t (λ both. other (sym both.1))
+
+  -- what puts a replica leaves what was held held
+  pub still : ((x : Option Replica) → effect act (p.holds b s) ≡ Some x → (r : Replica) × (x ≡ Some r)) → (c t : ℕ)
+      → IsSome (p.holds c t) → IsSome (q.holds c t)
+  still puts c t some =
+      let at = is_taken p q o b s act is took in
+      let r = puts at.x at.given in
+      subst (λ (x : Option Replica). IsSome x)
+      (sym (ap (λ (w : Shown). w.holds c t) at.same
+      ∙ ap (λ (x : Option Replica). with_replica p.holds b s x c t) r.1))
+      (still_held p.holds b s r.0 c t some)
+
+-- ---- each op
+
+pub extend_keeps : ExtendKeeps
+extend_keeps d e m p q o i op took =
+    let texts = i.log.texts in
+    let id = d.head.start.id in
+    let held = extends_held d e texts p q o i.log.held op took in
+    let standing = extends_standing d e texts p q o i.log.held i.log.standing op took in
+    let same : (c t : ℕ) → IsNoHead d t → q.holds c t ≡ p.holds c t =
+    λ c t no. apart p q op.b id _ o op.op took c t no.head in
+    let kept = still p q op.b id _ o op.op took (λ x given. let was = extended _ _ (p.holds op.b id) x given in
+    (_, was.was.now)) in
+    let counts = with_count d.counts op.b op.to in (
+      moved_on d m p i d.counts d.shut d.took d.mode q refl (λ is. is) (λ is. is) (λ s b no has_it. has_it) same kept
+          held.0 i.log.standing,
+      subst (λ (y : FailData). IsIntact y m q) (sym op.gives)
+          (moved_on d m p i counts d.shut d.took d.mode q refl (λ is. is) (λ is. is) (λ s b no has_it. has_it) same kept
+          (subst (λ (y : FailData). IsLogHeld y texts q) op.gives held.1)
+          (subst (λ (y : FailData). IsStanding y texts) op.gives standing)),
+    )
+
+pub open_keeps : OpenKeeps
+open_keeps d e m p q o i op within took =
+    let texts = i.log.texts in
+    let n = op.n in
+    let new : new_of d.mode ≡ Some n = elim op.mode as (λ _. new_of d.mode ≡ Some n) [
+      | inl rolls ↦ ap new_of rolls
+      | inr opens ↦ ap new_of opens
+    ] in
+    let held = opens_held d e texts p q o i.log.held op within took in
+    let standing = opens_standing d e texts p q o i.log.held i.log.standing op within took in
+    let same : (c t : ℕ) → IsNoHead d t → q.holds c t ≡ p.holds c t =
+    λ c t no. apart p q op.b n.id _ o op.op took c t (no.new n new) in
+    let kept = still p q op.b n.id _ o op.op took (λ x given. (_, (opened _ (p.holds op.b n.id) x given).1)) in
+    let took_now = with_taken d.took n.id op.b in (
+      moved_on d m p i d.counts d.shut d.took d.mode q refl (λ is. is) (λ is. is) (λ s b no has_it. has_it) same kept
+          held.0 i.log.standing,
+      subst (λ (y : FailData). IsIntact y m q) (sym op.gives)
+          (moved_on d m p i d.counts d.shut took_now d.mode q refl (λ is. is) (λ is. is)
+          (λ s b no has_it. elim (taken_either d.took n.id op.b s b has_it) as (λ _. has (d.took s) b ≡ true) [
+            | inl at ↦ absurd (no.new n new at.0)
+            | inr old ↦ old
+          ]) same kept
+          (subst (λ (y : FailData). IsLogHeld y texts q) op.gives held.1)
+          (subst (λ (y : FailData). IsStanding y texts) op.gives standing)),
+    )
+
+pub replace_keeps : ReplaceKeeps
+replace_keeps d e m p q o i op within took =
+    let texts = i.log.texts in
+    let id = d.head.start.id in
+    let held = replaces_held d e texts p q o i.log.held op within took in
+    let standing = replaces_standing d e texts p q o i.log.held i.log.standing op within took in
+    let same : (c t : ℕ) → IsNoHead d t → q.holds c t ≡ p.holds c t =
+    λ c t no. apart p q op.b id _ o op.op took c t no.head in
+    let kept = still p q op.b id _ o op.op took (λ x given. (_, (opened _ (p.holds op.b id) x given).1)) in
+    let took_now = with_taken d.took id op.b in
+    let counts = with_count d.counts op.b (length d.head.units) in (
+      moved_on d m p i d.counts d.shut d.took d.mode q refl (λ is. is) (λ is. is) (λ s b no has_it. has_it) same kept
+          held.0 i.log.standing,
+      subst (λ (y : FailData). IsIntact y m q) (sym op.gives)
+          (moved_on d m p i counts d.shut took_now d.mode q refl (λ is. is) (λ is. is)
+          (λ s b no has_it. elim (taken_either d.took id op.b s b has_it) as (λ _. has (d.took s) b ≡ true) [
+            | inl at ↦ absurd (no.head at.0)
+            | inr old ↦ old
+          ]) same kept
+          (subst (λ (y : FailData). IsLogHeld y texts q) op.gives held.1)
+          (subst (λ (y : FailData). IsStanding y texts) op.gives standing)),
+    )
+
+pub raise_keeps : RaiseKeeps
+raise_keeps d e m p q o i op took =
+    let texts = i.log.texts in
+    let held = raises_held d e texts p q o i.log.held op took in
+    let standing = raises_standing d e texts p q o i.log.held i.log.standing op took in
+    let holds : q.holds ≡ p.holds =
+    sym (ap (λ (w : Shown). w.holds) (same_Some _ q (sym (ap (taken p) op.op) ∙ took))) in
+    let same : (c t : ℕ) → IsNoHead d t → q.holds c t ≡ p.holds c t =
+    λ c t no. ap (λ (h : Holds). h c t) holds in
+    let kept : (c t : ℕ) → IsSome (p.holds c t) → IsSome (q.holds c t) =
+    λ c t some. subst (λ (h : Holds). IsSome (h c t)) (sym holds) some in (
+      moved_on d m p i d.counts d.shut d.took d.mode q refl (λ is. is) (λ is. is) (λ s b no has_it. has_it) same kept
+          held.0 i.log.standing,
+      subst (λ (y : FailData). IsIntact y m q) (sym op.gives)
+          (moved_on d m p i d.counts d.shut d.took (Closes op.n) q (sym (ap new_of op.mode))
+          (λ is. absurd (elim is as (λ _. ⊥) [ inl calm ↦ cc | inr repairs ↦ cc ])) (λ never. absurd (cc))
+          (λ s b no has_it. has_it) same kept
+          (subst (λ (y : FailData). IsLogHeld y texts q) op.gives held.1)
+          (subst (λ (y : FailData). IsStanding y texts) op.gives standing)),
+    )
+
+pub close_keeps : CloseKeeps
+close_keeps d e m p q o i op took =
+    let texts = i.log.texts in
+    let id = d.head.start.id in
+    let held = closes_held d e texts p q o i.log.held op took in
+    let standing = closes_standing d e texts p q o i.log.held i.log.standing op took in
+    let same : (c t : ℕ) → IsNoHead d t → q.holds c t ≡ p.holds c t =
+    λ c t no. apart p q op.b id _ o op.op took c t no.head in
+    let kept = still p q op.b id _ o op.op took (λ x given. (_, (closed (p.holds op.b id) x given).now)) in (
+      moved_on d m p i d.counts d.shut d.took d.mode q refl (λ is. is) (λ is. is) (λ s b no has_it. has_it) same kept
+          held.0 i.log.standing,
+      subst (λ (y : FailData). IsIntact y m q) (sym op.gives)
+          (moved_on d m p i d.counts (op.b ∷ d.shut) d.took d.mode q refl (λ is. is) (λ is. is)
+          (λ s b no has_it. has_it) same kept (subst (λ (y : FailData). IsLogHeld y texts q) op.gives held.1)
+          (subst (λ (y : FailData). IsStanding y texts) op.gives standing)),
+    )

@@ -1,0 +1,5 @@
+use Rattle.failover_clean.proofs.Beginning.{begin_keeps}
+use Rattle.failover_clean.proofs.laws.begin_keeps.Goals as goal
+
+pub returns : goal.returns
+returns c = begin_keeps

@@ -1,0 +1,173 @@
+-- What a master and its memory become: compaction, a copy, a command, a roll, an op taken, a failover.
+use Rattle.std.specs.Prelude.{◌≡◌, ℕ, zero, suc, ◌⊎◌, List, [], ◌∷◌, ◌++◌, map, Bool, false, Some, None, if◌then◌else◌}
+use Rattle.std.specs.List.{flat_map}
+use Rattle.entry.specs.declared.entry.Entry.{Entry}
+use Rattle.entry.specs.declared.entry.Entry.TheVariants as entry
+use Rattle.entry.specs.Bag.{IsAmong}
+use Rattle.versioned_map.specs.declared.command.Record.{Record}
+use Rattle.versioned_map.specs.Command.{command_key}
+use Rattle.log_model.specs.Data.{Start, digest_for, lens_next}
+use Rattle.log_model.specs.Ids.{has}
+use Rattle.clean_model.specs.Compaction.{kept_from, moved_index, places}
+use Rattle.clean_model.specs.Memory.{Place, Index, no_pass, with_image, grown, StandsAt}
+use Rattle.clean_model.specs.Steps.{with_place, next_place, is_copied, images_with, index_with}
+use Rattle.clean_model.specs.Intact.{IsCommit}
+use Rattle.failover_model.specs.Text.{length_of}
+use Rattle.failover_model.specs.Shown.{Seal, Op, On}
+use Rattle.failover_model.specs.Data.{is_failing, Mode, Calm, Rolls, Mends, Opens, FailData, homes, state_of}
+use Rattle.failover_model.specs.Steps.{id_taken, unit_now, survivor_text, len_now}
+use Rattle.failover_clean.specs.Intact.{IsReady}
+use Rattle.failover_clean.specs.Memory.{Spot, FailMemory, log_ids}
+
+-- memory of a new master
+abbrev pub first_memory : FailMemory
+first_memory = record {
+  images = λ s. [];
+  index = λ k. None;
+  pass = no_pass;
+  rest = [];
+  commits = false;
+  waiting = [];
+}
+
+-- ---- a command
+
+-- memory once the record is applied: its unit goes to the head
+abbrev pub recorded : FailData → FailMemory → ℕ → Record → FailMemory
+recorded d m segment r = record m {
+  images = images_with m.images d.head.start.id (unit_now d segment r);
+  index = index_with m.images m.index d.head.start.id (unit_now d segment r);
+}
+
+-- the segment that a tombstone names is where the index finds the object
+abbrev pub IsNamed : FailMemory → ℕ → Record → Type 0
+IsNamed m segment r = (p : Place) → m.index (command_key r.command) ≡ Some p → segment ≡ p.segment
+
+-- ---- compaction
+
+-- memory once the segment's image is its kept entries, and the index follows
+abbrev pub compacted : FailData → FailMemory → ℕ → FailMemory
+compacted d m s = record m {
+  images = with_image m.images s (kept_from (log_ids d m) m.index s 0 (m.images s));
+  index = moved_index (log_ids d m) m.images m.index s;
+}
+
+-- A segment of the log set is compacted; no pass has it.
+pub record MayCompact (d : FailData) (m : FailMemory) (s : ℕ) : Type 0 where
+  pub counts : IsAmong s (log_ids d m)
+  pub no_survivor : IsAmong s m.pass.survivors → ⊥
+  pub no_victim : IsAmong s m.pass.victims → ⊥
+
+-- ---- a pass begins
+
+-- the master once so many segments that are no heads have the next ids
+abbrev pub ids_taken : ℕ → FailData → FailData
+ids_taken zero d = d
+ids_taken (suc n) d = id_taken (ids_taken n d)
+
+-- memory once a pass is open that has no survivor yet, with all places of the victims before its cursor
+abbrev pub pass_opened : FailMemory → List ℕ → FailMemory
+pass_opened m victims = record m {
+  pass = record { victims = victims; survivors = [] };
+  rest = places victims m.images;
+}
+
+-- memory once the open pass has one survivor more, with the next id and nothing in it
+abbrev pub survivor_added : FailData → FailMemory → FailMemory
+survivor_added d m = record m {
+  images = with_image m.images d.next [];
+  pass = record { victims = m.pass.victims; survivors = m.pass.survivors ++ d.next ∷ [] };
+}
+
+-- memory once a pass with so many survivors has begun
+abbrev pub pass_begun : FailData → FailMemory → List ℕ → ℕ → FailMemory
+pass_begun d m victims zero = pass_opened m victims
+pass_begun d m victims (suc n) = survivor_added (ids_taken n d) (pass_begun d m victims n)
+
+-- No pass is open nor its commit under way, and there are victims, older segments of the digest in force.
+pub record MayBeginClean (d : FailData) (m : FailMemory) (victims : List ℕ) : Type 0 where
+  pub none : m.pass ≡ no_pass
+  pub no_commit : m.commits ≡ false
+  pub some : victims ≡ [] → ⊥
+  pub older : (s : ℕ) → IsAmong s victims → IsAmong s d.head.start.others
+
+-- ---- a copy
+
+-- the index once the entry at the cursor is copied to a survivor: it moves with an object
+abbrev pub index_moved : FailMemory → ℕ → Entry → Index
+index_moved m s (entry.Header h) = m.index
+index_moved m s (entry.Digest l) = m.index
+index_moved m s (entry.Safe version) = m.index
+index_moved m s (entry.Object o) = with_place m.index o.key (Some (next_place m.images s))
+index_moved m s (entry.Tombstone t) = m.index
+
+-- memory once a survivor has the entry more, and the cursor is past it
+abbrev pub with_copy : FailMemory → List Place → ℕ → Entry → FailMemory
+with_copy m rest s e = record m { images = grown m.images s e; index = index_moved m s e; rest = rest }
+
+-- memory once the entry at the cursor is copied if it is kept, and else passed over
+abbrev pub copy_done : FailData → FailMemory → Place → List Place → ℕ → Entry → FailMemory
+copy_done d m first rest s e =
+    if is_copied (log_ids d m) m.index first e then with_copy m rest s e else record m { rest = rest }
+
+-- The cursor is before the entry, a victim's, and this is a survivor.
+pub record MayCopy (d : FailData) (m : FailMemory) (first : Place) (rest : List Place) (s : ℕ) (e : Entry)
+    : Type 0 where
+  pub cursor : m.rest ≡ first ∷ rest
+  pub victim : IsAmong first.segment m.pass.victims
+  pub survivor : IsAmong s m.pass.survivors
+  pub at : StandsAt m.images first e
+
+-- ---- rolls and failovers
+
+-- memory once a roll has begun: the new head's image is empty
+abbrev pub rolled : FailMemory → Start → Bool → FailMemory
+rolled m n commits = record m { images = with_image m.images n.id []; commits = commits }
+
+-- memory once a backup has failed: a commit that was under way is no more
+abbrev pub stopped : FailMemory → FailMemory
+stopped m = record m { commits = false }
+
+-- ---- a commit
+
+-- the length that a commit's digest lists for a segment: for a survivor that of its image
+abbrev pub commit_len : FailData → FailMemory → ℕ → ℕ
+commit_len d m s = if has m.pass.survivors s then length_of (survivor_text (m.images s)) else len_now d s
+
+-- A roll to this head may begin as the commit of a pass that is ready, or the third part of a failover.
+pub record MayCommit (d : FailData) (m : FailMemory) (n : Start) (mode : Mode) : Type 0 where
+  pub may : ((d.mode ≡ Calm) × (mode ≡ Rolls n)) ⊎ ((d.mode ≡ Mends) × (mode ≡ Opens n))
+  pub real : d.head.start.id ≡ 0 → ⊥
+  pub ready : IsReady d m
+  pub commit : IsCommit d.head.start m.pass n
+  pub next : n.id ≡ d.next
+  pub lens : n.lens ≡ lens_next (digest_for d.head.start) (commit_len d m) n.others
+  pub safe : n.safe ≡ (state_of d).safe
+
+-- the replicas of these segments on backups that haven't failed
+abbrev pub spots_of : FailData → List ℕ → List Spot
+spots_of d ids =
+    flat_map (λ (s : ℕ). map (λ (b : ℕ). record { segment = s; backup = b }) (homes d s)) ids
+
+-- memory once the pass has ended: replicas of its victims may be freed
+abbrev pub finished : FailData → FailMemory → FailMemory
+finished d m = record m {
+  pass = no_pass;
+  commits = false;
+  waiting = spots_of d m.pass.victims ++ m.waiting;
+}
+
+-- ---- a seal
+
+-- the op that seals a survivor on a backup: its image is written, closed
+abbrev pub seal_op : FailMemory → ℕ → ℕ → Op
+seal_op m s b = On b s (Seal (survivor_text (m.images s)))
+
+-- A survivor is sealed on a backup that hasn't failed and has none of it; nothing is to be copied.
+pub record MaySeal (d : FailData) (m : FailMemory) (s b : ℕ) : Type 0 where
+  pub survivor : IsAmong s m.pass.survivors
+  pub done : m.rest ≡ []
+  pub no_commit : m.commits ≡ false
+  pub calm : is_failing d.mode ≡ false
+  pub works : has d.failed b ≡ false
+  pub apart : has (d.took s) b ≡ false

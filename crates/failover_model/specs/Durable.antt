@@ -1,0 +1,80 @@
+-- What is durable, in terms of takes that answered Ok, over the units of all heads that there were.
+use Rattle.std.specs.Prelude.{◌≡◌, ℕ, ◌<◌, ◌≤◌, ◌⊎◌, List, [], ◌∷◌, ◌++◌, length, false, Some, slice_get, nat_lt}
+use Rattle.std.specs.List.{flat_map}
+use Rattle.entry.specs.Bag.{IsAmong}
+use Rattle.versioned_map.specs.History.{commands_of}
+use Rattle.versioned_map.specs.Versioned.{State}
+use Rattle.log_model.specs.Data.{Start, LogUnit}
+use Rattle.log_model.specs.Durable.{AreNumbered}
+use Rattle.failover_model.specs.Shown.{Shown}
+use Rattle.failover_model.specs.Data.{Head, Calm, Repairs, FailConfig, FailData, new_of, is_failing, durable_of}
+use Rattle.failover_model.specs.Left.{how_many, IsCounted}
+use Rattle.failover_model.specs.Log.{IsKept}
+use Rattle.failover_model.specs.Runs.{World, Event, Becomes}
+use Rattle.failover_model.specs.Steps.{fresh, IsLoaded, adopted}
+
+-- A head, the backups that took its Open, and how many units each of them took, by takes that answered Ok.
+pub record TakenHead : Type 0 where
+  pub head : Head
+  pub took : List ℕ
+  pub counts : ℕ → ℕ
+
+-- the head in force
+abbrev pub head_now : FailData → TakenHead
+head_now d = record { head = d.head; took = d.took d.head.start.id; counts = d.counts }
+
+-- the heads that went before, and the one in force
+abbrev pub heads_of : List TakenHead → FailData → List TakenHead
+heads_of past d = past ++ head_now d ∷ []
+
+-- the units of heads, in order
+abbrev pub units_in : List TakenHead → List LogUnit
+units_in hs = flat_map (λ (h : TakenHead). h.head.units) hs
+
+-- how many backups took the unit at this place whole
+abbrev pub takers : TakenHead → ℕ → ℕ
+takers h place = how_many (λ (b : ℕ). nat_lt place (h.counts b)) h.took
+
+-- as many backups as replicas took each unit of the first records
+abbrev pub AreTaken : FailData → List TakenHead → ℕ → Type 0
+AreTaken d past count = (h : TakenHead) (place : ℕ) (u : LogUnit) → IsAmong h (heads_of past d)
+    → slice_get h.head.units place ≡ Some u → u.number < count → d.config.replicas ≤ takers h place
+
+-- The durable count: the most of the first records whose units were each taken whole by as many backups as replicas.
+pub record IsDurable (d : FailData) (past : List TakenHead) (count : ℕ) : Type 0 where
+  pub units : AreNumbered d.opening 0 (commands_of d.history) (units_in (heads_of past d))
+  pub within : count ≤ length d.history
+  pub taken : AreTaken d past count
+  pub greatest : (more : ℕ) → more ≤ length d.history → AreTaken d past more → more ≤ count
+
+-- The heads that went before have the earlier units, each taken by as many backups as replicas. Before a new head is in
+-- force the old one is so too.
+pub record IsPast (d : FailData) (past : List TakenHead) : Type 0 where
+  pub units : AreNumbered d.opening 0 (commands_of d.history) (units_in (heads_of past d))
+  pub whole : (h : TakenHead) (place : ℕ) (u : LogUnit) → IsAmong h past → slice_get h.head.units place ≡ Some u
+      → d.config.replicas ≤ takers h place
+  pub bare : d.head.start.id ≡ 0 → d.head.units ≡ []
+  pub calm : (d.mode ≡ Calm) ⊎ (d.mode ≡ Repairs) → d.head.start.id ≡ 0 → ⊥
+  pub pushed : (n : Start) → new_of d.mode ≡ Some n → 0 < length (d.took n.id) → (place : ℕ)
+      → place < length d.head.units → d.config.replicas ≤ takers (head_now d) place
+
+-- ---- laws
+
+-- While no failover is open, the records before the first unit that some backup of the head lacks are the durable ones.
+-- While one is open the count stays, and all that it counts is taken.
+abbrev pub KeptIsDurable : Type 0
+KeptIsDurable = (d : FailData) (p : Shown) (past : List TakenHead) → IsKept d p → IsCounted d → IsPast d past
+    → (is_failing d.mode ≡ false → IsDurable d past (durable_of d)) × AreTaken d past (durable_of d)
+
+-- A new master has no heads before.
+abbrev pub FreshIsPast : Type 0
+FreshIsPast = (c : FailConfig) → IsPast (fresh c) []
+
+-- One that took over a recovered map has none before either.
+abbrev pub AdoptedIsPast : Type 0
+AdoptedIsPast = (d : FailData) (p : Shown) (st : State) → IsLoaded d p st → IsPast (adopted d st) []
+
+-- With each event those before stay, or the old head joins them.
+abbrev pub PastStays : Type 0
+PastStays = (e : Event) (w v : World) (past : List TakenHead) → IsKept w.knows w.shown → IsPast w.knows past
+    → Becomes e w v → IsPast v.knows past ⊎ IsPast v.knows (heads_of past w.knows)

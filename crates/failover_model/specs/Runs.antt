@@ -1,0 +1,125 @@
+-- Lists of events of a log whose backups may fail.
+use Rattle.std.specs.Prelude.{◌≡◌, ℕ, ◌<◌, ◌≤◌, ◌⊎◌, List, [], ◌∷◌, length, Bool, true, false, Some}
+use Rattle.versioned_map.specs.declared.command.Record.{Record}
+use Rattle.log_model.specs.Data.{Start}
+use Rattle.failover_model.specs.Shown.{Shown, Op, On, Raise, taken}
+use Rattle.failover_model.specs.Data.{Mode, Repairs, FailConfig, FailData, new_of, is_failing, state_of, durable_of}
+use Rattle.failover_model.specs.Log.{Texts, BasesStand, IsKept}
+use Rattle.failover_model.specs.Sound.{IsSound}
+use Rattle.failover_model.specs.Steps.{fresh, MayBegin, applied, MayApply, rolling, IsRoll, id_taken, ended, EndsRoll}
+use Rattle.failover_model.specs.Steps.{failing, MayFail, texts_resealed, mended, IsKnown, Extends, OpensNew, Replaces}
+use Rattle.failover_model.specs.Steps.{Raises, ClosesOld, Reseals, Seals, Frees}
+
+-- ---- ops
+
+-- a replica is sealed anew, and whichever are taken then stand for the present state
+abbrev pub IsRepair : FailData → Texts → Op → FailData → Type 0
+IsRepair d texts o e =
+    (is : Reseals d texts o e) × BasesStand (texts_resealed texts is) d.head.start (state_of d)
+
+-- with the op taken the master is this one
+abbrev pub IsNext : FailData → Texts → Shown → Op → FailData → Type 0
+IsNext d texts p o e = Extends d o e ⊎ (OpensNew d o e ⊎ (Replaces d o e ⊎ (Raises d o e
+    ⊎ (ClosesOld d o e ⊎ (IsRepair d texts o e ⊎ (Seals d texts p o e ⊎ Frees d o e))))))
+
+-- The history and the heads stay: who took what changed, what is closed, or that the registry was raised.
+pub record GoesOn (d e : FailData) : Type 0 where
+  pub counts : ℕ → ℕ
+  pub shut : List ℕ
+  pub took : ℕ → List ℕ
+  pub mode : Mode
+  pub new : new_of mode ≡ new_of d.mode
+  pub failing : is_failing mode ≡ is_failing d.mode
+  pub gives : e ≡ record d { counts = counts; shut = shut; took = took; mode = mode }
+
+-- the op is on a backup that there is, or on the registry
+abbrev pub IsThere : FailConfig → Op → Type 0
+IsThere c (On b s act) = b < c.backups
+IsThere c (Raise id) = Unit {0}
+
+-- the op is on this backup
+abbrev pub IsOn : ℕ → Op → Type 0
+IsOn b (On c s act) = c ≡ b
+IsOn b (Raise id) = ⊥
+
+-- ---- events
+
+-- A master, its backups and the registry; it may have halted.
+pub record World : Type 0 where
+  pub knows : FailData
+  pub shown : Shown
+  pub halted : Bool
+
+-- What a master may do next.
+pub data Event : Type 0 where
+  -- a command is applied, whose key's object lies in this segment
+  Applies : ℕ → Record → Event
+  -- a roll to this head begins, or the third part of a failover
+  Turns : Start → Mode → Event
+  -- a segment that is no head takes an id
+  TakesId : Event
+  -- a roll or the fifth part of a failover ends
+  Ends : Start → Mode → Event
+  -- a failover ends
+  Mended : Event
+  -- an op is taken
+  Takes : Op → Event
+  -- an op ends in a fault: a failover begins
+  Fails : Op → ℕ → Event
+  -- an op ends in a fault: the master halts
+  Halts : Op → Event
+
+-- the picture after a fault: as it was, or with the op taken
+abbrev pub IsFaulted : Shown → Op → Shown → Type 0
+IsFaulted p o q = (q ≡ p) ⊎ (taken p o ≡ Some q)
+
+-- the op may come next, with texts that the backups hold
+abbrev pub MayTake : FailData → Shown → Op → FailData → Type 0
+MayTake d p o e = IsThere d.config o × (kept : IsKept d p) × IsNext d kept.texts p o e
+
+-- what the event makes of a master and its backups
+abbrev pub Becomes : Event → World → World → Type 0
+Becomes (Applies segment r) w v = MayApply w.knows segment r
+    × (v ≡ record w { knows = applied w.knows segment r })
+Becomes (Turns n mode) w v = ((kept : IsKept w.knows w.shown) × IsRoll w.knows kept.texts w.shown n mode
+    × BasesStand kept.texts n (state_of w.knows))
+    × (v ≡ record w { knows = rolling w.knows n mode })
+Becomes TakesId w v = (is_failing w.knows.mode ≡ false) × (v ≡ record w { knows = id_taken w.knows })
+Becomes (Ends n mode) w v = EndsRoll w.knows n mode × (v ≡ record w { knows = ended w.knows n mode })
+Becomes Mended w v = (w.knows.mode ≡ Repairs) × (v ≡ record w { knows = mended w.knows })
+Becomes (Takes o) w v = MayTake w.knows w.shown o v.knows × (taken w.shown o ≡ Some v.shown) × (v.halted ≡ false)
+Becomes (Fails o b) w v = (e : FailData) × MayTake w.knows w.shown o e × IsOn b o × IsFaulted w.shown o v.shown
+    × MayFail w.knows × (v.knows ≡ failing w.knows b) × (v.halted ≡ false)
+Becomes (Halts o) w v = (e : FailData) × MayTake w.knows w.shown o e × IsFaulted w.shown o v.shown
+    × (v.knows ≡ w.knows) × (v.halted ≡ true)
+
+-- the events in order make the second of these from the first; after a halt there are none
+abbrev pub IsRun : World → List Event → World → Type 0
+IsRun w [] v = v ≡ w
+IsRun w (e ∷ es) v = (u : World) × (w.halted ≡ false) × Becomes e w u × IsRun u es v
+
+-- ---- laws
+
+-- An op leaves the history and the heads as they are.
+abbrev pub NextGoesOn : Type 0
+NextGoesOn = (d e : FailData) (texts : Texts) (p : Shown) (o : Op) → IsNext d texts p o e → GoesOn d e
+
+-- A log is kept through each run, and the master knows what is held, until it halts: a new master, and one that took
+-- over a recovered map.
+abbrev pub RunsKeep : Type 0
+RunsKeep = (v w : World) (es : List Event) → IsKept v.knows v.shown → IsKnown v.knows v.shown → IsRun v es w
+    → IsKept w.knows w.shown × (w.halted ≡ false → IsKnown w.knows w.shown)
+
+-- So at each stop of each run from a new master the picture is sound, also after a halt.
+abbrev pub RunsAreSound : Type 0
+RunsAreSound = (c : FailConfig) (p : Shown) (es : List Event) (w : World) → MayBegin c p
+    → IsRun (record { knows = fresh c; shown = p; halted = false }) es w → IsSound w.knows w.shown
+
+-- No event lowers the durable count.
+abbrev pub DurableStays : Type 0
+DurableStays = (e : Event) (w v : World) → IsKept w.knows w.shown → Becomes e w v
+    → durable_of w.knows ≤ durable_of v.knows
+
+-- And it is within the history.
+abbrev pub DurableIsWithin : Type 0
+DurableIsWithin = (d : FailData) (p : Shown) → IsKept d p → durable_of d ≤ length d.history
