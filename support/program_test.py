@@ -294,13 +294,15 @@ KEYS = 2 * FILL
 PASSES = [
     Change("# the first head is made at the start\n", S),
     Change("".join(f"put 1 k{key:04} {VALUE * 'v'}\n" for key in range(KEYS)), S, 4 * S, KEYS * VALUE),
-    Change("roll\n", S),
+    # One of its backups has closed a replica, and takes as much for the new one.
+    Change("roll\n", S, S),
     # Each of two survivors takes a segment.
     Change("begin 1 2\n", 2 * S),
     Change("copy\n" * KEYS, 0),
     Change("seal\n" * 4, 0, 4 * S),
-    # The commit's head takes a segment, and the old one keeps a seglet. The images of the victims leave their memory.
-    Change("roll\n" + "free\n" * 4, G),
+    # The commit's head takes a segment, and so do its two replicas; the old one keeps a seglet. The images of the victims leave
+    # their memory, and so do the freed replicas.
+    Change("roll\n" + "free\n" * 4, G, 2 * S),
     # That is what the next survivors have.
     Change("begin 4 5\n", 0),
 ]
