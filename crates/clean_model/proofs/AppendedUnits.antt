@@ -22,7 +22,7 @@ use Rattle.clean_model.specs.Memory.{Place, Index, Images, LogSet, Pass, Segment
 use Rattle.clean_model.specs.Steps.{with_place, next_place, images_with, index_with}
 use Rattle.clean_model.specs.Tracked.{IsTracked, IsPassing, NamesBelow, VersionsBelow}
 use Rattle.clean_model.proofs.AddedEntries.{added_copied, object_added, tombstone_added}
-use Rattle.clean_model.proofs.Copying.{place_set}
+use Rattle.clean_model.proofs.IndexPlaces.{place_set}
 use Rattle.clean_model.proofs.Lists.{member_differs, at_from, grown_in, grown_last, grown_out, image_there, have_grown}
 use Rattle.clean_model.proofs.Premises.{IsSet}
 use Rattle.clean_model.proofs.TrackedBags.{key_tells, of_same, of_other}

@@ -1,10 +1,8 @@
--- The digest of a commit: that in force less the victims, with the survivors at their places.
+-- Ids that rise, with some left out and some put in, by membership.
 use Rattle.std.proofs.Common.{◌≡◌, ℕ, ◌⊎◌, inl, inr, Bool, true, false, cond, List, [], ◌∷◌, refl, sym, subst}
 use Rattle.std.specs.Prelude.{nat_lt}
 use Rattle.entry.specs.Bag.{IsAmong}
-use Rattle.log_model.specs.Data.{ids_of}
 use Rattle.log_model.specs.Ids.{has, inserted, all_inserted, without}
-use Rattle.clean_model.specs.Laws.{CommitDigest}
 use Rattle.clean_model.proofs.KeptEntries.{has_is, is_has}
 
 -- the log set less the victims
@@ -68,16 +66,3 @@ all_in [] ids x (inr never) = absurd never
 all_in (s ∷ more) ids x (inl m) = inserted_in s (all_inserted more ids) x (inr (all_in more ids x (inl m)))
 all_in (s ∷ more) ids x (inr (inl same)) = inserted_in s (all_inserted more ids) x (inl same)
 all_in (s ∷ more) ids x (inr (inr m)) = inserted_in s (all_inserted more ids) x (inr (all_in more ids x (inr m)))
-
-pub commit_digest : CommitDigest
-commit_digest d m =
-    let ids = ids_of d.head.start in
-    let left = without m.pass.victims ids in
-    record {
-      from = λ s c. elim (all_out m.pass.survivors left s c) [
-        | inl l ↦ inl (without_from m.pass.victims ids s l)
-        | inr l ↦ inr l
-      ];
-      stays = λ s c not. all_in m.pass.survivors left s (inl (without_stays m.pass.victims ids s c not));
-      survivors = λ s c. all_in m.pass.survivors left s (inr c);
-    }

@@ -139,11 +139,8 @@ module _ (log new : LogSet) (more : IsMore log new) where
     }
 
     pub more_around : (contents : Contents) (safe next later : ℕ) → IsAround log pass contents safe next → next ≤ later
-        → ((s : ℕ) → IsAmong s new.ids → IsAmong s log.ids ⊎ (s < later))
-        → ((s : ℕ) (e : Entry) → IsAmong s new.ids
-        → IsAmong s log.ids ⊎ (IsAmong e (new.image s) → IsAmong e (new.text s)))
-        → IsAround new pass contents safe later
-    more_around contents safe next later is le below told = record {
+        → ((s : ℕ) → IsAmong s new.ids → IsAmong s log.ids ⊎ (s < later)) → IsAround new pass contents safe later
+    more_around contents safe next later is le below = record {
       below = λ s c. elim (below s c) as (λ _. s < later) [
         | inl d ↦ (let lt = is.below s d in omega arith)
         | inr lt ↦ lt
@@ -152,11 +149,9 @@ module _ (log new : LogSet) (more : IsMore log new) where
           let w = image_was s (Tombstone t) t.key refl c m in
           let lt = is.named_below s t w.0 w.1 in omega arith;
       versions = λ k h s f m at. is.versions k h s f (was_in s f k at m) at;
-      texted = λ s e c not m. elim (told s e c) [
-        | inl d ↦ subst (λ (es : List Entry). IsAmong e es) (sym (more.text s d))
-            (is.texted s e d not (entry_was s e d m))
-        | inr to ↦ to m
-      ];
+      texted = λ s e k c not at m.
+          let w = image_was s e k at c m in
+          subst (λ (es : List Entry). IsAmong e es) (sym (more.text s w.0)) (is.texted s e k w.0 not at w.1);
     }
 
 -- ---- passes

@@ -158,7 +158,7 @@ other_refusal_leaves master f g (Raise id) take_fault.Spent is other = is.1
 
 module _ (master : ℕ) (d : FailData) (f g : FleetState) (same : (b s : ℕ) → g.picture b master s ≡ f.picture b master s)
     (least : g.least master ≡ f.least master) where
-  same_read : read_fleet master f ≡ read_fleet master g
+  pub same_read : read_fleet master f ≡ read_fleet master g
   same_read = (λ i. record {
     holds = λ b s. option_map read_replica (sym (same b s) i);
     least = sym least i;
@@ -171,7 +171,7 @@ module _ (master : ℕ) (d : FailData) (f g : FleetState) (same : (b s : ℕ) �
     segments = spelled.segments;
   }
 
-  still_keeps : KeepsLog master d f → KeepsLog master d g
+  pub still_keeps : KeepsLog master d f → KeepsLog master d g
   still_keeps keeps = record {
     spelled = subst (IsSpelled master (shown_of g master)) same_read
         (still_spelled (read_fleet master f) keeps.spelled);

@@ -1,8 +1,9 @@
 -- A command that is applied leaves all intact, while a pass or a failover is open too.
 use Rattle.std.proofs.Common.{◌≡◌, ℕ, ◌≤◌, ◌⊎◌, inl, inr, List, [], ◌∷◌, ◌++◌, Some, refl, sym, ap, subst, ◌∙◌, arith}
-use Rattle.std.specs.Prelude.{None}
+use Rattle.std.specs.Prelude.{None, filter}
 use Rattle.entry.specs.declared.entry.Entry.{Entry}
 use Rattle.entry.specs.Bag.{IsAmong}
+use Rattle.entry.specs.Text.{is_data}
 use Rattle.versioned_map.specs.declared.command.Record.{Record}
 use Rattle.versioned_map.specs.Versioned.{State, after_command}
 use Rattle.log_model.specs.Data.{Start}
@@ -10,7 +11,7 @@ use Rattle.log_model.proofs.Fronts.{state_next}
 use Rattle.log_model.proofs.Lists.{below_at}
 use Rattle.clean_model.specs.Memory.{LogSet}
 use Rattle.clean_model.specs.Steps.{images_with, index_with}
-use Rattle.clean_model.specs.Tracked.{IsTracked, IsAround}
+use Rattle.clean_model.specs.Tracked.{IsTracked, AreTexted, IsAround}
 use Rattle.clean_model.proofs.AppendedUnits.{IsStage, command_then, images_there, images_out}
 use Rattle.clean_model.proofs.LogSetChanges.{told_in, texts_changed}
 use Rattle.failover_model.specs.Text.{Text}
@@ -22,10 +23,12 @@ use Rattle.failover_model.proofs.Appending.{appended_is_held}
 use Rattle.failover_model.proofs.Applying.{may_append, applied_is_standing}
 use Rattle.failover_clean.specs.Intact.{AreRepaired, IsIntact}
 use Rattle.failover_clean.specs.Laws.{ApplyKeeps}
-use Rattle.failover_clean.specs.Memory.{FailMemory, entries_in, log_ids, log_set_of}
+use Rattle.failover_clean.specs.Memory.{FailMemory, entries_in, log_ids, log_set_of, AreImages}
 use Rattle.failover_clean.specs.Steps.{recorded, IsNamed}
-use Rattle.failover_clean.proofs.Appending.{unit_none, text_still, appended_from, appended_texted}
+use Rattle.failover_clean.proofs.Appending.{unit_none, unit_data, text_still, appended_from, appended_texted}
+use Rattle.failover_clean.proofs.Appending.{appended_images}
 use Rattle.failover_clean.proofs.Ids.{now_own, in_digest}
+use Rattle.failover_clean.proofs.Pasts.{applied_past}
 use Rattle.failover_clean.proofs.Sealed.{still_sealed}
 
 module _ (d : FailData) (m : FailMemory) (p : Shown) (segment : ℕ) (r : Record) (i : IsIntact d m p)
@@ -71,8 +74,7 @@ module _ (d : FailData) (m : FailMemory) (p : Shown) (segment : ℕ) (r : Record
       → IsAmong f (n.images z) ⊎ IsAmong f (entries_in old_texts z)
   from = appended_from d m old_texts i.log.held.logged unit
 
-  texted : (z : ℕ) (f : Entry) → IsAmong z (log_ids d m) → (IsAmong z m.pass.survivors → ⊥) → IsAmong f (n.images z)
-      → IsAmong f (entries_in log.texts z)
+  texted : AreTexted (log_set_of e n log.texts) m.pass
   texted = appended_texted d m old_texts i.log.held.logged unit i.around.texted
 
   -- ---- images and index
@@ -126,6 +128,9 @@ module _ (d : FailData) (m : FailMemory) (p : Shown) (segment : ℕ) (r : Record
         texted = texted;
       })
 
+  images : AreImages e n log.texts
+  images = appended_images d m old_texts i.log.held.logged unit (unit_data (state_of d) segment r.command) i.images
+
   -- no repair sealed the head
   repaired : AreRepaired n log.texts
   repaired z xs k f sealed at l = elim (images_out m.images id z unit f l) as (λ _. IsAmong f xs) [
@@ -169,7 +174,9 @@ apply_keeps d m p segment r i may named = record {
   tracked = tracked d m p segment r i may named;
   passing = (stage d m p segment r i may named).passing;
   around = around d m p segment r i may named;
+  images = images d m p segment r i may named;
   repaired = repaired d m p segment r i may named;
+  whole = record { one = i.whole.one; failed = i.whole.failed };
   chosen = i.chosen;
   sealing = still_sealed d (applied d segment r) m i.log.texts (log d m p segment r i may named).texts p p
       (recorded d m segment r).images (recorded d m segment r).index m.commits i.sealing
@@ -183,12 +190,14 @@ apply_keeps d m p segment r i may named = record {
         done = was.done;
         images = λ s survivor.
             ap (λ (t : Text). t.entries) (text_same d m p segment r i may named s survivor) ∙ was.images s survivor
-            ∙ sym (image_same d m p segment r i may named s survivor);
+            ∙ sym (ap (filter is_data) (image_same d m p segment r i may named s survivor));
       };
-  waiting = record { out = i.waiting.out; below = i.waiting.below; held = i.waiting.held };
+  waiting = record { out = i.waiting.out; below = i.waiting.below; real = i.waiting.real };
   recorded = λ n is. subst (λ (st : State). st.safe ≤ n.safe)
       (sym (same_state d m p segment r i may named (new_quiet d m p segment r i may named n is))) (i.recorded n is);
   repairs = λ is. subst (λ (st : State). st.safe ≤ d.head.start.safe)
       (sym (same_state d m p segment r i may named (repair_quiet d m p segment r i may named is))) (i.repairs is);
   real = i.real;
+  past = i.past;
+  before = applied_past d p segment r i.log i.past may i.before;
 }

@@ -1,7 +1,7 @@
 -- A pass that begins leaves all intact: it is opened, and then its survivors take their ids one after the other.
 use Rattle.std.proofs.Common.{◌≡◌, ℕ, zero, suc, ◌<◌, ◌⊎◌, inl, inr, true, false, List, [], ◌∷◌, refl, sym, ap, subst}
 use Rattle.std.proofs.Common.{◌∙◌, Some, arith}
-use Rattle.std.specs.Prelude.{None, IsSome, ◌==◌}
+use Rattle.std.specs.Prelude.{None, IsSome, ◌==◌, filter}
 use Rattle.std.proofs.lemmas.Bool.{cases_eq}
 use Rattle.std.proofs.lemmas.Bool.Decides.{nat_tests}
 use Rattle.entry.specs.declared.key.Key.{Key}
@@ -10,10 +10,11 @@ use Rattle.entry.specs.declared.entry.Entry.TheVariants.{Tombstone}
 use Rattle.entry.specs.declared.entry.Object.{Object as ObjectValue}
 use Rattle.entry.specs.Bag.{IsAmong}
 use Rattle.entry.specs.Meaning.{IsOfKey, object_at}
+use Rattle.entry.specs.Text.{is_data}
 use Rattle.entry.proofs.BagLemmas.{among_left, among_push}
 use Rattle.log_model.specs.Ids.{has}
 use Rattle.log_model.proofs.Lists.{below_at}
-use Rattle.clean_model.specs.Intact.{IsPassOf}
+use Rattle.clean_model.specs.Intact.{survivor_entries, IsPassOf}
 use Rattle.clean_model.specs.Memory.{Images, LogSet, Pass, no_pass}
 use Rattle.clean_model.specs.Tracked.{IsCopied, IsTracked, IsPassing, IsAround}
 use Rattle.clean_model.proofs.KeptEntries.{places_all}
@@ -31,9 +32,11 @@ use Rattle.failover_model.proofs.Texts.{new_there, new_none, new_other, new_imag
 use Rattle.failover_clean.specs.Covered.{map_of}
 use Rattle.failover_clean.specs.Intact.{IsSealed, AreSealed, AreRepaired, IsIntact}
 use Rattle.failover_clean.specs.Laws.{BeginKeeps}
-use Rattle.failover_clean.specs.Memory.{FailMemory, entries_in, log_ids, log_set_of}
+use Rattle.failover_clean.specs.Memory.{FailMemory, entries_in, log_ids, log_set_of, AreImages}
 use Rattle.failover_clean.specs.Steps.{ids_taken, pass_opened, survivor_added, pass_begun, MayBeginClean}
 use Rattle.failover_clean.proofs.Ids.{ids_out, in_digest, in_new, in_survivors, now_others, new_in}
+use Rattle.failover_clean.proofs.Openings.{IsImage, no_keys, image_bare, image_still}
+use Rattle.failover_clean.proofs.Pasts.{id_taken_past}
 
 -- ---- a pass is opened
 
@@ -89,7 +92,9 @@ module _ (d : FailData) (m : FailMemory) (p : Shown) (victims : List ℕ) (i : I
           versions = around.versions;
           texted = around.texted;
         };
+        images = λ s c. i.images s (subst (λ (ids : List ℕ). IsAmong s ids) (sym same_ids) c);
         repaired = i.repaired;
+        whole = i.whole;
         chosen = record {
           victims = may.older;
           some = λ s never. absurd never;
@@ -110,11 +115,13 @@ module _ (d : FailData) (m : FailMemory) (p : Shown) (victims : List ℕ) (i : I
         waiting = record {
           out = λ w at c. i.waiting.out w at (subst (λ (ids : List ℕ). IsAmong w.segment ids) (sym same_ids) c);
           below = i.waiting.below;
-          held = i.waiting.held;
+          real = i.waiting.real;
         };
         recorded = i.recorded;
         repairs = i.repairs;
         real = i.real;
+        past = i.past;
+        before = i.before;
       }
 
 -- ---- one survivor more
@@ -169,14 +176,22 @@ module _ (d : FailData) (m : FailMemory) (p : Shown) (i : IsIntact d m p) (some 
     | inr (inr l) ↦ in_survivors e more_memory s (still_survivor s l)
   ]
 
-  no_image : (s : ℕ) → s ≡ d.next → more_memory.images s ≡ []
-  no_image s same = ap more_memory.images same ∙ image_here m.images d.next []
+  -- a header alone
+  abbrev header : List Entry
+  header = survivor_entries d.config.master d.next
+
+  new_image : (s : ℕ) → s ≡ d.next → more_memory.images s ≡ header
+  new_image s same = ap more_memory.images same ∙ image_here m.images d.next header
+
+  no_entry : (s : ℕ) (f : Entry) (k : Key) → s ≡ d.next → IsAmong f (more_memory.images s) → IsOfKey k f → ⊥
+  no_entry s f k same l at = no_keys d.config.master d.next None f k
+      (subst (λ (es : List Entry). IsAmong f es) (new_image s same) l) at
 
   no_text : (s : ℕ) → s ≡ d.next → now.text s ≡ empty_survivor
   no_text s same = ap now.text same ∙ new_there old d.next empty_survivor
 
   image_same : (s : ℕ) → (s ≡ d.next → ⊥) → more_memory.images s ≡ m.images s
-  image_same s other = image_there m.images d.next [] s other
+  image_same s other = image_there m.images d.next header s other
 
   text_same : (s : ℕ) → (s ≡ d.next → ⊥) → now.text s ≡ old.text s
   text_same s other = new_other old d.next empty_survivor s other
@@ -190,7 +205,7 @@ module _ (d : FailData) (m : FailMemory) (p : Shown) (i : IsIntact d m p) (some 
         ⊎ ((f : Entry) (k : Key) → IsOfKey k f → IsAmong f (new.image s) ⊎ IsAmong f (new.text s) → ⊥)) [
           | inl l ↦ inl l
           | inr same ↦ inr (λ f k at l. elim l as (λ _. ⊥) [
-            | inl a ↦ subst (λ (es : List Entry). IsAmong f es) (no_image s same) a
+            | inl a ↦ no_entry s f k same a at
             | inr a ↦ subst (λ (es : List Entry). IsAmong f es) (ap (λ (t : Text). t.entries) (no_text s same)) a
           ])
         ];
@@ -259,7 +274,7 @@ module _ (d : FailData) (m : FailMemory) (p : Shown) (i : IsIntact d m p) (some 
     ];
     copies = λ s f k c l at. elim (either_survivor s c) [
       | inl before ↦ passing_more.copies s f k before l at
-      | inr same ↦ absurd (subst (λ (es : List Entry). IsAmong f es) (no_image s (sym same)) l)
+      | inr same ↦ absurd (no_entry s f k (sym same) l at)
     ];
     live = i.passing.live;
     carried = λ x t victim at named. elim (passing_more.carried x t victim at named) [
@@ -274,11 +289,6 @@ module _ (d : FailData) (m : FailMemory) (p : Shown) (i : IsIntact d m p) (some 
       (λ s c. elim (either_id s c) as (λ _. IsAmong s (log_ids d m) ⊎ (s < suc d.next)) [
         | inl l ↦ inl l
         | inr same ↦ inr (omega arith)
-      ])
-      (λ s f c. elim (either_id s c)
-      as (λ _. IsAmong s (log_ids d m) ⊎ (IsAmong f (new.image s) → IsAmong f (new.text s))) [
-        | inl l ↦ inl l
-        | inr same ↦ inr (λ l. absurd (subst (λ (es : List Entry). IsAmong f es) (no_image s same) l))
       ])
 
   chosen : IsPassOf d.head.start (new_of d.mode) more_memory.pass
@@ -316,7 +326,8 @@ module _ (d : FailData) (m : FailMemory) (p : Shown) (i : IsIntact d m p) (some 
           let text = text_same s (survivor_older s before) in
           record {
             done = at.done;
-            image = ap (λ (t : Text). t.entries) text ∙ at.image ∙ sym (image_same s (survivor_older s before));
+            image = ap (λ (t : Text). t.entries) text ∙ at.image
+                ∙ sym (ap (filter is_data) (image_same s (survivor_older s before)));
             text = at.text ∙ sym text;
             closed = at.closed;
           })
@@ -328,9 +339,25 @@ module _ (d : FailData) (m : FailMemory) (p : Shown) (i : IsIntact d m p) (some 
     ];
   }
 
+  images : AreImages e more_memory now
+  images s c = elim (either_id s c) as (λ _. IsImage d.config.master s (now.text s) (more_memory.images s)) [
+    | inl l ↦ image_still d.config.master s (old.text s) (now.text s) (m.images s) (more_memory.images s)
+        (ap (λ (t : Text). t.opening) (text_same s (older s l))) (image_same s (older s l)) (i.images s l)
+    | inr same ↦ subst (λ (y : ℕ). IsImage d.config.master y (now.text y) (more_memory.images y)) (sym same)
+        (image_still d.config.master d.next empty_survivor (now.text d.next) header (more_memory.images d.next)
+        (ap (λ (t : Text). t.opening) (no_text d.next refl)) (new_image d.next refl)
+        (image_bare d.config.master d.next empty_survivor))
+  ]
+
+  whole : d.failed ≡ [] → (s : ℕ) → now.images s ≡ []
+  whole none s = elim (cases_eq s d.next) as (λ _. now.images s ≡ []) [
+    | inl same ↦ ap now.images same ∙ new_none old d.next empty_survivor
+    | inr other ↦ new_images old d.next empty_survivor s other ∙ i.whole.one none s
+  ]
+
   repaired : AreRepaired more_memory now
   repaired s xs k f at_one of l = elim (cases_eq s d.next) as (λ _. IsAmong f xs) [
-    | inl same ↦ absurd (subst (λ (es : List Entry). IsAmong f es) (no_image s same) l)
+    | inl same ↦ absurd (no_entry s f k same l of)
     | inr other ↦ i.repaired s xs k f
         (subst (λ (ys : List (List Entry)). IsAmong xs ys) (new_images old d.next empty_survivor s other) at_one) of
         (subst (λ (es : List Entry). IsAmong f es) (image_same s other) l)
@@ -349,9 +376,11 @@ module _ (d : FailData) (m : FailMemory) (p : Shown) (i : IsIntact d m p) (some 
       below = around_more.below;
       named_below = around_more.named_below;
       versions = around_more.versions;
-      texted = λ s f c not. around_more.texted s f c (λ survivor. not (still_survivor s survivor));
+      texted = λ s f k c not. around_more.texted s f k c (λ survivor. not (still_survivor s survivor));
     };
+    images = images;
     repaired = repaired;
+    whole = record { one = whole; failed = i.whole.failed };
     chosen = chosen;
     sealing = sealing;
     rolling = λ n is. (
@@ -365,11 +394,13 @@ module _ (d : FailData) (m : FailMemory) (p : Shown) (i : IsIntact d m p) (some 
         | inr same ↦ (let lt = i.waiting.below w at in omega arith)
       ];
       below = λ w at. let lt = i.waiting.below w at in omega arith;
-      held = i.waiting.held;
+      real = i.waiting.real;
     };
     recorded = i.recorded;
     repairs = i.repairs;
     real = i.real;
+    past = i.past;
+    before = id_taken_past d p i.log i.past i.before;
   }
 
 -- ---- both

@@ -1,39 +1,48 @@
 -- The commit of a pass that is ready leaves all intact, as it begins and as it ends.
-use Rattle.std.proofs.Common.{◌≡◌, ℕ, ◌<◌, ◌⊎◌, inl, inr, Bool, true, false, List, [], ◌∷◌, length, map, Some, refl}
+use Rattle.std.proofs.Common.{◌≡◌, ℕ, ◌<◌, ◌⊎◌, inl, inr, Bool, true, false, List, [], ◌∷◌, length, Some, refl}
 use Rattle.std.proofs.Common.{sym, ap, subst, ◌∙◌, arith}
-use Rattle.std.specs.Prelude.{Option, None, IsSome, ◌==◌, if◌then◌else◌}
+use Rattle.std.specs.Prelude.{Option, None, ◌==◌, if◌then◌else◌}
+use Rattle.entry.specs.declared.key.Key.{Key}
 use Rattle.entry.specs.declared.entry.Entry.{Entry}
 use Rattle.entry.specs.Bag.{IsAmong}
-use Rattle.entry.proofs.BagLemmas.{among_push, among_either, among_left, among_images}
+use Rattle.entry.specs.Meaning.{IsOfKey}
+use Rattle.entry.specs.Text.{text_of}
+use Rattle.entry.proofs.BagLemmas.{among_push, among_either, among_left}
 use Rattle.log_model.specs.Data.{Start, ids_of}
-use Rattle.log_model.specs.Ids.{has}
+use Rattle.log_model.specs.Ids.{has, without}
 use Rattle.log_model.specs.Log.{AreBelow}
 use Rattle.log_model.proofs.Lists.{all_below, below_at}
+use Rattle.clean_model.specs.Intact.{Stays, IsCommit}
 use Rattle.clean_model.specs.Memory.{LogSet, no_pass, new_ids, counting}
 use Rattle.clean_model.specs.Tracked.{IsPassing, IsAround}
+use Rattle.clean_model.proofs.CommitDigest.{without_stays, without_from, all_out, all_in}
 use Rattle.clean_model.proofs.CommittedPass.{committed}
 use Rattle.clean_model.proofs.KeptEntries.{has_is, is_has}
 use Rattle.clean_model.proofs.Lists.{among_tells}
 use Rattle.clean_model.proofs.NoPass.{none_passing, none_chosen}
 use Rattle.clean_model.proofs.Premises.{IsLess}
-use Rattle.clean_model.specs.Intact.{IsCommit}
 use Rattle.failover_model.specs.Text.{Text, length_of}
 use Rattle.failover_model.specs.Shown.{Shown}
 use Rattle.failover_model.specs.Data.{front, Mode, FailData, IsHome, homes, new_of, state_of}
 use Rattle.failover_model.specs.Log.{Texts, BasesStand, HoldsCopy}
-use Rattle.failover_model.specs.Steps.{ids_now, IsRoll, ended, EndsRoll, IsKnown, len_now, survivor_text}
+use Rattle.failover_model.specs.Steps.{ids_now, IsRoll, ended, EndsRoll, IsKnown, len_now}
 use Rattle.failover_model.proofs.Ending.{ending_is_held, ending_is_standing}
 use Rattle.failover_model.proofs.Images.{between_stands}
 use Rattle.failover_model.proofs.Lengths.{lens_known, len_known}
-use Rattle.failover_model.proofs.Lists.{some_is, is_some, some_member, without_has}
+use Rattle.failover_model.proofs.Lists.{some_is, some_member, without_has}
 use Rattle.failover_clean.specs.Covered.{map_of}
 use Rattle.failover_clean.specs.Intact.{IsIntact}
-use Rattle.failover_clean.specs.Laws.{CommitKeeps, FinishKeeps}
-use Rattle.failover_clean.specs.Memory.{Spot, FailMemory, entries_in, log_ids, log_set_of}
+use Rattle.failover_clean.specs.Laws.{CommitKeeps, CommitDigest, FinishKeeps}
+use Rattle.failover_clean.specs.Memory.{FailMemory, entries_in, log_ids, log_set_of, data_of}
+use Rattle.failover_clean.specs.Past.{past_after}
 use Rattle.failover_clean.specs.Steps.{commit_len, MayCommit, spots_of, finished}
-use Rattle.failover_clean.proofs.Ending.{is_new, no_new, some}
+use Rattle.failover_clean.proofs.Ending.{is_new, no_new, some, was_failing}
 use Rattle.failover_clean.proofs.Ids.{ids_out, in_digest, in_survivors, now_is, now_out, now_own, new_in, new_one}
+use Rattle.failover_clean.proofs.Openings.{data_in}
+use Rattle.failover_clean.proofs.Pasts.{ended_past}
 use Rattle.failover_clean.proofs.Rolling.{begun}
+use Rattle.failover_clean.proofs.Spots.{spots_out}
+use Rattle.failover_clean.proofs.TextsIn.{image_length}
 
 module _ (d : FailData) (m : FailMemory) (p : Shown) (n : Start) (mode : Mode) (i : IsIntact d m p)
     (may : MayCommit d m n mode) where
@@ -44,7 +53,7 @@ module _ (d : FailData) (m : FailMemory) (p : Shown) (n : Start) (mode : Mode) (
   log = log_set_of d m texts
 
   -- a survivor is on some home, so its text is its image
-  sealed_text : (s : ℕ) → IsAmong s m.pass.survivors → entries_in texts s ≡ m.images s
+  sealed_text : (s : ℕ) → IsAmong s m.pass.survivors → entries_in texts s ≡ data_of m s
   sealed_text s survivor =
       let enough = may.ready.sealed s survivor in
       let least = i.log.held.some in
@@ -86,11 +95,9 @@ module _ (d : FailData) (m : FailMemory) (p : Shown) (n : Start) (mode : Mode) (
   commit_length : (d.config.format == 2) ≡ true → (s : ℕ) → IsAmong s n.others
       → commit_len d m s ≡ length_of (texts.text s)
   commit_length two s c = by_test (has m.pass.survivors s) refl where
-    image_len : IsAmong s m.pass.survivors → length_of (survivor_text (m.images s)) ≡ length_of (texts.text s)
-    image_len l =
-        let bare = i.sealing.bare s l in
-        let whole = sealed_text s l in
-        ap length_of (λ j. record { opening = sym bare j; entries = sym whole j })
+    image_len : IsAmong s m.pass.survivors → length (text_of (m.images s)) ≡ length_of (texts.text s)
+    image_len l = image_length d.config.master s (texts.text s) (m.images s) (i.images s (in_survivors d m s l))
+        (sealed_text s l)
 
     before : has m.pass.survivors s ≡ false → IsAmong s (ids_of d.head.start)
     before test = elim (may.commit.from s c) as (λ _. IsAmong s (ids_of d.head.start)) [
@@ -99,7 +106,7 @@ module _ (d : FailData) (m : FailMemory) (p : Shown) (n : Start) (mode : Mode) (
     ]
 
     by_test : (b : Bool) → has m.pass.survivors s ≡ b
-        → (if b then length_of (survivor_text (m.images s)) else len_now d s) ≡ length_of (texts.text s)
+        → (if b then length (text_of (m.images s)) else len_now d s) ≡ length_of (texts.text s)
     by_test true test = image_len (is_has m.pass.survivors s test)
     by_test false test = len_known d.config texts d.head.start i.log.held.logged.head.lens two
         (length_of (front d.head (length d.head.units))) (ap length_of i.log.held.logged.text) s (before test)
@@ -136,11 +143,13 @@ module _ (d : FailData) (m : FailMemory) (p : Shown) (n : Start) (mode : Mode) (
   passing_done : IsPassing (log_ids d m) m.images m.pass m.index []
   passing_done = subst (λ (r : List _). IsPassing (log_ids d m) m.images m.pass m.index r) may.ready.done i.passing
 
-  -- what an image has its text has, a survivor's too
-  all_texted : (s : ℕ) (e : Entry) → IsAmong s (log_ids d m) → IsAmong e (m.images s) → IsAmong e (entries_in texts s)
-  all_texted s e c l = elim (among_tells s m.pass.survivors) as (λ _. IsAmong e (entries_in texts s)) [
-    | inl survivor ↦ subst (λ (es : List Entry). IsAmong e es) (sym (sealed_text s survivor)) l
-    | inr other ↦ i.around.texted s e c other l
+  -- what an image has of a key its text has, a survivor's too
+  all_texted : (s : ℕ) (e : Entry) (k : Key) → IsAmong s (log_ids d m) → IsOfKey k e → IsAmong e (m.images s)
+      → IsAmong e (entries_in texts s)
+  all_texted s e k c at l = elim (among_tells s m.pass.survivors) as (λ _. IsAmong e (entries_in texts s)) [
+    | inl survivor ↦ subst (λ (es : List Entry). IsAmong e es) (sym (sealed_text s survivor))
+        (data_in e k (m.images s) at l)
+    | inr other ↦ i.around.texted s e k c other at l
   ]
 
   around_left : IsAround (counting log n.others) no_pass (map_of d) (state_of d).safe d.next
@@ -148,7 +157,7 @@ module _ (d : FailData) (m : FailMemory) (p : Shown) (n : Start) (mode : Mode) (
     below = λ s c. i.around.below s (less.from s c);
     named_below = λ s t c. i.around.named_below s t (less.from s c);
     versions = λ k h s f l. i.around.versions k h s f (record { counts = less.from s l.counts; among = l.among });
-    texted = λ s e c not. all_texted s e (less.from s c);
+    texted = λ s e k c not. all_texted s e k (less.from s c);
   }
 
   commit_stands : BasesStand texts n (state_of d)
@@ -159,7 +168,8 @@ module _ (d : FailData) (m : FailMemory) (p : Shown) (n : Start) (mode : Mode) (
       (record {
         counts = λ s c. c;
         image = λ s es k e c variant at l. elim variant as (λ _. IsAmong e es) [
-          | inl text ↦ subst (λ (xs : List Entry). IsAmong e xs) (sym text) (all_texted s e (less.from s c) l)
+          | inl text ↦ subst (λ (xs : List Entry). IsAmong e xs) (sym text)
+              (all_texted s e k (less.from s c) at l)
           | inr image ↦ i.repaired s es k e image at l
         ];
         text = λ s es k e c variant at l. elim variant as (λ _. IsAmong e (entries_in texts s)) [
@@ -176,26 +186,23 @@ commit_keeps d m p n mode i may =
     (λ c. absurd (cc), λ c. may.commit) (let safe = may.safe in omega arith)
     (λ c. record { real = may.real; done = may.ready.done; images = sealed_text d m p n mode i may })
 
--- ---- its end
+pub commit_digest : CommitDigest
+commit_digest d m p i real =
+    let ids = ids_now d.head.start in
+    let left = without m.pass.victims ids in
+    let now : ids ≡ ids_of d.head.start = now_is d.head.start real in
+    record {
+      from = λ s c. elim (all_out m.pass.survivors left s c)
+          as (λ _. Stays d.head.start m.pass s ⊎ IsAmong s m.pass.survivors) [
+            | inl l ↦ (let was = without_from m.pass.victims ids s l in inl (subst (IsAmong s) now was.0, was.1))
+            | inr l ↦ inr l
+          ];
+      stays = λ s c no_victim. all_in m.pass.survivors left s
+          (inl (without_stays m.pass.victims ids s (subst (IsAmong s) (sym now) c) no_victim));
+      survivors = λ s c. all_in m.pass.survivors left s (inr c);
+    }
 
-spots_out : (d : FailData) (ids : List ℕ) (w : Spot) → IsAmong w (spots_of d ids)
-    → IsAmong w.segment ids × IsHome d w.segment w.backup
-spots_out d [] w c = absurd c
-spots_out d (s ∷ ids) w c =
-    elim (among_either w (map (λ (b : ℕ). record { segment = s; backup = b }) (homes d s)) (spots_of d ids) c)
-    as (λ _. IsAmong w.segment (s ∷ ids) × IsHome d w.segment w.backup) [
-      | inl here ↦ (
-          let from = among_images (λ (b : ℕ). record { segment = s; backup = b }) (homes d s) w here in
-          let home = without_has d.failed (d.took s) from.0 (among_has (homes d s) from.0 from.1) in
-          let at : s ≡ w.segment = ap (λ (x : Spot). x.segment) from.2 in
-          let on : from.0 ≡ w.backup = ap (λ (x : Spot). x.backup) from.2 in (
-            inl at,
-            subst (λ (x : Spot). IsHome d x.segment x.backup) from.2 home,
-          ))
-      | inr later ↦ (let rest = spots_out d ids w later in (inr rest.0, rest.1))
-    ] where
-      among_has : (bs : List ℕ) (b : ℕ) → IsAmong b bs → has bs b ≡ true
-      among_has bs b c = has_is bs b c
+-- ---- its end
 
 module _ (d : FailData) (m : FailMemory) (p : Shown) (n : Start) (mode : Mode) (i : IsIntact d m p)
     (known : IsKnown d p) (ends : EndsRoll d n mode) (commits : m.commits ≡ true) where
@@ -280,12 +287,19 @@ module _ (d : FailData) (m : FailMemory) (p : Shown) (n : Start) (mode : Mode) (
       named_below = λ s t c. i.around.named_below s t (left_less.from s c);
       versions = λ k h s g l. i.around.versions k h s g
           (record { counts = left_less.from s l.counts; among = l.among });
-      texted = λ s g c not l. elim (among_tells s m.pass.survivors) as (λ _. IsAmong g (entries_in i.log.texts s)) [
-        | inl survivor ↦ subst (λ (es : List Entry). IsAmong g es) (sym ((i.committed commits).images s survivor)) l
-        | inr other ↦ i.around.texted s g (left_less.from s c) other l
-      ];
+      texted = λ s g k c not at l. elim (among_tells s m.pass.survivors)
+          as (λ _. IsAmong g (entries_in i.log.texts s)) [
+            | inl survivor ↦ subst (λ (es : List Entry). IsAmong g es)
+                (sym ((i.committed commits).images s survivor)) (data_in g k (m.images s) at l)
+            | inr other ↦ i.around.texted s g k (left_less.from s c) other at l
+          ];
     };
+    images = λ s c. i.images s (left_less.from s c);
     repaired = i.repaired;
+    whole = record {
+      one = i.whole.one;
+      failed = λ fails. i.whole.failed (was_failing d m p n mode i known ends fails);
+    };
     chosen = none_chosen _ _;
     sealing = record {
       bare = λ s never. absurd never;
@@ -304,18 +318,13 @@ module _ (d : FailData) (m : FailMemory) (p : Shown) (n : Start) (mode : Mode) (
         | inl spot ↦ i.around.below w.segment (victim_other w.segment (spots_out d m.pass.victims w spot).0)
         | inr old ↦ i.waiting.below w old
       ];
-      held = λ w at works. elim (among_either w (spots_of d m.pass.victims) m.waiting at)
-          as (λ _. IsSome (p.holds w.backup w.segment)) [
-            | inl spot ↦ (
-                let is = spots_out d m.pass.victims w spot in
-                let copy = i.log.held.mirrored.others w.segment w.backup (inl (i.chosen.victims w.segment is.0)) is.1 in
-                is_some (p.holds w.backup w.segment) copy.0 copy.1)
-            | inr old ↦ i.waiting.held w old works
-          ];
+      real = λ w at. real_new;
     };
     recorded = λ x is. absurd (never_new x is);
     repairs = λ _. i.recorded n new_was;
     real = λ _. real_new;
+    past = past_after d i.past;
+    before = ended_past d p n mode i.log i.past ends i.before;
   }
 
 pub finish_keeps : FinishKeeps

@@ -1,9 +1,11 @@
 -- Compaction leaves all intact.
-use Rattle.std.proofs.Common.{refl, ◌≡◌, ℕ, inl, inr, List, sym, subst, ◌∙◌}
+use Rattle.std.proofs.Common.{refl, ◌≡◌, ℕ, inl, inr, List, sym, ap, subst, ◌∙◌}
+use Rattle.std.specs.Prelude.{filter}
 use Rattle.entry.specs.declared.entry.Entry.{Entry}
 use Rattle.entry.specs.declared.entry.Entry.TheVariants.{Tombstone}
 use Rattle.entry.specs.Bag.{IsAmong}
 use Rattle.entry.specs.Meaning.{Contents}
+use Rattle.entry.specs.Text.{is_data}
 use Rattle.clean_model.specs.Compaction.{kept_from, moved_index}
 use Rattle.clean_model.specs.Memory.{Images, Index, LogSet, Pass, with_image}
 use Rattle.clean_model.specs.Tracked.{IsAround}
@@ -17,6 +19,7 @@ use Rattle.failover_clean.specs.Intact.{IsIntact}
 use Rattle.failover_clean.specs.Laws.{CompactKeeps}
 use Rattle.failover_clean.specs.Memory.{FailMemory, log_ids, log_set_of}
 use Rattle.failover_clean.specs.Steps.{MayCompact}
+use Rattle.failover_clean.proofs.Openings.{kept_image, one_image}
 use Rattle.failover_clean.proofs.Sealed.{still_sealed}
 
 -- fewer entries in images
@@ -28,7 +31,7 @@ around_fewer log image pass contents safe next is fewer = record {
   named_below = λ s t c m. is.named_below s t c (fewer s (Tombstone t) m);
   versions = λ k h s f m. is.versions k h s f
       (record { counts = m.counts; among = elim m.among [ inl a ↦ inl (fewer s f a) | inr b ↦ inr b ] });
-  texted = λ s e c not m. is.texted s e c not (fewer s e m);
+  texted = λ s e k c not at m. is.texted s e k c not at (fewer s e m);
 }
 
 module _ (d : FailData) (m : FailMemory) (p : Shown) (s : ℕ) (i : IsIntact d m p) (may : MayCompact d m s) where
@@ -68,7 +71,11 @@ compact_keeps d m p s i may =
           may.no_victim;
       around = around_fewer (log d m p s i may) image m.pass (map_of d) (state_of d).safe d.next i.around
           (fewer d m p s i may);
+      images = one_image d m i.log.texts s (es d m p s i may) i.images
+          (λ c. kept_image (log_ids d m) m.index s d.config.master (i.log.texts.text s) (m.images s)
+          (i.images s c));
       repaired = λ z xs k e sealed at l. i.repaired z xs k e sealed at (fewer d m p s i may z e l);
+      whole = i.whole;
       chosen = i.chosen;
       sealing = still_sealed d d m i.log.texts i.log.texts p p image (moved d m p s i may) m.commits i.sealing
           (same_image d m p s i may) (λ z survivor. refl) (λ z survivor. refl) (λ b z survivor. refl)
@@ -79,10 +86,12 @@ compact_keeps d m p s i may =
           record {
             real = was.real;
             done = was.done;
-            images = λ z survivor. was.images z survivor ∙ sym (same_image d m p s i may z survivor);
+            images = λ z survivor. was.images z survivor ∙ sym (ap (filter is_data) (same_image d m p s i may z survivor));
           };
-      waiting = record { out = i.waiting.out; below = i.waiting.below; held = i.waiting.held };
+      waiting = record { out = i.waiting.out; below = i.waiting.below; real = i.waiting.real };
       recorded = i.recorded;
       repairs = i.repairs;
       real = i.real;
+      past = i.past;
+      before = i.before;
     }

@@ -1,21 +1,19 @@
 -- A copy leaves all intact: moved, carried or dropped.
-use Rattle.std.proofs.Common.{◌≡◌, ℕ, ◌<◌, inl, inr, Bool, true, false, cond, List, [], ◌∷◌, refl, sym, ap, subst, ◌∙◌}
-use Rattle.std.specs.Prelude.{Option, Some, None, ◌==◌, ◌&&◌}
-use Rattle.std.proofs.lemmas.Bool.Decides.{Decides-eqb}
+use Rattle.std.proofs.Common.{◌≡◌, ℕ, ◌<◌, inl, inr, Bool, true, false, cond, List, [], ◌∷◌, ◌++◌, refl, sym, ap}
+use Rattle.std.proofs.Common.{subst, ◌∙◌}
+use Rattle.std.specs.Prelude.{Some}
 use Rattle.entry.specs.declared.entry.Object.{Object as ObjectValue}
 use Rattle.entry.specs.declared.entry.Tombstone.{Tombstone as TombstoneValue}
 use Rattle.entry.specs.declared.entry.Entry.{Entry}
 use Rattle.entry.specs.declared.entry.Entry.TheVariants.{Header, Digest, Safe, Object, Tombstone}
 use Rattle.entry.specs.Bag.{IsAmong}
 use Rattle.entry.specs.Meaning.{IsOfKey, version_of, object_at}
+use Rattle.entry.specs.Text.{is_data}
 use Rattle.log_model.specs.Data.{Start}
-use Rattle.log_model.specs.Ids.{has}
-use Rattle.clean_model.specs.Compaction.{is_place}
 use Rattle.clean_model.specs.Memory.{Place, Index, Images, LogSet, grown, copied, StandsAt}
 use Rattle.clean_model.specs.Steps.{with_place, next_place, is_copied}
 use Rattle.clean_model.specs.Tracked.{IsTracked, IsPassing, IsAround}
-use Rattle.clean_model.proofs.Copying.{place_set}
-use Rattle.clean_model.proofs.KeptEntries.{has_is}
+use Rattle.clean_model.proofs.IndexPlaces.{place_set, place_true, place_false, has_false}
 use Rattle.clean_model.proofs.CopiedEntries.{live_copied, live_passing, grave_copied, grave_passing, dropped_passing}
 use Rattle.clean_model.proofs.Lists.{among_at, at_one, grown_out}
 use Rattle.clean_model.proofs.TrackedBags.{found_at, one_object}
@@ -26,28 +24,7 @@ use Rattle.failover_clean.specs.Intact.{AreSealed, AreRepaired, IsRollOf, IsInta
 use Rattle.failover_clean.specs.Laws.{CopyKeeps}
 use Rattle.failover_clean.specs.Memory.{FailMemory, log_ids, log_set_of}
 use Rattle.failover_clean.specs.Steps.{with_copy}
-
-place_true : (o : Option Place) (p : Place) → is_place o p.segment p.position ≡ true → o ≡ Some p
-place_true None p e = absurd (cc)
-place_true (Some q) p e = told (q.segment == p.segment) (q.position == p.position) refl refl e
-  where
-    told : (a b : Bool) → (q.segment == p.segment) ≡ a → (q.position == p.position) ≡ b → (a && b) ≡ true
-        → Some q ≡ Some p
-    told true true a b e =
-        let segment = (Decides-eqb q.segment p.segment).0 a in
-        let position = (Decides-eqb q.position p.position).0 b in
-        λ i. Some (record { segment = segment i; position = position i })
-    told true false a b e = absurd (cc)
-    told false c a b e = absurd (cc)
-
-place_false : (o : Option Place) (p : Place) → is_place o p.segment p.position ≡ false → o ≡ Some p → ⊥
-place_false o p e same =
-    let a : (p.segment == p.segment) ≡ true = (Decides-eqb p.segment p.segment).1 refl in
-    let b : (p.position == p.position) ≡ true = (Decides-eqb p.position p.position).1 refl in
-    let t : is_place o p.segment p.position ≡ true = rw (same, a, b) refl in cc
-
-has_false : (ids : List ℕ) (s : ℕ) → has ids s ≡ false → IsAmong s ids → ⊥
-has_false ids s e m = let t = has_is ids s m in cc
+use Rattle.failover_clean.proofs.Openings.{IsImage, image_longer, one_image}
 
 -- ---- a copy
 
@@ -101,11 +78,17 @@ module _ (d : FailData) (m : FailMemory) (p : Shown) (i : IsIntact d m p) (first
           ]
           | inr a ↦ is.versions k h z f (record { counts = l.counts; among = inr a })
         ];
-        texted = λ z f c not l. elim (grown_out m.images s e z f l) [
-          | inl a ↦ is.texted z f c not a
+        texted = λ z f k c not of_key l. elim (grown_out m.images s e z f l) [
+          | inl a ↦ is.texted z f k c not of_key a
           | inr w ↦ absurd (not (subst (λ (y : ℕ). IsAmong y m.pass.survivors) (sym w.0) survivor))
         ];
       }
+
+  -- an object or a tombstone stands behind the survivor's opening
+  images_copied : (e : Entry) → is_data e ≡ true → (z : ℕ) → IsAmong z (log_ids d m)
+      → IsImage d.config.master z (i.log.texts.text z) (grown m.images s e z)
+  images_copied e is = one_image d m i.log.texts s (m.images s ++ e ∷ []) i.images
+      (λ c. image_longer d.config.master s (i.log.texts.text s) (m.images s) (e ∷ []) (rw is refl) (i.images s c))
 
   -- no repair sealed a survivor
   repaired_then : (e : Entry) (index : Index)
@@ -135,15 +118,19 @@ module _ (d : FailData) (m : FailMemory) (p : Shown) (i : IsIntact d m p) (first
             (live_passing log m.pass m.index contents first rest i.tracked passing_first victim s survivor o.key f.has
             f.present named index to);
         around = around_copied (Object o) (among_at _ _ _ at);
+        images = images_copied (Object o) refl;
         repaired = repaired_then (Object o) index;
+        whole = i.whole;
         chosen = i.chosen;
         sealing = sealing_then (grown m.images s (Object o)) index;
         rolling = rolling_then (grown m.images s (Object o)) index;
         committed = λ c. absurd (not_done (i.committed c).done);
-        waiting = record { out = i.waiting.out; below = i.waiting.below; held = i.waiting.held };
+        waiting = record { out = i.waiting.out; below = i.waiting.below; real = i.waiting.real };
         recorded = i.recorded;
         repairs = i.repairs;
         real = i.real;
+        past = i.past;
+        before = i.before;
       }
 
   carried : (t : TombstoneValue) → StandsAt m.images first (Tombstone t)
@@ -153,15 +140,19 @@ module _ (d : FailData) (m : FailMemory) (p : Shown) (i : IsIntact d m p) (first
     tracked = grave_copied log m.pass m.index (map_of d) first rest i.tracked passing_first victim s survivor t at;
     passing = grave_passing log m.pass m.index (map_of d) first rest i.tracked passing_first victim s survivor t at;
     around = around_copied (Tombstone t) (among_at _ _ _ at);
+    images = images_copied (Tombstone t) refl;
     repaired = repaired_then (Tombstone t) m.index;
+    whole = i.whole;
     chosen = i.chosen;
     sealing = sealing_then (grown m.images s (Tombstone t)) m.index;
     rolling = rolling_then (grown m.images s (Tombstone t)) m.index;
     committed = λ c. absurd (not_done (i.committed c).done);
-    waiting = record { out = i.waiting.out; below = i.waiting.below; held = i.waiting.held };
+    waiting = record { out = i.waiting.out; below = i.waiting.below; real = i.waiting.real };
     recorded = i.recorded;
     repairs = i.repairs;
     real = i.real;
+    past = i.past;
+    before = i.before;
   }
 
   dropped : (e : Entry) → StandsAt m.images first e
@@ -173,15 +164,19 @@ module _ (d : FailData) (m : FailMemory) (p : Shown) (i : IsIntact d m p) (first
     tracked = i.tracked;
     passing = dropped_passing log m.pass m.index (map_of d) first rest i.tracked passing_first victim e at unnamed gone;
     around = i.around;
+    images = i.images;
     repaired = i.repaired;
+    whole = i.whole;
     chosen = i.chosen;
     sealing = sealing_then m.images m.index;
     rolling = rolling_then m.images m.index;
     committed = λ c. absurd (not_done (i.committed c).done);
-    waiting = record { out = i.waiting.out; below = i.waiting.below; held = i.waiting.held };
+    waiting = record { out = i.waiting.out; below = i.waiting.below; real = i.waiting.real };
     recorded = i.recorded;
     repairs = i.repairs;
     real = i.real;
+    past = i.past;
+    before = i.before;
   }
 
   -- the entry at the cursor, whichever it is

@@ -7,7 +7,7 @@ use Rattle.log_model.specs.Data.{Start}
 use Rattle.clean_model.specs.Memory.{new_ids, LogSet}
 use Rattle.clean_model.proofs.LogSetChanges.{IsMore, more_tracked, more_passing, more_around}
 use Rattle.failover_model.specs.Shown.{Shown}
-use Rattle.failover_model.specs.Data.{Mode, FailData, new_of, state_of}
+use Rattle.failover_model.specs.Data.{Mode, FailData, new_of, is_failing, state_of}
 use Rattle.failover_model.specs.Log.{IsKept}
 use Rattle.failover_model.specs.Steps.{ids_now, ended, EndsRoll, IsKnown}
 use Rattle.failover_model.proofs.Ending.{ending_is_held, ending_is_standing}
@@ -15,7 +15,9 @@ use Rattle.failover_clean.specs.Covered.{map_of}
 use Rattle.failover_clean.specs.Intact.{IsIntact}
 use Rattle.failover_clean.specs.Laws.{EndKeeps}
 use Rattle.failover_clean.specs.Memory.{FailMemory, log_ids, log_set_of}
+use Rattle.failover_clean.specs.Past.{past_after}
 use Rattle.failover_clean.proofs.Ids.{ids_out, in_digest, in_survivors, now_out, now_own, now_others, new_in, new_one}
+use Rattle.failover_clean.proofs.Pasts.{ended_past}
 use Rattle.failover_clean.proofs.Sealed.{still_sealed}
 
 module _ (d : FailData) (m : FailMemory) (p : Shown) (n : Start) (mode : Mode) (i : IsIntact d m p)
@@ -44,6 +46,12 @@ module _ (d : FailData) (m : FailMemory) (p : Shown) (n : Start) (mode : Mode) (
 
   pub some : n.id ≡ 0 → ⊥
   some none = let newer = i.log.held.logged.newer n (inl is_new) in omega arith
+
+  pub was_failing : is_failing mode ≡ true → is_failing d.mode ≡ true
+  was_failing fails = elim ends.may as (λ _. is_failing d.mode ≡ true) [
+    | inl calm ↦ (let never : false ≡ true = sym (ap is_failing calm.1) ∙ fails in absurd (cc))
+    | inr closes ↦ ap is_failing closes.0
+  ]
 
   module _ (ordinary : m.commits ≡ false) where
     others_are : n.others ≡ ids_now d.head.start
@@ -99,8 +107,10 @@ module _ (d : FailData) (m : FailMemory) (p : Shown) (n : Start) (mode : Mode) (
       passing = more_passing log new more m.pass i.passing.survivors_count m.index m.rest i.passing
           (λ q t victim at named. from_last t.segment named);
       around = more_around log new more m.pass i.passing.survivors_count (map_of d) (state_of d).safe d.next d.next
-          i.around (omega arith) (λ s c. inl (from_last s c)) (λ s f c. inl (from_last s c));
+          i.around (omega arith) (λ s c. inl (from_last s c));
+      images = λ s c. i.images s (from_last s c);
       repaired = i.repaired;
+      whole = record { one = i.whole.one; failed = λ fails. i.whole.failed (was_failing fails) };
       chosen = record {
         victims = λ s victim. subst (IsAmong s) (sym others_are)
             (now_others d.head.start s i.log.held.logged.head.below (i.chosen.victims s victim));
@@ -118,11 +128,13 @@ module _ (d : FailData) (m : FailMemory) (p : Shown) (n : Start) (mode : Mode) (
       waiting = record {
         out = λ w at c. i.waiting.out w at (from_last w.segment c);
         below = i.waiting.below;
-        held = i.waiting.held;
+        real = λ w at. some;
       };
       recorded = λ x is. absurd (never_new x is);
       repairs = λ _. i.recorded n is_new;
       real = λ _. some;
+      past = past_after d i.past;
+      before = ended_past d p n mode i.log i.past ends i.before;
     }
 
 pub end_keeps : EndKeeps

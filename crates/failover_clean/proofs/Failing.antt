@@ -1,5 +1,5 @@
 -- A backup's failure leaves all intact, and the end of a failover.
-use Rattle.std.proofs.Common.{ℕ, ◌⊎◌, inl, inr, false, List, refl, sym, ap, subst, ◌∙◌}
+use Rattle.std.proofs.Common.{◌≡◌, ℕ, ◌⊎◌, inl, inr, false, List, [], ◌∷◌, refl, sym, ap, subst, ◌∙◌}
 use Rattle.entry.specs.declared.key.Key.{Key}
 use Rattle.entry.specs.declared.entry.Entry.{Entry}
 use Rattle.entry.specs.declared.entry.Entry.TheVariants.{Object, Tombstone}
@@ -14,13 +14,13 @@ use Rattle.failover_model.specs.Shown.{Shown}
 use Rattle.failover_model.specs.Data.{Calm, FailData, new_of, state_of}
 use Rattle.failover_model.specs.Steps.{failing, MayFail}
 use Rattle.failover_model.proofs.Failing.{failing_is_held, failing_is_standing, mended_is_held, mended_is_standing}
-use Rattle.failover_model.proofs.Lists.{has_fewer}
 use Rattle.failover_clean.specs.Covered.{map_of}
 use Rattle.failover_clean.specs.Intact.{IsIntact}
 use Rattle.failover_clean.specs.Laws.{FailKeeps, MendKeeps}
 use Rattle.failover_clean.specs.Memory.{FailMemory, entries_in, log_ids, log_set_of}
 use Rattle.failover_clean.specs.Steps.{stopped}
 use Rattle.failover_clean.proofs.Ids.{ids_out, in_digest, in_survivors, now_others, new_given}
+use Rattle.failover_clean.proofs.Pasts.{failing_past, mended_past}
 use Rattle.failover_clean.proofs.Sealed.{still_sealed}
 use Rattle.failover_clean.proofs.Taking.{moved_on}
 
@@ -69,7 +69,7 @@ module _ (log : LogSet) (left : List ℕ) (within : (s : ℕ) → IsAmong s left
     below = λ s c. is.below s (within s c);
     named_below = λ s t c. is.named_below s t (within s c);
     versions = λ k h s f m. is.versions k h s f (was_in s f m);
-    texted = λ s e c. is.texted s e (within s c);
+    texted = λ s e k c. is.texted s e k (within s c);
   }
 
 -- ---- a failure
@@ -103,9 +103,12 @@ module _ (d : FailData) (m : FailMemory) (p : Shown) (b : ℕ) (i : IsIntact d m
             subst (λ (es : List Entry). IsAmong f es)
             (ap (entries_in i.log.texts) (sym n.2)
             ∙ ap (λ (t : Text). t.entries) (i.log.held.logged.new_text n.0 (inl n.1)))
-            (i.around.texted s f c (λ survivor. i.chosen.not_new s n.0 survivor n.1 n.2) a)))
+            (i.around.texted s f k c (λ survivor. i.chosen.not_new s n.0 survivor n.1 n.2) at a)))
         | inr (inr l) ↦ inl (in_survivors e (stopped m) s l)
       ]
+
+  some : b ∷ d.failed ≡ [] → ⊥
+  some none = cc
 
   failed : IsIntact e (stopped m) p
   failed = record {
@@ -125,7 +128,9 @@ module _ (d : FailData) (m : FailMemory) (p : Shown) (b : ℕ) (i : IsIntact d m
       carried = λ q t victim at named. i.passing.carried q t victim at (within t.segment named);
     };
     around = left_around log left within stays m.pass (map_of d) (state_of d).safe d.next i.around;
+    images = λ s c. i.images s (within s c);
     repaired = i.repaired;
+    whole = record { one = λ none. absurd (some none); failed = λ fails none. some none };
     chosen = record {
       victims = i.chosen.victims;
       some = i.chosen.some;
@@ -139,11 +144,13 @@ module _ (d : FailData) (m : FailMemory) (p : Shown) (b : ℕ) (i : IsIntact d m
     waiting = record {
       out = λ w at c. i.waiting.out w at (within w.segment c);
       below = i.waiting.below;
-      held = λ w at works. i.waiting.held w at (has_fewer b w.backup d.failed works);
+      real = i.waiting.real;
     };
     recorded = λ n never. absurd (cc);
     repairs = λ never. absurd (cc);
     real = λ is. absurd (elim is as (λ _. ⊥) [ inl calm ↦ cc | inr repairs ↦ cc ]);
+    past = i.past;
+    before = failing_past d i.log.texts b i.past i.before;
   }
 
 pub fail_keeps : FailKeeps
@@ -154,6 +161,7 @@ fail_keeps d m p b i may = failed d m p b i may
 pub mend_keeps : MendKeeps
 mend_keeps d m p i known repairs =
     moved_on d m p i d.counts d.shut d.took Calm p (sym (ap new_of repairs)) (λ _. inr repairs) (λ never. absurd (cc))
-    (λ s b no took. took) (λ b s no. refl) (λ b s some. some)
+    (λ never. absurd (cc)) (λ s b no took. took) (λ b s no. refl)
     (mended_is_held d i.log.texts p i.log.held known repairs)
     (mended_is_standing d i.log.texts p i.log.held i.log.standing known repairs)
+    (mended_past d i.log.texts i.past repairs i.before)

@@ -1,35 +1,43 @@
 -- Of a new master of which nothing is held all is intact.
 use Rattle.std.proofs.Common.{◌≡◌, ℕ, inl, inr, List, [], Some, refl, sym, ap, subst, ◌∙◌, arith}
 use Rattle.std.proofs.lemmas.Option.{same_Some}
+use Rattle.entry.specs.declared.key.Key.{Key}
 use Rattle.entry.specs.declared.entry.Entry.{Entry}
-use Rattle.entry.specs.declared.entry.Entry.TheVariants.{Object}
+use Rattle.entry.specs.declared.entry.Entry.TheVariants.{Object, Tombstone}
 use Rattle.entry.specs.Bag.{IsAmong}
+use Rattle.entry.specs.Meaning.{IsOfKey}
 use Rattle.log_model.specs.Data.{Start}
 use Rattle.clean_model.specs.Memory.{SegmentHas}
 use Rattle.clean_model.proofs.NoPass.{none_passing, none_chosen}
 use Rattle.failover_model.specs.Text.{Text}
 use Rattle.failover_model.specs.Shown.{Shown}
-use Rattle.failover_model.specs.Data.{FailConfig}
+use Rattle.failover_model.specs.Data.{opening_for, bare, FailConfig}
 use Rattle.failover_model.specs.Log.{IsKept}
 use Rattle.failover_model.specs.Steps.{restored_start, fresh, MayBegin}
-use Rattle.failover_model.proofs.NewMaster.{fresh_is_kept}
+use Rattle.failover_model.proofs.NewMaster.{texts_of, first_held, fresh_standing}
 use Rattle.failover_clean.specs.Laws.{FreshIsIntact}
-use Rattle.failover_clean.specs.Memory.{entries_in, log_ids, log_set_of}
+use Rattle.failover_clean.specs.Memory.{FailMemory, entries_in, log_ids, log_set_of}
 use Rattle.failover_clean.specs.Steps.{first_memory}
+use Rattle.failover_clean.proofs.Openings.{IsImage, no_keys, image_bare}
+use Rattle.failover_clean.proofs.Pasts.{fresh_past}
 
 module _ (c : FailConfig) (p : Shown) (may : MayBegin c p) where
-  abbrev log : IsKept (fresh c) p
-  log = (fresh_is_kept c p may).0
-
-  one : (s : ℕ) → IsAmong s (log_ids (fresh c) first_memory) → 1 ≡ s
-  one s l = elim l [ inl same ↦ same | inr never ↦ absurd never ]
-
   abbrev first : Start
   first = restored_start c.format 1
 
-  no_entry : (s : ℕ) (e : Entry) → SegmentHas (log_set_of (fresh c) first_memory log.texts) s e → ⊥
-  no_entry s e m = elim m.among as (λ _. ⊥) [
-    | inl a ↦ a
+  abbrev log : IsKept (fresh c) p
+  log = record { texts = texts_of c 1; held = first_held c 1 p may; standing = fresh_standing c p may }
+
+  abbrev memory : FailMemory
+  memory = first_memory c 1
+
+  one : (s : ℕ) → IsAmong s (log_ids (fresh c) memory) → 1 ≡ s
+  one s l = elim l [ inl same ↦ same | inr never ↦ absurd never ]
+
+  -- the first head has nothing behind its opening
+  no_entry : (s : ℕ) (e : Entry) (k : Key) → SegmentHas (log_set_of (fresh c) memory log.texts) s e → IsOfKey k e → ⊥
+  no_entry s e k m at = elim m.among as (λ _. ⊥) [
+    | inl a ↦ no_keys c.master 1 (Some (opening_for first)) e k a at
     | inr t ↦ subst (λ (es : List Entry). IsAmong e es)
         (ap (entries_in log.texts) (sym (one s m.counts))
         ∙ ap (λ (x : Text). x.entries) (log.held.logged.new_text first (inl refl))) t
@@ -42,21 +50,25 @@ pub fresh_is_intact : FreshIsIntact
 fresh_is_intact c p may = record {
   log = log c p may;
   tracked = record {
-    clean = λ o q a b. absurd (no_entry c p may a.0 (Object o) a.1);
+    clean = λ o q a b. absurd (no_entry c p may a.0 (Object o) o.key a.1 refl);
     highest = λ k x h. absurd (cc);
     found = λ k x h. absurd (cc);
     unindexed = λ k h. refl;
     lies = λ k x q h. absurd (cc);
-    buried = λ s o m. absurd (no_entry c p may s (Object o) m);
+    buried = λ s o m. absurd (no_entry c p may s (Object o) o.key m refl);
   };
   passing = none_passing _ _ _ _;
   around = record {
     below = λ s l. let same = one c p may s l in omega arith;
-    named_below = λ s t l m. absurd m;
-    versions = λ k h s f m at. absurd (no_entry c p may s f m);
-    texted = λ s e l not m. absurd m;
+    named_below = λ s t l m.
+        absurd (no_entry c p may s (Tombstone t) t.key (record { counts = l; among = inl m }) refl);
+    versions = λ k h s f m at. absurd (no_entry c p may s f k m at);
+    texted = λ s e k l not at m. absurd (no_entry c p may s e k (record { counts = l; among = inl m }) at);
   };
-  repaired = λ s es k e sealed at never. absurd never;
+  images = λ s l. subst (λ (y : ℕ). IsImage c.master y ((log c p may).texts.text y) ((memory c p may).images y))
+      (one c p may s l) (image_bare c.master 1 (bare (first c p may)));
+  repaired = λ s es k e never. absurd never;
+  whole = record { one = λ none s. refl; failed = λ never. absurd (cc) };
   chosen = none_chosen _ _;
   sealing = record {
     bare = λ s never. absurd never;
@@ -69,10 +81,12 @@ fresh_is_intact c p may = record {
   waiting = record {
     out = λ w never. absurd never;
     below = λ w never. absurd never;
-    held = λ w never. absurd never;
+    real = λ w never. absurd never;
   };
   recorded = λ n is.
       let safe = ap (λ (x : Start). x.safe) (same_Some (restored_start c.format 1) n is) in omega arith;
   repairs = λ never. absurd (cc);
   real = λ mode none. absurd (elim mode as (λ _. ⊥) [ inl calm ↦ cc | inr repairs ↦ cc ]);
+  past = [];
+  before = fresh_past c (log c p may).texts;
 }

@@ -12,21 +12,25 @@ use Rattle.entry.proofs.BagLemmas.{among_push, among_left}
 use Rattle.log_model.specs.Data.{Start, entries_of}
 use Rattle.log_model.specs.Ids.{has}
 use Rattle.clean_model.specs.Memory.{LogSet, new_ids}
-use Rattle.failover_model.specs.Shown.{Shown, Op, taken}
-use Rattle.failover_model.specs.Data.{FailData, new_of, state_of}
+use Rattle.failover_model.specs.Text.{Text}
+use Rattle.failover_model.specs.Shown.{Shown, Seal, Op, On, taken}
+use Rattle.failover_model.specs.Data.{FailData, new_of, is_failing, state_of}
 use Rattle.failover_model.specs.Log.{Texts, BasesStand, IsLogHeld, IsStanding}
 use Rattle.failover_model.specs.Steps.{with_taken, Reseals, texts_resealed}
 use Rattle.failover_model.proofs.Images.{between_stands}
 use Rattle.failover_model.proofs.Lists.{taken_either}
-use Rattle.failover_model.proofs.Pictures.{sealed}
 use Rattle.failover_model.proofs.Resealing.{reseals_held, reseals_standing}
 use Rattle.failover_model.proofs.States.{own_entries}
 use Rattle.failover_clean.specs.Intact.{AreRepaired, IsIntact}
 use Rattle.failover_clean.specs.Laws.{ImageIsRepair, RepairKeeps}
-use Rattle.failover_clean.specs.Memory.{FailMemory, entries_in, log_ids, log_set_of}
+use Rattle.failover_clean.specs.Memory.{FailMemory, entries_in, log_ids, log_set_of, data_of}
+use Rattle.failover_clean.specs.Past.{ArePast}
 use Rattle.failover_clean.proofs.Ids.{ids_out, in_digest, now_out, now_others}
+use Rattle.failover_clean.proofs.Openings.{data_in}
+use Rattle.failover_clean.proofs.Pasts.{resealed_past}
 use Rattle.failover_clean.proofs.Sealed.{still_sealed}
-use Rattle.failover_clean.proofs.Taking.{apart, still}
+use Rattle.failover_clean.proofs.Taking.{apart}
+use Rattle.failover_clean.proofs.TextsIn.{data_keyed, image_text}
 
 module _ (d : FailData) (m : FailMemory) (p : Shown) (i : IsIntact d m p) where
   -- another segment of the digest in force is no survivor
@@ -37,28 +41,35 @@ module _ (d : FailData) (m : FailMemory) (p : Shown) (i : IsIntact d m p) where
   other_counts : (s : ℕ) → IsAmong s d.head.start.others → IsAmong s (log_ids d m)
   other_counts s listed = in_digest d m s (now_others d.head.start s i.log.held.logged.head.below listed)
 
-  -- what its image has its text has
-  image_within : (s : ℕ) → IsAmong s d.head.start.others → (e : Entry) → IsAmong e (m.images s)
+  -- what its image has of a key its text has
+  image_within : (s : ℕ) → IsAmong s d.head.start.others → (e : Entry) (k : Key) → IsOfKey k e → IsAmong e (m.images s)
       → IsAmong e (entries_in i.log.texts s)
-  image_within s listed e l = i.around.texted s e (other_counts s listed) (other_apart s listed) l
+  image_within s listed e k at l = i.around.texted s e k (other_counts s listed) (other_apart s listed) at l
+
+  data_within : (s : ℕ) → IsAmong s d.head.start.others → (e : Entry) → IsAmong e (data_of m s)
+      → IsAmong e (entries_in i.log.texts s)
+  data_within s listed e l =
+      let is = data_keyed e (m.images s) l in image_within s listed e is.key is.of_key is.among
 
 pub image_is_repair : ImageIsRepair
 image_is_repair d m p s b i may = record {
   b = b;
   s = s;
-  image = m.images s;
+  image = data_of m s;
   mode = may.mode;
   listed = may.listed;
   works = may.works;
   apart = may.apart;
   few = may.few;
-  within = image_within d m p i s may.listed;
-  op = refl;
+  within = data_within d m p i s may.listed;
+  op = ap (λ (t : Text). On b s (Seal t))
+      (image_text d.config.master s (i.log.texts.text s) (m.images s)
+      (i.images s (other_counts d m p i s may.listed)));
   gives = refl;
 }
 
 module _ (d e : FailData) (m : FailMemory) (p q : Shown) (o : Op) (i : IsIntact d m p)
-    (is : Reseals d i.log.texts o e) (of_image : is.image ≡ m.images is.s) (within : is.b < d.config.backups)
+    (is : Reseals d i.log.texts o e) (of_image : is.image ≡ data_of m is.s) (within : is.b < d.config.backups)
     (took : taken p o ≡ Some q) where
   abbrev old : Texts
   old = i.log.texts
@@ -80,7 +91,7 @@ module _ (d e : FailData) (m : FailMemory) (p q : Shown) (o : Op) (i : IsIntact 
     | inl same ↦ elim (subst (λ (ys : List (List Entry)). IsAmong xs ys) (ap now.images same ∙ images_here) at_one)
         as (λ _. IsAmong f xs) [
           | inl new ↦ subst (λ (ys : List Entry). IsAmong f ys)
-              (ap m.images same ∙ sym of_image ∙ new) l
+              (ap (data_of m) same ∙ sym of_image ∙ new) (data_in f k (m.images z) of l)
           | inr before ↦ i.repaired z xs k f
               (subst (λ (y : ℕ). IsAmong xs (old.images y)) (sym same) before) of l
         ]
@@ -111,7 +122,8 @@ module _ (d e : FailData) (m : FailMemory) (p q : Shown) (o : Op) (i : IsIntact 
       (record {
         counts = λ z c. other_counts d m p i z c;
         image = λ z es k f c variant of l. elim variant as (λ _. IsAmong f es) [
-          | inl text ↦ subst (λ (xs : List Entry). IsAmong f xs) (sym text) (image_within d m p i z c f l)
+          | inl text ↦ subst (λ (xs : List Entry). IsAmong f xs) (sym text)
+              (image_within d m p i z c f k of l)
           | inr image ↦ repaired z es k f image of l
         ];
         text = λ z es k f c variant of l. elim variant as (λ _. IsAmong f (entries_in old z)) [
@@ -129,8 +141,8 @@ module _ (d e : FailData) (m : FailMemory) (p q : Shown) (o : Op) (i : IsIntact 
                     | inl other ↦ inl other
                     | inr own ↦ inr (inr (λ k f of a.
                         subst (λ (xs : List Entry). IsAmong f xs) (ap (entries_in old) (sym own) ∙ head_bare)
-                        (i.around.texted z f c (λ survivor. i.chosen.outside z survivor (now_out d.head.start z l).0)
-                        a)))
+                        (i.around.texted z f k c (λ survivor. i.chosen.outside z survivor (now_out d.head.start z l).0)
+                        of a)))
                   ]
               | inr (inl l) ↦ absurd (subst (λ (x : Option Start). IsAmong z (new_ids x)) no_new l)
               | inr (inr l) ↦ inr (inl l)
@@ -149,13 +161,18 @@ module _ (d e : FailData) (m : FailMemory) (p q : Shown) (o : Op) (i : IsIntact 
   made : (taken_now : ℕ → List ℕ) → IsLogHeld (record d { took = taken_now }) now q
       → IsStanding (record d { took = taken_now }) now
       → ((z b : ℕ) → IsAmong z m.pass.survivors → has (taken_now z) b ≡ true → has (d.took z) b ≡ true)
-      → IsIntact (record d { took = taken_now }) m q
-  made taken_now held standing took_same = record {
+      → ArePast (record d { took = taken_now }) now i.past → IsIntact (record d { took = taken_now }) m q
+  made taken_now held standing took_same before = record {
     log = record { texts = now; held = held; standing = standing };
     tracked = i.tracked;
     passing = i.passing;
     around = i.around;
+    images = i.images;
     repaired = repaired;
+    whole = record {
+      one = λ none. absurd (i.whole.failed (ap is_failing is.mode) none);
+      failed = i.whole.failed;
+    };
     chosen = i.chosen;
     sealing = still_sealed d (record d { took = taken_now }) m old now p q m.images m.index m.commits i.sealing
         (λ z survivor. refl) (λ z survivor. refl) (λ z survivor. images_there z (survivor_apart z survivor))
@@ -163,23 +180,21 @@ module _ (d e : FailData) (m : FailMemory) (p q : Shown) (o : Op) (i : IsIntact 
     rolling = i.rolling;
     committed = λ c.
         let was = i.committed c in record { real = was.real; done = was.done; images = was.images };
-    waiting = record {
-      out = i.waiting.out;
-      below = i.waiting.below;
-      held = λ w at works. still p q is.b s _ o is.op took
-          (λ x given. (_, (sealed _ (p.holds is.b s) x given).1)) w.backup w.segment (i.waiting.held w at works);
-    };
+    waiting = record { out = i.waiting.out; below = i.waiting.below; real = i.waiting.real };
     recorded = i.recorded;
     repairs = i.repairs;
     real = i.real;
+    past = i.past;
+    before = before;
   }
 
 pub repair_keeps : RepairKeeps
 repair_keeps d e m p q o i is of_image within took =
     let held = both_held d e m p q o i is of_image within took in
     let stand = both_stand d e m p q o i is of_image within took in
-    let now = texts_resealed i.log.texts is in (
-      made d e m p q o i is of_image within took d.took held.0 stand.0 (λ z b survivor has_it. has_it),
+    let now = texts_resealed i.log.texts is in
+    let before = resealed_past d e i.log.texts o i.past is i.before in (
+      made d e m p q o i is of_image within took d.took held.0 stand.0 (λ z b survivor has_it. has_it) before.0,
       subst (λ (x : FailData). IsIntact x m q) (sym is.gives)
           (made d e m p q o i is of_image within took (with_taken d.took is.s is.b)
           (subst (λ (x : FailData). IsLogHeld x now q) is.gives held.1)
@@ -187,5 +202,6 @@ repair_keeps d e m p q o i is of_image within took =
           (λ z b survivor has_it. elim (taken_either d.took is.s is.b z b has_it) as (λ _. has (d.took z) b ≡ true) [
             | inl at ↦ absurd (survivor_apart d e m p q o i is of_image within took z survivor at.0)
             | inr old ↦ old
-          ])),
+          ])
+          (subst (λ (x : FailData). ArePast x now i.past) is.gives before.1)),
     )

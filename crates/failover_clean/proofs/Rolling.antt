@@ -1,44 +1,52 @@
 -- A roll that begins leaves all intact, or the third part of a failover.
 use Rattle.std.proofs.Common.{◌≡◌, ℕ, ◌<◌, ◌≤◌, ◌⊎◌, inl, inr, Bool, true, false, List, [], Some, refl, sym, ap, subst}
 use Rattle.std.proofs.Common.{◌∙◌, arith}
-use Rattle.std.specs.Prelude.{Option, None}
+use Rattle.std.specs.Prelude.{Option, None, filter}
 use Rattle.std.proofs.lemmas.Bool.{cases_eq}
 use Rattle.std.proofs.lemmas.Option.{same_Some}
 use Rattle.entry.specs.declared.key.Key.{Key}
 use Rattle.entry.specs.declared.entry.Entry.{Entry}
 use Rattle.entry.specs.Bag.{IsAmong}
 use Rattle.entry.specs.Meaning.{IsOfKey}
-use Rattle.log_model.specs.Data.{Start}
+use Rattle.entry.specs.Text.{is_data}
+use Rattle.log_model.specs.Data.{Start, start_entries}
 use Rattle.log_model.specs.Ids.{has}
+use Rattle.log_model.proofs.Segments.{no_keys}
 use Rattle.clean_model.specs.Memory.{new_ids, LogSet}
 use Rattle.clean_model.proofs.Lists.{among_at, image_here, image_there}
 use Rattle.clean_model.proofs.LogSetChanges.{IsMore, more_tracked, more_passing, more_around}
 use Rattle.failover_model.specs.Text.{Text}
 use Rattle.failover_model.specs.Shown.{Shown}
-use Rattle.failover_model.specs.Data.{bare, Mode, Calm, Rolls, Opens, Repairs, FailData, HasTaken, new_of, state_of}
+use Rattle.failover_model.specs.Data.{bare, Mode, Calm, Rolls, Opens, Repairs, FailData, HasTaken, new_of, is_failing}
+use Rattle.failover_model.specs.Data.{state_of}
 use Rattle.failover_model.specs.Log.{Texts, BasesStand, IsKept}
 use Rattle.failover_model.specs.Steps.{rolling, texts_rolling, IsRoll, next_start}
 use Rattle.failover_model.proofs.Rolling.{rolling_is_held, rolling_is_standing, mode_new}
 use Rattle.failover_model.proofs.Rolling as rolls
-use Rattle.failover_model.proofs.Texts.{new_there, new_other, new_images}
+use Rattle.failover_model.proofs.Texts.{new_there, new_none, new_other, new_images}
 use Rattle.failover_model.proofs.Turning.{ordinary_is_roll, ordinary_stands}
 use Rattle.failover_clean.specs.Covered.{map_of}
-use Rattle.failover_clean.specs.Intact.{IsCommitting, AreRepaired, IsRollOf, IsIntact}
+use Rattle.failover_clean.specs.Intact.{IsCommitting, AreRepaired, AreUnrepaired, IsRollOf, IsIntact}
 use Rattle.failover_clean.specs.Laws.{RollKeeps}
-use Rattle.failover_clean.specs.Memory.{FailMemory, entries_in, log_ids, log_set_of}
+use Rattle.failover_clean.specs.Memory.{FailMemory, entries_in, log_ids, log_set_of, AreImages}
 use Rattle.failover_clean.specs.Steps.{rolled}
 use Rattle.failover_clean.proofs.Ids.{ids_out, in_digest, in_survivors, new_one}
+use Rattle.failover_clean.proofs.Openings.{IsImage, image_still}
+use Rattle.failover_clean.proofs.Pasts.{rolling_past}
 use Rattle.failover_clean.proofs.Sealed.{still_sealed}
 
 module _ (d : FailData) (m : FailMemory) (p : Shown) (i : IsIntact d m p) (n : Start) (mode : Mode) (commits : Bool)
     (roll : IsRoll d i.log.texts p n mode) (stands : BasesStand i.log.texts n (state_of d))
-    (which : IsRollOf d (rolled m n commits) n)
+    (which : IsRollOf d (rolled d m n commits) n)
     (safe : (state_of d).safe ≤ n.safe) (committed : commits ≡ true → IsCommitting d m i.log.texts) where
   abbrev e : FailData
   e = rolling d n mode
 
   abbrev memory : FailMemory
-  memory = rolled m n commits
+  memory = rolled d m n commits
+
+  abbrev opening : List Entry
+  opening = start_entries d.config.master n
 
   abbrev old : Texts
   old = i.log.texts
@@ -85,8 +93,8 @@ module _ (d : FailData) (m : FailMemory) (p : Shown) (i : IsIntact d m p) (n : S
     | inr (inr l) ↦ in_survivors e memory s l
   ]
 
-  no_image : (s : ℕ) → s ≡ n.id → memory.images s ≡ []
-  no_image s same = ap memory.images same ∙ image_here m.images n.id []
+  new_image : (s : ℕ) → s ≡ n.id → memory.images s ≡ opening
+  new_image s same = ap memory.images same ∙ image_here m.images n.id opening
 
   no_text : (s : ℕ) → s ≡ n.id → entries_in now s ≡ []
   no_text s same = ap (entries_in now) same ∙ ap (λ (t : Text). t.entries) (new_there old n.id (bare n))
@@ -94,13 +102,13 @@ module _ (d : FailData) (m : FailMemory) (p : Shown) (i : IsIntact d m p) (n : S
   more : IsMore log new
   more = record {
     counted = still_id;
-    image = λ s c. image_there m.images n.id [] s (older s c);
+    image = λ s c. image_there m.images n.id opening s (older s c);
     text = λ s c. ap (λ (t : Text). t.entries) (new_other old n.id (bare n) s (older s c));
     blank = λ s c. elim (either_id s c) as (λ _. IsAmong s (log_ids d m)
         ⊎ ((f : Entry) (k : Key) → IsOfKey k f → IsAmong f (new.image s) ⊎ IsAmong f (new.text s) → ⊥)) [
           | inl l ↦ inl l
           | inr same ↦ inr (λ f k at l. elim l as (λ _. ⊥) [
-            | inl a ↦ subst (λ (es : List Entry). IsAmong f es) (no_image s same) a
+            | inl a ↦ no_keys d.config.master n f k (subst (λ (es : List Entry). IsAmong f es) (new_image s same) a) at
             | inr a ↦ subst (λ (es : List Entry). IsAmong f es) (no_text s same) a
           ])
         ];
@@ -108,11 +116,40 @@ module _ (d : FailData) (m : FailMemory) (p : Shown) (i : IsIntact d m p) (n : S
 
   repaired : AreRepaired memory now
   repaired s xs k f sealed at l = elim (cases_eq s n.id) as (λ _. IsAmong f xs) [
-    | inl same ↦ absurd (subst (λ (es : List Entry). IsAmong f es) (no_image s same) l)
+    | inl same ↦ absurd (subst (λ (ys : List (List Entry)). IsAmong xs ys)
+        (ap now.images same ∙ new_none old n.id (bare n)) sealed)
     | inr other ↦ i.repaired s xs k f
         (subst (λ (ys : List (List Entry)). IsAmong xs ys) (new_images old n.id (bare n) s other) sealed) at
-        (subst (λ (es : List Entry). IsAmong f es) (image_there m.images n.id [] s other) l)
+        (subst (λ (es : List Entry). IsAmong f es) (image_there m.images n.id opening s other) l)
   ]
+
+  -- ---- images
+
+  -- the image begins as its text does
+  abbrev IsBegun : ℕ → Type 0
+  IsBegun z = IsImage d.config.master z (now.text z) (memory.images z)
+
+  images : AreImages e memory now
+  images s c = elim (either_id s c) as (λ _. IsBegun s) [
+    | inl l ↦ image_still d.config.master s (old.text s) (now.text s) (m.images s) (memory.images s)
+        (ap (λ (t : Text). t.opening) (new_other old n.id (bare n) s (older s l)))
+        (image_there m.images n.id opening s (older s l)) (i.images s l)
+    | inr same ↦ subst (λ (z : ℕ). IsBegun z) (sym same)
+        (image_still d.config.master n.id (bare n) (now.text n.id) opening (memory.images n.id)
+        (ap (λ (t : Text). t.opening) (new_there old n.id (bare n))) (new_image n.id refl) refl)
+  ]
+
+  whole : AreUnrepaired e now
+  whole = record {
+    one = λ none s. elim (cases_eq s n.id) as (λ _. now.images s ≡ []) [
+      | inl same ↦ ap now.images same ∙ new_none old n.id (bare n)
+      | inr other ↦ new_images old n.id (bare n) s other ∙ i.whole.one none s
+    ];
+    failed = λ fails none. elim roll.may as (λ _. ⊥) [
+      | inl calm ↦ (let never : false ≡ true = sym (ap is_failing calm.1) ∙ fails in cc)
+      | inr mends ↦ i.whole.failed (ap is_failing mends.0) none
+    ];
+  }
 
   -- ---- survivors
 
@@ -141,13 +178,10 @@ module _ (d : FailData) (m : FailMemory) (p : Shown) (i : IsIntact d m p) (n : S
         (λ s c. elim (either_id s c) as (λ _. IsAmong s (log_ids d m) ⊎ (s < e.next)) [
           | inl l ↦ inl l
           | inr same ↦ (let next = roll.next in inr (omega arith))
-        ])
-        (λ s f c. elim (either_id s c)
-        as (λ _. IsAmong s (log_ids d m) ⊎ (IsAmong f (new.image s) → IsAmong f (new.text s))) [
-          | inl l ↦ inl l
-          | inr same ↦ inr (λ l. absurd (subst (λ (es : List Entry). IsAmong f es) (no_image s same) l))
         ]);
+    images = images;
     repaired = repaired;
+    whole = whole;
     chosen = record {
       victims = i.chosen.victims;
       some = i.chosen.some;
@@ -156,7 +190,7 @@ module _ (d : FailData) (m : FailMemory) (p : Shown) (i : IsIntact d m p) (n : S
           survivor_older s survivor (sym same ∙ ap (λ (y : Start). y.id) (sym (same_Some n x (sym is_new ∙ is))));
     };
     sealing = still_sealed d e m old now p p memory.images m.index commits i.sealing
-        (λ s c. image_there m.images n.id [] s (survivor_older s c))
+        (λ s c. image_there m.images n.id opening s (survivor_older s c))
         (λ s c. new_other old n.id (bare n) s (survivor_older s c))
         (λ s c. new_images old n.id (bare n) s (survivor_older s c)) (λ b s c. refl) took_same;
     committed = λ c.
@@ -166,7 +200,8 @@ module _ (d : FailData) (m : FailMemory) (p : Shown) (i : IsIntact d m p) (n : S
           done = was.done;
           images = λ s survivor.
               ap (λ (t : Text). t.entries) (new_other old n.id (bare n) s (survivor_older s survivor))
-              ∙ was.images s survivor ∙ sym (image_there m.images n.id [] s (survivor_older s survivor));
+              ∙ was.images s survivor
+              ∙ sym (ap (filter is_data) (image_there m.images n.id opening s (survivor_older s survivor)));
         };
     rolling = λ x is. subst (λ (y : Start). IsRollOf d memory y) (same_Some n x (sym is_new ∙ is)) which;
     waiting = record {
@@ -175,7 +210,7 @@ module _ (d : FailData) (m : FailMemory) (p : Shown) (i : IsIntact d m p) (n : S
         | inr same ↦ (let lt = i.waiting.below w at in let next = roll.next in omega arith)
       ];
       below = λ w at. let lt = i.waiting.below w at in omega arith;
-      held = i.waiting.held;
+      real = i.waiting.real;
     };
     recorded = λ x is.
         let same = ap (λ (y : Start). y.safe) (same_Some n x (sym is_new ∙ is)) in omega arith;
@@ -193,6 +228,8 @@ module _ (d : FailData) (m : FailMemory) (p : Shown) (i : IsIntact d m p) (n : S
         | inr at ↦ (let never : Opens n ≡ Repairs = sym mends.1 ∙ at in cc)
       ]
     ]);
+    past = i.past;
+    before = rolling_past d p n mode i.log i.past roll i.before;
   }
 
 pub roll_keeps : RollKeeps

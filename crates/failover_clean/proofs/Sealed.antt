@@ -1,7 +1,8 @@
 -- What backups hold of survivors, through steps that leave these as they are.
 use Rattle.std.proofs.Common.{◌≡◌, ℕ, Bool, sym, ap, subst, ◌∙◌}
-use Rattle.std.specs.Prelude.{Option, IsSome}
+use Rattle.std.specs.Prelude.{Option, IsSome, filter}
 use Rattle.entry.specs.Bag.{IsAmong}
+use Rattle.entry.specs.Text.{is_data}
 use Rattle.clean_model.specs.Memory.{Images, Index}
 use Rattle.failover_model.specs.Text.{Text, Replica}
 use Rattle.failover_model.specs.Shown.{Shown}
@@ -26,7 +27,8 @@ still_sealed d e m texts other p q image index commits is image_same text_same o
       let at = is.each s b r survivor (sym (held_same b s survivor) ∙ there) in
       record {
         done = at.done;
-        image = ap (λ (t : Text). t.entries) (text_same s survivor) ∙ at.image ∙ sym (image_same s survivor);
+        image = ap (λ (t : Text). t.entries) (text_same s survivor) ∙ at.image
+            ∙ sym (ap (filter is_data) (image_same s survivor));
         text = at.text ∙ sym (text_same s survivor);
         closed = at.closed;
       };

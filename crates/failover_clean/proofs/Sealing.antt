@@ -11,7 +11,7 @@ use Rattle.log_model.specs.Ids.{has}
 use Rattle.clean_model.specs.Memory.{LogSet}
 use Rattle.clean_model.proofs.LogSetChanges.{told_in, texts_changed}
 use Rattle.failover_model.specs.Text.{Text, Replica}
-use Rattle.failover_model.specs.Shown.{Shown, Seal, taken}
+use Rattle.failover_model.specs.Shown.{Shown, Seal, Op, On, taken}
 use Rattle.failover_model.specs.Data.{FailData}
 use Rattle.failover_model.specs.Log.{Texts, AreOfTablets, IsLogHeld, IsStanding}
 use Rattle.failover_model.specs.Steps.{with_taken, IsFree, Seals, survivor_text, with_new}
@@ -23,30 +23,25 @@ use Rattle.failover_model.proofs.Texts.{new_there, new_none, new_other, new_imag
 use Rattle.failover_clean.specs.Covered.{map_of}
 use Rattle.failover_clean.specs.Intact.{IsSealed, AreRepaired, IsIntact}
 use Rattle.failover_clean.specs.Laws.{SealKeeps}
-use Rattle.failover_clean.specs.Memory.{FailMemory, entries_in, log_set_of}
+use Rattle.failover_clean.specs.Memory.{FailMemory, entries_in, log_set_of, data_of, text_in}
+use Rattle.failover_clean.specs.Past.{ArePast}
 use Rattle.failover_clean.specs.Steps.{seal_op, MaySeal}
 use Rattle.failover_clean.proofs.Ids.{in_survivors, now_out}
+use Rattle.failover_clean.proofs.Openings.{data_out, image_still}
+use Rattle.failover_clean.proofs.Pasts.{sealed_past}
 use Rattle.failover_clean.proofs.Taking.{still}
+use Rattle.failover_clean.proofs.TextsIn.{image_survivor}
 
-module _ (d : FailData) (m : FailMemory) (p q : Shown) (s b : ℕ) (i : IsIntact d m p) (may : MaySeal d m s b)
-    (within : b < d.config.backups) (took : taken p (seal_op m s b) ≡ Some q) where
-  abbrev e : FailData
-  e = record d { took = with_taken d.took s b }
-
-  abbrev old : Texts
-  old = i.log.texts
-
-  abbrev text : Text
-  text = survivor_text (m.images s)
-
+-- a survivor's image may be sealed
+module _ (d : FailData) (m : FailMemory) (p : Shown) (s b : ℕ) (i : IsIntact d m p) (may : MaySeal d m s b) where
   outside : IsAmong s (ids_of d.head.start) → ⊥
   outside c = i.chosen.outside s may.survivor c
 
   no_abandoned : (n : Start) → IsAmong n d.abandoned → ⊥
   no_abandoned n c = subst (IsAmong n) (i.log.held.logged.settled (settled_if d.mode may.calm)) c
 
-  free : IsFree d s
-  free = record {
+  pub survivor_free : IsFree d s
+  survivor_free = record {
     head = λ same. outside (subst (λ (x : ℕ). IsAmong x (ids_of d.head.start)) (sym same)
         (among_last d.head.start.others d.head.start.id));
     new = λ n is_new same. elim is_new as (λ _. ⊥) [
@@ -63,20 +58,26 @@ module _ (d : FailData) (m : FailMemory) (p q : Shown) (s b : ℕ) (i : IsIntact
   }
 
   -- what a survivor has was copied from a victim, whose text has it
-  keys : AreOfTablets d.config (m.images s)
+  keys : AreOfTablets d.config (data_of m s)
   keys x k l at =
-      let from = i.passing.copies s x k may.survivor l at in
+      let from = i.passing.copies s x k may.survivor (data_out x (m.images s) l) at in
       let counts = i.passing.victims_count from.0 from.1.counts in
-      i.log.held.logged.keys from.0 (entries_in old from.0) (inl refl) x k
-      (i.around.texted from.0 x counts (λ survivor. i.passing.disjoint from.0 survivor from.1.counts) from.1.among) at
+      i.log.held.logged.keys from.0 (entries_in i.log.texts from.0) (inl refl) x k
+      (i.around.texted from.0 x k counts (λ survivor. i.passing.disjoint from.0 survivor from.1.counts) at
+      from.1.among) at
 
-  seals : Seals d old p (seal_op m s b) e
-  seals = record {
+  -- it has no opening
+  pub sealed_text : text_in m s ≡ survivor_text (data_of m s)
+  sealed_text = image_survivor d.config.master s (i.log.texts.text s) (m.images s)
+      (i.images s (in_survivors d m s may.survivor)) (i.sealing.bare s may.survivor)
+
+  pub seals_image : Seals d i.log.texts p (seal_op m s b) (record d { took = with_taken d.took s b })
+  seals_image = record {
     b = b;
     s = s;
-    entries = m.images s;
+    entries = data_of m s;
     calm = may.calm;
-    free = free;
+    free = survivor_free;
     next = i.around.below s (in_survivors d m s may.survivor);
     works = may.works;
     apart = may.apart;
@@ -85,19 +86,42 @@ module _ (d : FailData) (m : FailMemory) (p q : Shown) (s b : ℕ) (i : IsIntact
     one = λ c r there.
         let at = i.sealing.each s c r may.survivor there in ap (λ (t : Text). t.entries) at.text ∙ at.image;
     shut = λ c r there. (i.sealing.each s c r may.survivor there).closed;
-    op = refl;
+    op = ap (λ (t : Text). On b s (Seal t)) sealed_text;
     gives = refl;
   }
+
+module _ (d : FailData) (m : FailMemory) (p q : Shown) (s b : ℕ) (i : IsIntact d m p) (may : MaySeal d m s b)
+    (within : b < d.config.backups) (took : taken p (seal_op m s b) ≡ Some q) where
+  abbrev e : FailData
+  e = record d { took = with_taken d.took s b }
+
+  abbrev old : Texts
+  old = i.log.texts
+
+  abbrev text : Text
+  text = survivor_text (data_of m s)
+
+  abbrev op : Op
+  op = On b s (Seal text)
+
+  op_is : seal_op m s b ≡ op
+  op_is = ap (λ (t : Text). On b s (Seal t)) (sealed_text d m p s b i may)
+
+  took_it : taken p op ≡ Some q
+  took_it = ap (taken p) (sym op_is) ∙ took
+
+  seals : Seals d old p (seal_op m s b) e
+  seals = seals_image d m p s b i may
 
   abbrev now : Texts
   now = with_new old s text
 
   both_held : IsLogHeld d now q × IsLogHeld e now q
-  unfolding seals
+  unfolding seals seals_image
   both_held = seals_held d e old p q (seal_op m s b) i.log.held seals within took
 
   both_stand : IsStanding d now × IsStanding e now
-  unfolding seals
+  unfolding seals seals_image
   both_stand = seals_standing d e old p q (seal_op m s b) i.log.held i.log.standing seals within took
 
   text_here : (z : ℕ) → z ≡ s → now.text z ≡ text
@@ -106,13 +130,21 @@ module _ (d : FailData) (m : FailMemory) (p q : Shown) (s b : ℕ) (i : IsIntact
   text_there : (z : ℕ) → (z ≡ s → ⊥) → now.text z ≡ old.text z
   text_there z other = new_other old s text z other
 
+  -- its opening stays: it has none
+  opening : (z : ℕ) → (now.text z).opening ≡ (old.text z).opening
+  opening z = elim (cases_eq z s) as (λ _. (now.text z).opening ≡ (old.text z).opening) [
+    | inl same ↦ ap (λ (t : Text). t.opening) (text_here z same) ∙ sym (i.sealing.bare s may.survivor)
+        ∙ ap (λ (y : ℕ). (old.text y).opening) (sym same)
+    | inr other ↦ ap (λ (t : Text). t.opening) (text_there z other)
+  ]
+
   abbrev log : LogSet
   log = log_set_of d m old
 
   from : (z : ℕ) (f : Entry) → IsAmong f (entries_in now z) → IsAmong f (m.images z) ⊎ IsAmong f (entries_in old z)
   from z f l = elim (cases_eq z s) as (λ _. IsAmong f (m.images z) ⊎ IsAmong f (entries_in old z)) [
-    | inl same ↦ inl (subst (λ (es : List Entry). IsAmong f es)
-        (ap (λ (t : Text). t.entries) (text_here z same) ∙ ap m.images (sym same)) l)
+    | inl same ↦ inl (data_out f (m.images z) (subst (λ (es : List Entry). IsAmong f es)
+        (ap (λ (t : Text). t.entries) (text_here z same) ∙ ap (data_of m) (sym same)) l))
     | inr other ↦ inr (subst (λ (es : List Entry). IsAmong f es)
         (ap (λ (t : Text). t.entries) (text_there z other)) l)
   ]
@@ -134,10 +166,10 @@ module _ (d : FailData) (m : FailMemory) (p q : Shown) (s b : ℕ) (i : IsIntact
             let bare = i.sealing.bare z survivor in
             let whole : old.text z ≡ text =
             (λ j. record { opening = bare j; entries = at.image j })
-            ∙ ap (λ (y : ℕ). survivor_text (m.images y)) same in
+            ∙ ap (λ (y : ℕ). survivor_text (data_of m y)) same in
             record {
               done = at.done;
-              image = ap (λ (t : Text). t.entries) (text_here z same) ∙ ap m.images (sym same);
+              image = ap (λ (t : Text). t.entries) (text_here z same) ∙ ap (data_of m) (sym same);
               text = at.text ∙ whole ∙ sym (text_here z same);
               closed = at.closed;
             })
@@ -151,7 +183,7 @@ module _ (d : FailData) (m : FailMemory) (p q : Shown) (s b : ℕ) (i : IsIntact
 
   each_then : (z c : ℕ) (r : Replica) → IsAmong z m.pass.survivors → q.holds c z ≡ Some r → IsSealed m now z r
   each_then z c r survivor there =
-      let at = is_taken p q (seal_op m s b) b s (Seal text) refl took in
+      let at = is_taken p q op b s (Seal text) refl took_it in
       let put = (sealed text (p.holds b s) at.x at.given).1 in
       elim (either p.holds b s at.x c z r (sym (ap (λ (w : Shown). w.holds c z) at.same) ∙ there))
       as (λ _. IsSealed m now z r) [
@@ -160,7 +192,7 @@ module _ (d : FailData) (m : FailMemory) (p q : Shown) (s b : ℕ) (i : IsIntact
             let same : z ≡ s = sym new.1 in
             record {
               done = may.done;
-              image = ap (λ (t : Text). t.entries) (text_here z same) ∙ ap m.images (sym same);
+              image = ap (λ (t : Text). t.entries) (text_here z same) ∙ ap (data_of m) (sym same);
               text = sym (ap (λ (x : Replica). x.text) r_is) ∙ sym (text_here z same);
               closed = sym (ap (λ (x : Replica). x.is_open) r_is);
             })
@@ -168,12 +200,12 @@ module _ (d : FailData) (m : FailMemory) (p q : Shown) (s b : ℕ) (i : IsIntact
       ]
 
   kept : (c t : ℕ) → IsSome (p.holds c t) → IsSome (q.holds c t)
-  kept = still p q b s (Seal text) (seal_op m s b) refl took
+  kept = still p q b s (Seal text) op refl took_it
       (λ x given. (_, (sealed text (p.holds b s) x given).1))
 
   held_now : IsSome (q.holds b s)
   held_now =
-      let at = is_taken p q (seal_op m s b) b s (Seal text) refl took in
+      let at = is_taken p q op b s (Seal text) refl took_it in
       let put = (sealed text (p.holds b s) at.x at.given).1 in
       is_some (q.holds b s) (record { text = text; is_open = false })
       (ap (λ (w : Shown). w.holds b s) at.same ∙ changed p.holds b s at.x ∙ put)
@@ -181,8 +213,8 @@ module _ (d : FailData) (m : FailMemory) (p q : Shown) (s b : ℕ) (i : IsIntact
   made : (taken_now : ℕ → List ℕ) → IsLogHeld (record d { took = taken_now }) now q
       → IsStanding (record d { took = taken_now }) now
       → ((z c : ℕ) → IsAmong z m.pass.survivors → has (taken_now z) c ≡ true → IsSome (q.holds c z))
-      → IsIntact (record d { took = taken_now }) m q
-  made taken_now held standing there = record {
+      → ArePast (record d { took = taken_now }) now i.past → IsIntact (record d { took = taken_now }) m q
+  made taken_now held standing there before = record {
     log = record { texts = now; held = held; standing = standing };
     tracked = texts_changed log (entries_in now) from m.pass m.index (map_of d) i.tracked;
     passing = i.passing;
@@ -190,12 +222,21 @@ module _ (d : FailData) (m : FailMemory) (p q : Shown) (s b : ℕ) (i : IsIntact
       below = i.around.below;
       named_below = i.around.named_below;
       versions = λ k h z f l. i.around.versions k h z f (told_in log (entries_in now) from z f l);
-      texted = λ z f c not l. subst (λ (es : List Entry). IsAmong f es)
+      texted = λ z f k c not of l. subst (λ (es : List Entry). IsAmong f es)
           (sym (ap (λ (t : Text). t.entries) (text_there z (λ same.
           not (subst (λ (y : ℕ). IsAmong y m.pass.survivors) (sym same) may.survivor)))))
-          (i.around.texted z f c not l);
+          (i.around.texted z f k c not of l);
     };
+    images = λ z c. image_still d.config.master z (old.text z) (now.text z) (m.images z) (m.images z) (opening z) refl
+        (i.images z c);
     repaired = repaired;
+    whole = record {
+      one = λ none z. elim (cases_eq z s) as (λ _. now.images z ≡ []) [
+        | inl same ↦ ap now.images same ∙ new_none old s text
+        | inr other ↦ new_images old s text z other ∙ i.whole.one none z
+      ];
+      failed = i.whole.failed;
+    };
     chosen = i.chosen;
     sealing = record {
       bare = λ z survivor. elim (cases_eq z s) as (λ _. (now.text z).opening ≡ None) [
@@ -211,25 +252,27 @@ module _ (d : FailData) (m : FailMemory) (p q : Shown) (s b : ℕ) (i : IsIntact
     };
     rolling = i.rolling;
     committed = λ c. let never : true ≡ false = sym c ∙ may.no_commit in absurd (cc);
-    waiting = record {
-      out = i.waiting.out;
-      below = i.waiting.below;
-      held = λ w at works. kept w.backup w.segment (i.waiting.held w at works);
-    };
+    waiting = record { out = i.waiting.out; below = i.waiting.below; real = i.waiting.real };
     recorded = i.recorded;
     repairs = i.repairs;
     real = i.real;
+    past = i.past;
+    before = before;
   }
+
+  before : ArePast d now i.past × ArePast e now i.past
+  before = sealed_past d old s b text i.past (survivor_free d m p s b i may) (i.sealing.bare s may.survivor) i.before
 
   both : IsIntact d m q × IsIntact e m q
   both = (
-    made d.took both_held.0 both_stand.0 (λ z c survivor has_it. kept c z (i.sealing.held z c survivor has_it)),
+    made d.took both_held.0 both_stand.0 (λ z c survivor has_it. kept c z (i.sealing.held z c survivor has_it))
+        before.0,
     made (with_taken d.took s b) both_held.1 both_stand.1 (λ z c survivor has_it.
         elim (taken_either d.took s b z c has_it) as (λ _. IsSome (q.holds c z)) [
           | inl at ↦ subst (λ (y : ℕ). IsSome (q.holds c y)) (sym at.0)
               (subst (λ (y : ℕ). IsSome (q.holds y s)) (sym at.1) held_now)
-          | inr before ↦ kept c z (i.sealing.held z c survivor before)
-        ]),
+          | inr first ↦ kept c z (i.sealing.held z c survivor first)
+        ]) before.1,
   )
 
 pub seal_keeps : SealKeeps

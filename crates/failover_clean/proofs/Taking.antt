@@ -10,19 +10,22 @@ use Rattle.clean_model.specs.Memory.{new_ids, LogSet}
 use Rattle.clean_model.specs.Tracked.{IsTracked, IsPassing, IsAround}
 use Rattle.failover_model.specs.Text.{Replica}
 use Rattle.failover_model.specs.Shown.{Holds, Shown, Act, Op, On, effect, with_replica, taken}
-use Rattle.failover_model.specs.Data.{Mode, Calm, Closes, Repairs, FailData, new_of, state_of}
+use Rattle.failover_model.specs.Data.{Mode, Calm, Closes, Repairs, FailData, new_of, is_failing, state_of}
 use Rattle.failover_model.specs.Log.{IsLogHeld, IsStanding}
 use Rattle.failover_model.specs.Steps.{with_taken, with_count, ids_now}
 use Rattle.failover_model.proofs.Closing.{closes_held, closes_standing}
 use Rattle.failover_model.proofs.HeadOps.{extends_held, extends_standing}
 use Rattle.failover_model.proofs.Lists.{taken_either}
 use Rattle.failover_model.proofs.Opening.{opens_held, opens_standing, raises_held, raises_standing}
-use Rattle.failover_model.proofs.Pictures.{is_taken, unchanged, still_held, opened, closed, extended}
+use Rattle.failover_model.proofs.Pictures.{is_taken, unchanged, still_held}
 use Rattle.failover_model.proofs.Replacing.{replaces_held, replaces_standing}
+use Rattle.failover_bytes.specs.Text.{entries_for}
 use Rattle.failover_clean.specs.Covered.{map_of}
 use Rattle.failover_clean.specs.Intact.{IsIntact}
 use Rattle.failover_clean.specs.Laws.{ExtendKeeps, OpenKeeps, ReplaceKeeps, RaiseKeeps, CloseKeeps}
-use Rattle.failover_clean.specs.Memory.{FailMemory, entries_in}
+use Rattle.failover_clean.specs.Memory.{FailMemory, entries_in, data_of}
+use Rattle.failover_clean.specs.Past.{ArePast}
+use Rattle.failover_clean.proofs.Pasts.{extends_past, opens_past, replaces_past, raises_past, closes_past}
 use Rattle.failover_clean.proofs.Sealed.{still_sealed}
 
 -- The segment is no head, neither that in force nor the new one.
@@ -45,9 +48,9 @@ module _ (d : FailData) (m : FailMemory) (p : Shown) (i : IsIntact d m p) where
       (new : new_of mode ≡ new_of d.mode)
       (real : (mode ≡ Calm) ⊎ (mode ≡ Repairs) → (d.mode ≡ Calm) ⊎ (d.mode ≡ Repairs))
       (repairs : mode ≡ Repairs → d.mode ≡ Repairs)
+      (fails : is_failing mode ≡ true → is_failing d.mode ≡ true)
       (took_same : (s b : ℕ) → IsNoHead d s → has (took s) b ≡ true → has (d.took s) b ≡ true)
-      (held_same : (b s : ℕ) → IsNoHead d s → q.holds b s ≡ p.holds b s)
-      (some_still : (b s : ℕ) → IsSome (p.holds b s) → IsSome (q.holds b s)) where
+      (held_same : (b s : ℕ) → IsNoHead d s → q.holds b s ≡ p.holds b s) where
     abbrev e : FailData
     e = record d { counts = counts; shut = shut; took = took; mode = mode }
 
@@ -57,14 +60,21 @@ module _ (d : FailData) (m : FailMemory) (p : Shown) (i : IsIntact d m p) where
     abbrev set_of : Option Start → LogSet
     set_of o = record { ids = ids_of o; image = m.images; text = entries_in i.log.texts }
 
-    pub moved_on : IsLogHeld e i.log.texts q → IsStanding e i.log.texts → IsIntact e m q
-    moved_on held standing = record {
+    abbrev have_images : Option Start → Type 0
+    have_images o = (s : ℕ) → IsAmong s (ids_of o)
+        → m.images s ≡ entries_for d.config.master s (record (i.log.texts.text s) { entries = data_of m s })
+
+    pub moved_on : IsLogHeld e i.log.texts q → IsStanding e i.log.texts → ArePast e i.log.texts i.past
+        → IsIntact e m q
+    moved_on held standing before = record {
       log = record { texts = i.log.texts; held = held; standing = standing };
       tracked = subst (λ (o : Option Start). IsTracked (set_of o) m.pass m.index (map_of d)) (sym new) i.tracked;
       passing = subst (λ (o : Option Start). IsPassing (ids_of o) m.images m.pass m.index m.rest) (sym new) i.passing;
       around = subst
           (λ (o : Option Start). IsAround (set_of o) m.pass (map_of d) (state_of d).safe d.next) (sym new) i.around;
+      images = subst have_images (sym new) i.images;
       repaired = i.repaired;
+      whole = record { one = i.whole.one; failed = λ failing. i.whole.failed (fails failing) };
       chosen = subst (λ (o : Option Start). IsPassOf d.head.start o m.pass) (sym new) i.chosen;
       sealing = still_sealed d e m i.log.texts i.log.texts p q m.images m.index m.commits i.sealing
           (λ s survivor. refl) (λ s survivor. refl) (λ s survivor. refl)
@@ -77,12 +87,21 @@ module _ (d : FailData) (m : FailMemory) (p : Shown) (i : IsIntact d m p) where
         out = λ w at c.
             i.waiting.out w at (subst (λ (o : Option Start). IsAmong w.segment (ids_of o)) new c);
         below = i.waiting.below;
-        held = λ w at works. some_still w.backup w.segment (i.waiting.held w at works);
+        real = i.waiting.real;
       };
       recorded = λ n is. i.recorded n (sym new ∙ is);
       repairs = λ is. i.repairs (repairs is);
       real = λ is. i.real (real is);
+      past = i.past;
+      before = before;
     }
+
+  -- and of the same master
+  pub moved : (q : Shown) → ((b s : ℕ) → IsNoHead d s → q.holds b s ≡ p.holds b s) → IsLogHeld d i.log.texts q
+      → IsIntact d m q
+  moved q held_same held =
+      moved_on d.counts d.shut d.took d.mode q refl (λ is. is) (λ is. is) (λ is. is) (λ s b no has_it. has_it)
+      held_same held i.log.standing i.before
 
 -- an op on a backup that puts or changes a replica of one segment
 module _ (p q : Shown) (b s : ℕ) (act : Act) (o : Op) (is : o ≡ On b s act) (took : taken p o ≡ Some q) where
@@ -107,20 +126,18 @@ module _ (p q : Shown) (b s : ℕ) (act : Act) (o : Op) (is : o ≡ On b s act) 
 pub extend_keeps : ExtendKeeps
 extend_keeps d e m p q o i op took =
     let texts = i.log.texts in
-    let id = d.head.start.id in
     let held = extends_held d e texts p q o i.log.held op took in
     let standing = extends_standing d e texts p q o i.log.held i.log.standing op took in
     let same : (c t : ℕ) → IsNoHead d t → q.holds c t ≡ p.holds c t =
-    λ c t no. apart p q op.b id _ o op.op took c t no.head in
-    let kept = still p q op.b id _ o op.op took (λ x given. let was = extended _ _ (p.holds op.b id) x given in
-    (_, was.was.now)) in
+    λ c t no. apart p q op.b d.head.start.id _ o op.op took c t no.head in
+    let before = extends_past d e p o i.log i.past i.before op in
     let counts = with_count d.counts op.b op.to in (
-      moved_on d m p i d.counts d.shut d.took d.mode q refl (λ is. is) (λ is. is) (λ s b no has_it. has_it) same kept
-          held.0 i.log.standing,
+      moved d m p i q same held.0,
       subst (λ (y : FailData). IsIntact y m q) (sym op.gives)
-          (moved_on d m p i counts d.shut d.took d.mode q refl (λ is. is) (λ is. is) (λ s b no has_it. has_it) same kept
-          (subst (λ (y : FailData). IsLogHeld y texts q) op.gives held.1)
-          (subst (λ (y : FailData). IsStanding y texts) op.gives standing)),
+          (moved_on d m p i counts d.shut d.took d.mode q refl (λ is. is) (λ is. is) (λ is. is)
+          (λ s b no has_it. has_it) same (subst (λ (y : FailData). IsLogHeld y texts q) op.gives held.1)
+          (subst (λ (y : FailData). IsStanding y texts) op.gives standing)
+          (subst (λ (y : FailData). ArePast y texts i.past) op.gives before)),
     )
 
 pub open_keeps : OpenKeeps
@@ -135,18 +152,17 @@ open_keeps d e m p q o i op within took =
     let standing = opens_standing d e texts p q o i.log.held i.log.standing op within took in
     let same : (c t : ℕ) → IsNoHead d t → q.holds c t ≡ p.holds c t =
     λ c t no. apart p q op.b n.id _ o op.op took c t (no.new n new) in
-    let kept = still p q op.b n.id _ o op.op took (λ x given. (_, (opened _ (p.holds op.b n.id) x given).1)) in
+    let before = opens_past d e p o i.log i.past i.before op in
     let took_now = with_taken d.took n.id op.b in (
-      moved_on d m p i d.counts d.shut d.took d.mode q refl (λ is. is) (λ is. is) (λ s b no has_it. has_it) same kept
-          held.0 i.log.standing,
+      moved d m p i q same held.0,
       subst (λ (y : FailData). IsIntact y m q) (sym op.gives)
-          (moved_on d m p i d.counts d.shut took_now d.mode q refl (λ is. is) (λ is. is)
+          (moved_on d m p i d.counts d.shut took_now d.mode q refl (λ is. is) (λ is. is) (λ is. is)
           (λ s b no has_it. elim (taken_either d.took n.id op.b s b has_it) as (λ _. has (d.took s) b ≡ true) [
             | inl at ↦ absurd (no.new n new at.0)
             | inr old ↦ old
-          ]) same kept
-          (subst (λ (y : FailData). IsLogHeld y texts q) op.gives held.1)
-          (subst (λ (y : FailData). IsStanding y texts) op.gives standing)),
+          ]) same (subst (λ (y : FailData). IsLogHeld y texts q) op.gives held.1)
+          (subst (λ (y : FailData). IsStanding y texts) op.gives standing)
+          (subst (λ (y : FailData). ArePast y texts i.past) op.gives before)),
     )
 
 pub replace_keeps : ReplaceKeeps
@@ -157,19 +173,18 @@ replace_keeps d e m p q o i op within took =
     let standing = replaces_standing d e texts p q o i.log.held i.log.standing op within took in
     let same : (c t : ℕ) → IsNoHead d t → q.holds c t ≡ p.holds c t =
     λ c t no. apart p q op.b id _ o op.op took c t no.head in
-    let kept = still p q op.b id _ o op.op took (λ x given. (_, (opened _ (p.holds op.b id) x given).1)) in
+    let before = replaces_past d e p o i.log i.past i.before op in
     let took_now = with_taken d.took id op.b in
     let counts = with_count d.counts op.b (length d.head.units) in (
-      moved_on d m p i d.counts d.shut d.took d.mode q refl (λ is. is) (λ is. is) (λ s b no has_it. has_it) same kept
-          held.0 i.log.standing,
+      moved d m p i q same held.0,
       subst (λ (y : FailData). IsIntact y m q) (sym op.gives)
-          (moved_on d m p i counts d.shut took_now d.mode q refl (λ is. is) (λ is. is)
+          (moved_on d m p i counts d.shut took_now d.mode q refl (λ is. is) (λ is. is) (λ is. is)
           (λ s b no has_it. elim (taken_either d.took id op.b s b has_it) as (λ _. has (d.took s) b ≡ true) [
             | inl at ↦ absurd (no.head at.0)
             | inr old ↦ old
-          ]) same kept
-          (subst (λ (y : FailData). IsLogHeld y texts q) op.gives held.1)
-          (subst (λ (y : FailData). IsStanding y texts) op.gives standing)),
+          ]) same (subst (λ (y : FailData). IsLogHeld y texts q) op.gives held.1)
+          (subst (λ (y : FailData). IsStanding y texts) op.gives standing)
+          (subst (λ (y : FailData). ArePast y texts i.past) op.gives before)),
     )
 
 pub raise_keeps : RaiseKeeps
@@ -181,31 +196,29 @@ raise_keeps d e m p q o i op took =
     sym (ap (λ (w : Shown). w.holds) (same_Some _ q (sym (ap (taken p) op.op) ∙ took))) in
     let same : (c t : ℕ) → IsNoHead d t → q.holds c t ≡ p.holds c t =
     λ c t no. ap (λ (h : Holds). h c t) holds in
-    let kept : (c t : ℕ) → IsSome (p.holds c t) → IsSome (q.holds c t) =
-    λ c t some. subst (λ (h : Holds). IsSome (h c t)) (sym holds) some in (
-      moved_on d m p i d.counts d.shut d.took d.mode q refl (λ is. is) (λ is. is) (λ s b no has_it. has_it) same kept
-          held.0 i.log.standing,
+    let before = raises_past d e p o i.log i.past i.before op in (
+      moved d m p i q same held.0,
       subst (λ (y : FailData). IsIntact y m q) (sym op.gives)
           (moved_on d m p i d.counts d.shut d.took (Closes op.n) q (sym (ap new_of op.mode))
           (λ is. absurd (elim is as (λ _. ⊥) [ inl calm ↦ cc | inr repairs ↦ cc ])) (λ never. absurd (cc))
-          (λ s b no has_it. has_it) same kept
+          (λ is. ap is_failing op.mode) (λ s b no has_it. has_it) same
           (subst (λ (y : FailData). IsLogHeld y texts q) op.gives held.1)
-          (subst (λ (y : FailData). IsStanding y texts) op.gives standing)),
+          (subst (λ (y : FailData). IsStanding y texts) op.gives standing)
+          (subst (λ (y : FailData). ArePast y texts i.past) op.gives before)),
     )
 
 pub close_keeps : CloseKeeps
 close_keeps d e m p q o i op took =
     let texts = i.log.texts in
-    let id = d.head.start.id in
     let held = closes_held d e texts p q o i.log.held op took in
     let standing = closes_standing d e texts p q o i.log.held i.log.standing op took in
     let same : (c t : ℕ) → IsNoHead d t → q.holds c t ≡ p.holds c t =
-    λ c t no. apart p q op.b id _ o op.op took c t no.head in
-    let kept = still p q op.b id _ o op.op took (λ x given. (_, (closed (p.holds op.b id) x given).now)) in (
-      moved_on d m p i d.counts d.shut d.took d.mode q refl (λ is. is) (λ is. is) (λ s b no has_it. has_it) same kept
-          held.0 i.log.standing,
+    λ c t no. apart p q op.b d.head.start.id _ o op.op took c t no.head in
+    let before = closes_past d e p o i.log i.past i.before op in (
+      moved d m p i q same held.0,
       subst (λ (y : FailData). IsIntact y m q) (sym op.gives)
-          (moved_on d m p i d.counts (op.b ∷ d.shut) d.took d.mode q refl (λ is. is) (λ is. is)
-          (λ s b no has_it. has_it) same kept (subst (λ (y : FailData). IsLogHeld y texts q) op.gives held.1)
-          (subst (λ (y : FailData). IsStanding y texts) op.gives standing)),
+          (moved_on d m p i d.counts (op.b ∷ d.shut) d.took d.mode q refl (λ is. is) (λ is. is) (λ is. is)
+          (λ s b no has_it. has_it) same (subst (λ (y : FailData). IsLogHeld y texts q) op.gives held.1)
+          (subst (λ (y : FailData). IsStanding y texts) op.gives standing)
+          (subst (λ (y : FailData). ArePast y texts i.past) op.gives before)),
     )

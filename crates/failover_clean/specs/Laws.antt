@@ -1,10 +1,13 @@
 -- What holds through every step.
-use Rattle.std.specs.Prelude.{◌≡◌, ℕ, ◌<◌, List, Some, true, false}
+use Rattle.std.specs.Prelude.{◌≡◌, ℕ, ◌+◌, ◌<◌, List, Some, true, false}
+use Rattle.std.specs.List.{range_with_len}
 use Rattle.entry.specs.declared.entry.Entry.{Entry}
 use Rattle.versioned_map.specs.declared.command.Record.{Record}
 use Rattle.log_model.specs.Data.{Start}
+use Rattle.clean_model.specs.Intact.{IsCommit}
 use Rattle.clean_model.specs.Memory.{Place}
-use Rattle.failover_model.specs.Shown.{Shown, Seal, Op, On, taken}
+use Rattle.clean_model.specs.Steps.{survivors_begun}
+use Rattle.failover_model.specs.Shown.{Shown, Op, taken}
 use Rattle.failover_model.specs.Data.{FailConfig, Mode, Repairs, FailData}
 use Rattle.failover_model.specs.Sound.{IsSound}
 use Rattle.failover_model.specs.Steps.{fresh, MayBegin, applied, MayApply, rolling, next_start, MayTurn, ended}
@@ -12,10 +15,10 @@ use Rattle.failover_model.specs.Steps.{EndsRoll, failing, MayFail, mended, IsKno
 use Rattle.failover_model.specs.Steps.{ClosesOld, with_taken, MayRepair, Reseals}
 use Rattle.failover_clean.specs.Covered.{IsCovered}
 use Rattle.failover_clean.specs.Intact.{IsIntact}
-use Rattle.failover_clean.specs.Memory.{FailMemory}
+use Rattle.failover_clean.specs.Memory.{FailMemory, data_of}
 use Rattle.failover_clean.specs.Steps.{seal_op, MaySeal, ids_taken, pass_begun, MayBeginClean, first_memory, recorded}
 use Rattle.failover_clean.specs.Steps.{IsNamed, compacted, MayCompact, copy_done, MayCopy, rolled, stopped, MayCommit}
-use Rattle.failover_clean.specs.Steps.{finished}
+use Rattle.failover_clean.specs.Steps.{commit_start, finished, free_op, freed, MayFree}
 
 -- ---- what is intact
 
@@ -31,7 +34,7 @@ IntactIsSound = (d : FailData) (m : FailMemory) (p : Shown) → IsIntact d m p �
 
 -- Of a new master of which nothing is held all is intact.
 abbrev pub FreshIsIntact : Type 0
-FreshIsIntact = (c : FailConfig) (p : Shown) → MayBegin c p → IsIntact (fresh c) first_memory p
+FreshIsIntact = (c : FailConfig) (p : Shown) → MayBegin c p → IsIntact (fresh c) (first_memory c 1) p
 
 -- A command that is applied leaves all intact, while a pass or a failover is open too.
 abbrev pub ApplyKeeps : Type 0
@@ -81,12 +84,17 @@ CloseKeeps = (d e : FailData) (m : FailMemory) (p q : Shown) (o : Op) → IsInta
 -- An ordinary roll that begins leaves all intact, while a pass is open too, and so does the third part of a failover.
 abbrev pub RollKeeps : Type 0
 RollKeeps = (d : FailData) (m : FailMemory) (p : Shown) (mode : Mode) → IsIntact d m p → MayTurn d mode
-    → IsIntact (rolling d (next_start d) mode) (rolled m (next_start d) false) p
+    → IsIntact (rolling d (next_start d) mode) (rolled d m (next_start d) false) p
 
 -- A commit that begins leaves all intact.
 abbrev pub CommitKeeps : Type 0
 CommitKeeps = (d : FailData) (m : FailMemory) (p : Shown) (n : Start) (mode : Mode) → IsIntact d m p
-    → MayCommit d m n mode → IsIntact (rolling d n mode) (rolled m n true) p
+    → MayCommit d m n mode → IsIntact (rolling d n mode) (rolled d m n true) p
+
+-- The digest in force less the victims, with the survivors at their places, is a commit's.
+abbrev pub CommitDigest : Type 0
+CommitDigest = (d : FailData) (m : FailMemory) (p : Shown) → IsIntact d m p → (d.head.start.id ≡ 0 → ⊥)
+    → IsCommit d.head.start m.pass (commit_start d m)
 
 -- So does the end of an ordinary roll.
 abbrev pub EndKeeps : Type 0
@@ -114,12 +122,11 @@ MendKeeps = (d : FailData) (m : FailMemory) (p : Shown) → IsIntact d m p → I
 -- A lost replica of another segment may be sealed anew from its image, while a pass is open too.
 abbrev pub ImageIsRepair : Type 0
 ImageIsRepair = (d : FailData) (m : FailMemory) (p : Shown) (s b : ℕ) (i : IsIntact d m p) → MayRepair d s b
-    → Reseals d i.log.texts (On b s (Seal (record (i.log.texts.text s) { entries = m.images s })))
-    (record d { took = with_taken d.took s b })
+    → Reseals d i.log.texts (seal_op m s b) (record d { took = with_taken d.took s b })
 
 abbrev pub RepairKeeps : Type 0
 RepairKeeps = (d e : FailData) (m : FailMemory) (p q : Shown) (o : Op) (i : IsIntact d m p)
-    → (is : Reseals d i.log.texts o e) → is.image ≡ m.images is.s → is.b < d.config.backups → taken p o ≡ Some q
+    → (is : Reseals d i.log.texts o e) → is.image ≡ data_of m is.s → is.b < d.config.backups → taken p o ≡ Some q
     → BothIntact d e m q
 
 -- ---- a pass begins
@@ -136,3 +143,21 @@ abbrev pub SealKeeps : Type 0
 SealKeeps = (d : FailData) (m : FailMemory) (p q : Shown) (s b : ℕ) → IsIntact d m p → MaySeal d m s b
     → b < d.config.backups → taken p (seal_op m s b) ≡ Some q
     → BothIntact d (record d { took = with_taken d.took s b }) m q
+
+-- ---- frees
+
+-- A replica that waits may be freed: whether the master knows it or not, all is intact without it.
+abbrev pub FreeKeeps : Type 0
+FreeKeeps = (d : FailData) (m : FailMemory) (p q : Shown) (s b : ℕ) → IsIntact d m p → MayFree d m s b
+    → taken p (free_op s b) ≡ Some q
+    → IsIntact d m q × IsIntact d (freed m (record { segment = s; backup = b })) q
+
+-- ---- a pass that has begun
+
+-- Its survivors have the next ids, one after the other, and each has its header.
+abbrev pub BegunSurvivors : Type 0
+BegunSurvivors = (d : FailData) (m : FailMemory) (victims : List ℕ) (count : ℕ) → MayBeginClean d m victims
+    → ((pass_begun d m victims count).pass.survivors ≡ range_with_len d.next count)
+    × ((ids_taken count d).next ≡ d.next + count)
+    × ((s : ℕ) → (pass_begun d m victims count).images s
+    ≡ survivors_begun d.config.master (range_with_len d.next count) m.images s)

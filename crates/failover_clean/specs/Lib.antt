@@ -1,5 +1,11 @@
 pub mod Memory
+pub mod Past
 pub mod Covered
 pub mod Intact
 pub mod Steps
 pub mod Laws
+pub mod Same
+pub mod Ops
+pub mod Knowing
+pub mod Loading
+pub mod Fleet

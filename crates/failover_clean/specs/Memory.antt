@@ -1,10 +1,15 @@
--- What memory has of a log whose backups may fail: objects and tombstones, openings apart.
-use Rattle.std.specs.Prelude.{ℕ, ◌++◌, List, Bool}
+-- What memory has of a log whose backups may fail.
+use Rattle.std.specs.Prelude.{ℕ, ◌≡◌, ◌++◌, List, Bool, filter}
+use Rattle.entry.specs.declared.entry.Entry.{Entry}
+use Rattle.entry.specs.Bag.{IsAmong}
+use Rattle.entry.specs.Text.{is_data, opening_of}
 use Rattle.log_model.specs.Log.{Texts as EntriesOf}
 use Rattle.clean_model.specs.Memory.{Place, Index, Images, Pass, new_ids, LogSet}
+use Rattle.failover_model.specs.Text.{Text}
 use Rattle.failover_model.specs.Data.{FailData, new_of}
 use Rattle.failover_model.specs.Log.{Texts}
 use Rattle.failover_model.specs.Steps.{ids_now}
+use Rattle.failover_bytes.specs.Text.{entries_for}
 
 -- a replica that may be freed
 pub record Spot : Type 0 where
@@ -34,3 +39,18 @@ log_ids d m = ids_now d.head.start ++ (new_ids (new_of d.mode) ++ m.pass.survivo
 -- the log set of a master and its memory, with these texts
 abbrev pub log_set_of : FailData → FailMemory → Texts → LogSet
 log_set_of d m texts = record { ids = log_ids d m; image = m.images; text = entries_in texts }
+
+-- ---- images
+
+-- the objects and tombstones that memory has of a segment
+abbrev pub data_of : FailMemory → ℕ → List Entry
+data_of m s = filter is_data (m.images s)
+
+-- what memory has of a segment, as a text
+abbrev pub text_in : FailMemory → ℕ → Text
+text_in m s = record { opening = opening_of (m.images s); entries = data_of m s }
+
+-- the image of each segment of the log set is what its text begins with, and then objects and tombstones
+abbrev pub AreImages : FailData → FailMemory → Texts → Type 0
+AreImages d m texts = (s : ℕ) → IsAmong s (log_ids d m)
+    → m.images s ≡ entries_for d.config.master s (record (texts.text s) { entries = data_of m s })

@@ -1,28 +1,30 @@
 -- What a master and its memory become: compaction, a copy, a command, a roll, an op taken, a failover.
-use Rattle.std.specs.Prelude.{◌≡◌, ℕ, zero, suc, ◌⊎◌, List, [], ◌∷◌, ◌++◌, map, Bool, false, Some, None, if◌then◌else◌}
+use Rattle.std.specs.Prelude.{◌≡◌, ℕ, zero, suc, ◌⊎◌, ◌==◌, ◌&&◌, List, [], ◌∷◌, ◌++◌, length, map, filter, Bool, false}
+use Rattle.std.specs.Prelude.{not, Some, None, if◌then◌else◌}
 use Rattle.std.specs.List.{flat_map}
 use Rattle.entry.specs.declared.entry.Entry.{Entry}
 use Rattle.entry.specs.declared.entry.Entry.TheVariants as entry
 use Rattle.entry.specs.Bag.{IsAmong}
+use Rattle.entry.specs.Text.{text_of}
 use Rattle.versioned_map.specs.declared.command.Record.{Record}
 use Rattle.versioned_map.specs.Command.{command_key}
-use Rattle.log_model.specs.Data.{Start, digest_for, lens_next}
-use Rattle.log_model.specs.Ids.{has}
+use Rattle.log_model.specs.Data.{Start, digest_for, lens_next, start_entries}
+use Rattle.log_model.specs.Ids.{has, all_inserted, without}
 use Rattle.clean_model.specs.Compaction.{kept_from, moved_index, places}
 use Rattle.clean_model.specs.Memory.{Place, Index, no_pass, with_image, grown, StandsAt}
 use Rattle.clean_model.specs.Steps.{with_place, next_place, is_copied, images_with, index_with}
-use Rattle.clean_model.specs.Intact.{IsCommit}
-use Rattle.failover_model.specs.Text.{length_of}
-use Rattle.failover_model.specs.Shown.{Seal, Op, On}
-use Rattle.failover_model.specs.Data.{is_failing, Mode, Calm, Rolls, Mends, Opens, FailData, homes, state_of}
-use Rattle.failover_model.specs.Steps.{id_taken, unit_now, survivor_text, len_now}
+use Rattle.clean_model.specs.Intact.{survivor_entries, IsCommit}
+use Rattle.failover_model.specs.Shown.{Seal, Free, Op, On}
+use Rattle.failover_model.specs.Data.{is_failing, Mode, Calm, Rolls, Mends, Opens, FailConfig, FailData, homes}
+use Rattle.failover_model.specs.Data.{state_of}
+use Rattle.failover_model.specs.Steps.{restored_start, id_taken, unit_now, ids_now, len_now}
 use Rattle.failover_clean.specs.Intact.{IsReady}
-use Rattle.failover_clean.specs.Memory.{Spot, FailMemory, log_ids}
+use Rattle.failover_clean.specs.Memory.{Spot, FailMemory, log_ids, text_in}
 
--- memory of a new master
-abbrev pub first_memory : FailMemory
-first_memory = record {
-  images = λ s. [];
+-- memory of a new master, whose first head records this safe version: each image is the head's opening
+abbrev pub first_memory : FailConfig → ℕ → FailMemory
+first_memory c safe = record {
+  images = λ s. start_entries c.master (restored_start c.format safe);
   index = λ k. None;
   pass = no_pass;
   rest = [];
@@ -72,10 +74,10 @@ pass_opened m victims = record m {
   rest = places victims m.images;
 }
 
--- memory once the open pass has one survivor more, with the next id and nothing in it
+-- memory once the open pass has one survivor more, with the next id and its header alone
 abbrev pub survivor_added : FailData → FailMemory → FailMemory
 survivor_added d m = record m {
-  images = with_image m.images d.next [];
+  images = with_image m.images d.next (survivor_entries d.config.master d.next);
   pass = record { victims = m.pass.victims; survivors = m.pass.survivors ++ d.next ∷ [] };
 }
 
@@ -120,9 +122,10 @@ pub record MayCopy (d : FailData) (m : FailMemory) (first : Place) (rest : List 
 
 -- ---- rolls and failovers
 
--- memory once a roll has begun: the new head's image is empty
-abbrev pub rolled : FailMemory → Start → Bool → FailMemory
-rolled m n commits = record m { images = with_image m.images n.id []; commits = commits }
+-- memory once a roll has begun: the new head's image is its opening
+abbrev pub rolled : FailData → FailMemory → Start → Bool → FailMemory
+rolled d m n commits =
+    record m { images = with_image m.images n.id (start_entries d.config.master n); commits = commits }
 
 -- memory once a backup has failed: a commit that was under way is no more
 abbrev pub stopped : FailMemory → FailMemory
@@ -132,7 +135,18 @@ stopped m = record m { commits = false }
 
 -- the length that a commit's digest lists for a segment: for a survivor that of its image
 abbrev pub commit_len : FailData → FailMemory → ℕ → ℕ
-commit_len d m s = if has m.pass.survivors s then length_of (survivor_text (m.images s)) else len_now d s
+commit_len d m s = if has m.pass.survivors s then length (text_of (m.images s)) else len_now d s
+
+-- the next head of a commit: the digest in force less the victims, with the survivors at their places
+abbrev pub commit_start : FailData → FailMemory → Start
+commit_start d m =
+    let others = all_inserted m.pass.survivors (without m.pass.victims (ids_now d.head.start)) in
+    record {
+      id = d.next;
+      others = others;
+      lens = lens_next (digest_for d.head.start) (commit_len d m) others;
+      safe = (state_of d).safe;
+    }
 
 -- A roll to this head may begin as the commit of a pass that is ready, or the third part of a failover.
 pub record MayCommit (d : FailData) (m : FailMemory) (n : Start) (mode : Mode) : Type 0 where
@@ -159,9 +173,9 @@ finished d m = record m {
 
 -- ---- a seal
 
--- the op that seals a survivor on a backup: its image is written, closed
+-- the op that seals a segment's image on a backup: that of a survivor, or in a repair of another segment
 abbrev pub seal_op : FailMemory → ℕ → ℕ → Op
-seal_op m s b = On b s (Seal (survivor_text (m.images s)))
+seal_op m s b = On b s (Seal (text_in m s))
 
 -- A survivor is sealed on a backup that hasn't failed and has none of it; nothing is to be copied.
 pub record MaySeal (d : FailData) (m : FailMemory) (s b : ℕ) : Type 0 where
@@ -171,3 +185,23 @@ pub record MaySeal (d : FailData) (m : FailMemory) (s b : ℕ) : Type 0 where
   pub calm : is_failing d.mode ≡ false
   pub works : has d.failed b ≡ false
   pub apart : has (d.took s) b ≡ false
+
+-- ---- a free
+
+-- the op that frees a replica
+abbrev pub free_op : ℕ → ℕ → Op
+free_op s b = On b s Free
+
+-- whether these are the same replica
+abbrev pub is_spot : Spot → Spot → Bool
+is_spot w v = (w.segment == v.segment) && (w.backup == v.backup)
+
+-- memory once this replica waits no more
+abbrev pub freed : FailMemory → Spot → FailMemory
+freed m w = record m { waiting = filter (λ (v : Spot). not (is_spot w v)) m.waiting }
+
+-- A replica that waits is freed, on a backup that hasn't failed.
+pub record MayFree (d : FailData) (m : FailMemory) (s b : ℕ) : Type 0 where
+  pub waits : IsAmong (record { segment = s; backup = b }) m.waiting
+  pub works : has d.failed b ≡ false
+  pub calm : is_failing d.mode ≡ false

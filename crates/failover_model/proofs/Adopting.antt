@@ -66,7 +66,7 @@ module _ (d : FailData) (p : Shown) (st : State) (is : IsLoaded d p st) where
   each_then b s r (inr (inr at)) =
       inr (inr (record { next = at.next; opening = at.opening; whole = at.whole; bears = at.bears }))
 
-  adopted_mirrored : IsMirrored e is.texts p
+  pub adopted_mirrored : IsMirrored e is.texts p
   adopted_mirrored =
       let mir = is.held.mirrored in
       record {
@@ -84,7 +84,7 @@ module _ (d : FailData) (p : Shown) (st : State) (is : IsLoaded d p st) where
         new_homes = mir.new_homes;
       }
 
-  adopted_logged : IsLogged e is.texts
+  pub adopted_logged : IsLogged e is.texts
   adopted_logged =
       let log = is.held.logged in
       record {
@@ -105,7 +105,7 @@ module _ (d : FailData) (p : Shown) (st : State) (is : IsLoaded d p st) where
         two = log.two;
       }
 
-  adopted_standing : IsStanding e is.texts
+  pub adopted_standing : IsStanding e is.texts
   adopted_standing = record {
     numbers = omega arith;
     fronts = λ k base le at.
@@ -160,7 +160,7 @@ module _ (d : FailData) (texts : Texts) (p : Shown) (st : State) (held : IsLogHe
   each_opening b s r (inr (inr at)) =
       inr (inr (record { next = at.next; opening = at.opening; whole = at.whole; bears = at.bears }))
 
-  opening_held : IsLogHeld o texts p
+  pub opening_held : IsLogHeld o texts p
   opening_held =
       let log = held.logged in
       let mir = held.mirrored in

@@ -11,9 +11,9 @@ use Rattle.log_model.specs.Ids.{has, without}
 use Rattle.log_model.specs.Log.{Rise}
 use Rattle.log_model.proofs.Counts.{before_le, before_rise, before_at, before_past}
 use Rattle.failover_model.specs.Shown.{Shown}
-use Rattle.failover_model.specs.Data.{FailData, is_failing, everywhere, taken_records, durable_of}
+use Rattle.failover_model.specs.Data.{FailData, homes, is_failing, everywhere, taken_records, durable_of}
 use Rattle.failover_model.specs.Durable.{TakenHead, head_now, takers, AreTaken, IsDurable, IsPast, KeptIsDurable}
-use Rattle.failover_model.specs.Left.{how_many, IsCounted}
+use Rattle.failover_model.specs.Left.{how_many}
 use Rattle.failover_model.specs.Log.{IsKept}
 use Rattle.failover_model.proofs.LeftCounts.{number_less}
 use Rattle.failover_model.proofs.Lists.{has_here, has_there, fewest_of}
@@ -62,8 +62,8 @@ passes m n lt = grind (arith, nat_tests)
 
 -- ---- durable
 
-module _ (d : FailData) (p : Shown) (past : List TakenHead) (kept : IsKept d p) (counted : IsCounted d)
-    (is : IsPast d past) where
+module _ (d : FailData) (p : Shown) (past : List TakenHead) (kept : IsKept d p)
+    (few_homes : length (homes d d.head.start.id) ≤ d.config.replicas) (is : IsPast d past) where
   abbrev us : List LogUnit
   us = d.head.units
 
@@ -113,7 +113,7 @@ module _ (d : FailData) (p : Shown) (past : List TakenHead) (kept : IsKept d p) 
     few =
         let all = kept.held.mirrored.homes (settled_if d.mode works) in
         let same = ap length (without_none d.failed (d.took id) (λ c m. all c m)) in
-        let le = counted.few in omega arith
+        let le = few_homes in omega arith
 
     no_more : (more : ℕ) → more ≤ total → AreTaken d past more → (x : Option LogUnit)
         → slice_get us (everywhere d) ≡ x → more ≤ durable_of d
@@ -146,5 +146,11 @@ module _ (d : FailData) (p : Shown) (past : List TakenHead) (kept : IsKept d p) 
       greatest = λ more le all. no_more more le all (slice_get us (everywhere d)) refl;
     }
 
+pub past_is_durable : (d : FailData) (p : Shown) (past : List TakenHead) → IsKept d p
+    → length (homes d d.head.start.id) ≤ d.config.replicas → IsPast d past
+    → (is_failing d.mode ≡ false → IsDurable d past (durable_of d)) × AreTaken d past (durable_of d)
+past_is_durable d p past kept few_homes is =
+    (durable_is d p past kept few_homes is, all_taken d p past kept few_homes is)
+
 pub kept_is_durable : KeptIsDurable
-kept_is_durable d p past kept counted is = (durable_is d p past kept counted is, all_taken d p past kept counted is)
+kept_is_durable d p past kept counted is = past_is_durable d p past kept counted.few is

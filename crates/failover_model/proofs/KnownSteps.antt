@@ -1,5 +1,5 @@
 -- What a master knows of what is held, after commands, rolls and the end of a failover.
-use Rattle.std.proofs.Common.{◌≡◌, ℕ, ◌≤◌, inl, inr, false, List, ◌++◌, length, Some, refl, sym, ap, subst, ◌∙◌, arith}
+use Rattle.std.proofs.Common.{◌≡◌, ℕ, ◌≤◌, ◌⊎◌, inl, inr, false, List, ◌++◌, length, Some, refl, sym, ap, subst, ◌∙◌, arith}
 use Rattle.std.specs.Prelude.{None, ◌==◌}
 use Rattle.std.proofs.lemmas.Bool.{cases_eq}
 use Rattle.std.proofs.lemmas.Bool.Decides.{nat_tests}
@@ -10,7 +10,8 @@ use Rattle.log_model.proofs.Fronts.{unit_front}
 use Rattle.log_model.proofs.Lists.{is_none}
 use Rattle.failover_model.specs.Text.{Replica}
 use Rattle.failover_model.specs.Shown.{Shown}
-use Rattle.failover_model.specs.Data.{opening_for, bare_replica, Rolls, Opens, Repairs, FailData, new_of}
+use Rattle.failover_model.specs.Data.{opening_for, bare_replica, Mode, Calm, Rolls, Mends, Opens, Repairs, FailData}
+use Rattle.failover_model.specs.Data.{new_of}
 use Rattle.failover_model.specs.Log.{Texts, IsLogHeld}
 use Rattle.failover_model.specs.Steps.{rolling, id_taken, IsKnown}
 use Rattle.failover_model.specs.Laws.{AppendedKnown, RollingKnown, EndingKnown, MendedKnown, IdTakenKnown}
@@ -47,27 +48,32 @@ absent_then d texts p held known id le took same b s ok away = elim (cases_eq s 
   | inr other ↦ known.absent b s ok (sym (ap (λ (l : List ℕ). has l b) (same s other)) ∙ away)
 ]
 
-pub rolling_known : RollingKnown
-rolling_known d texts p n mode held known roll =
-    let id = roll.next in
+-- whatever the new head's digest leaves out or takes in
+pub turned_known : (d : FailData) (texts : Texts) (p : Shown) (n : Start) (mode : Mode) → IsLogHeld d texts p
+    → IsKnown d p → ((d.mode ≡ Calm) × (mode ≡ Rolls n)) ⊎ ((d.mode ≡ Mends) × (mode ≡ Opens n)) → n.id ≡ d.next
+    → IsKnown (rolling d n mode) p
+turned_known d texts p n mode held known may id =
     let next = held.logged.head.next in
     let other : (s : ℕ) → (s ≡ n.id → ⊥) → (rolling d n mode).took s ≡ d.took s =
     λ s apart. let is : (s == n.id) ≡ false = grind (arith, nat_tests) in rw is refl in
     record {
       absent = absent_then d texts p held known n.id (omega arith) (rolling d n mode).took other;
       new = λ b m failed is.
-          let same : n ≡ m = elim roll.may as (λ _. n ≡ m) [
+          let same : n ≡ m = elim may as (λ _. n ≡ m) [
             | inl calm ↦ same_Some n m (sym (ap new_of calm.1) ∙ is)
             | inr mends ↦ same_Some n m (sym (ap new_of mends.1) ∙ is)
           ] in
           subst (λ (x : Start). p.holds b x.id ≡ None) same (nothing d texts p held b n.id (omega arith));
-      head = λ b failed is. elim roll.may as (λ _. p.holds b d.head.start.id ≡ None) [
+      head = λ b failed is. elim may as (λ _. p.holds b d.head.start.id ≡ None) [
         | inl calm ↦ (let never : Rolls n ≡ Repairs = sym calm.1 ∙ is in absurd (cc))
         | inr mends ↦ (let never : Opens n ≡ Repairs = sym mends.1 ∙ is in absurd (cc))
       ];
       exact = λ b x home there. known.exact b x
           (sym (ap (λ (l : List ℕ). has l b) (other d.head.start.id (λ same. omega arith))) ∙ home.0, home.1) there;
     }
+
+pub rolling_known : RollingKnown
+rolling_known d texts p n mode held known roll = turned_known d texts p n mode held known roll.may roll.next
 
 pub ending_known : EndingKnown
 ending_known d texts p n mode held known ends =

@@ -21,7 +21,7 @@ module _ (c : FailConfig) (safe : ℕ) where
   abbrev first : Start
   first = restored_start c.format safe
 
-  abbrev texts_of : Texts
+  abbrev pub texts_of : Texts
   texts_of = record {
     text = λ s. if s == 1 then bare first else bare (no_head c.format);
     images = λ s. [];
@@ -87,7 +87,7 @@ module _ (c : FailConfig) (safe : ℕ) (p : Shown) (begins : MayBegin c p) where
     new_homes = λ n b _ took. absurd (cc);
   }
 
-  first_known : IsKnown d p
+  pub first_known : IsKnown d p
   first_known = record {
     absent = λ b s _ _. begins.nothing b s;
     new = λ b n failed. absurd (cc);
@@ -95,13 +95,13 @@ module _ (c : FailConfig) (safe : ℕ) (p : Shown) (begins : MayBegin c p) where
     exact = λ b r home. absurd (let took = home.0 in cc);
   }
 
-  first_held : IsLogHeld d texts p
+  pub first_held : IsLogHeld d texts p
   first_held = record { some = begins.some; logged = first_logged; mirrored = first_mirrored }
 
 pub restored_is_held : RestoredIsHeld
 restored_is_held c safe p begins = (texts_of c safe, first_held c safe p begins, first_known c safe p begins)
 
-fresh_standing : (c : FailConfig) (p : Shown) → MayBegin c p → IsStanding (fresh c) (texts_of c 1)
+pub fresh_standing : (c : FailConfig) (p : Shown) → MayBegin c p → IsStanding (fresh c) (texts_of c 1)
 fresh_standing c p begins = record {
   numbers = omega arith;
   fronts = λ k base le at.

@@ -25,8 +25,8 @@ use Rattle.failover_model.specs.Durable.{AdoptedIsPast, PastStays}
 use Rattle.failover_model.specs.Left.{how_many}
 use Rattle.failover_model.specs.Log.{IsKept}
 use Rattle.failover_model.specs.Runs.{IsNext, World, Applies, Turns, TakesId, Ends, Mended, Takes, Fails, Halts}
-use Rattle.failover_model.specs.Steps.{with_taken, with_count, unit_now, applied, MayApply, rolling, ended, EndsRoll}
-use Rattle.failover_model.specs.Steps.{failing, mended, id_taken}
+use Rattle.failover_model.specs.Steps.{with_taken, with_count, unit_now, applied, MayApply, rolling, IsRoll, ended}
+use Rattle.failover_model.specs.Steps.{EndsRoll, failing, mended, id_taken, IsFree}
 use Rattle.failover_model.proofs.Applying as commands
 use Rattle.failover_model.proofs.Durable.{number_all, passes}
 use Rattle.failover_model.proofs.LeftCounts.{number_fewer}
@@ -70,8 +70,8 @@ takers_again h f g counts place same = ap (λ (l : List ℕ). how_many (λ (b : 
 -- ---- ops
 
 -- an op on other segments, or that only opens, closes or frees
-same_past : (d e : FailData) (past : List TakenHead) → IsPast d past → e.opening ≡ d.opening → e.history ≡ d.history
-    → e.head ≡ d.head → e.config ≡ d.config
+pub same_past : (d e : FailData) (past : List TakenHead) → IsPast d past → e.opening ≡ d.opening
+    → e.history ≡ d.history → e.head ≡ d.head → e.config ≡ d.config
     → ((e.mode ≡ Calm) ⊎ (e.mode ≡ Repairs) → (d.mode ≡ Calm) ⊎ (d.mode ≡ Repairs))
     → ((n : Start) → new_of e.mode ≡ Some n → 0 < length (e.took n.id) → (place : ℕ) → place < length d.head.units
     → d.config.replicas ≤ takers (head_now e) place)
@@ -90,7 +90,20 @@ same_past d e past is opening history head config calm pushed = record {
       (pushed n new some place (let size = ap (λ (h : Head). length h.units) head in omega arith));
 }
 
-next_past : (d e : FailData) (p : Shown) (o : Op) (past : List TakenHead) (kept : IsKept d p) → IsPast d past
+-- a segment that no digest names is sealed
+pub sealing_past : (d : FailData) (past : List TakenHead) (s b : ℕ) → IsFree d s → IsPast d past
+    → IsPast (record d { took = with_taken d.took s b }) past
+sealing_past d past s b free is =
+    let id = d.head.start.id in
+    let took = with_taken d.took s b in
+    let x : FailData = record d { took = took } in
+    let same = with_taken_other d.took s b id (λ one. free.head (sym one)) in
+    same_past d x past is refl refl refl refl (λ mode. mode) (λ n new some place lt.
+    let size = ap length (with_taken_other d.took s b n.id (λ one. free.new n (inl new) (sym one))) in
+    let old = is.pushed n new (omega arith) place lt in
+    let again = takers_again d.head (d.took id) (took id) d.counts place same in omega arith)
+
+pub next_past : (d e : FailData) (p : Shown) (o : Op) (past : List TakenHead) (kept : IsKept d p) → IsPast d past
     → IsNext d kept.texts p o e → IsPast e past
 next_past d e p o past kept is (inl op) =
     let counts = with_count d.counts op.b op.to in
@@ -150,21 +163,13 @@ next_past d e p o past kept is (inr (inr (inr (inr (inr (inl (op, stand))))))) =
     (same_past d (record d { took = with_taken d.took op.s op.b }) past is refl refl refl refl (λ mode. mode)
     (λ n new some place lt. let never : None ≡ Some n = sym (ap new_of op.mode) ∙ new in absurd (cc)))
 next_past d e p o past kept is (inr (inr (inr (inr (inr (inr (inl op))))))) =
-    let id = d.head.start.id in
-    let took = with_taken d.took op.s op.b in
-    let x : FailData = record d { took = took } in
-    let same = with_taken_other d.took op.s op.b id (λ one. op.free.head (sym one)) in
-    subst (λ (y : FailData). IsPast y past) (sym op.gives) (same_past d x past is refl refl refl refl (λ mode. mode)
-    (λ n new some place lt.
-    let size = ap length (with_taken_other d.took op.s op.b n.id (λ one. op.free.new n (inl new) (sym one))) in
-    let old = is.pushed n new (omega arith) place lt in
-    let again = takers_again d.head (d.took id) (took id) d.counts place same in omega arith))
+    subst (λ (y : FailData). IsPast y past) (sym op.gives) (sealing_past d past op.s op.b op.free is)
 next_past d e p o past kept is (inr (inr (inr (inr (inr (inr (inr op))))))) =
     subst (λ (y : FailData). IsPast y past) (sym op.gives) is
 
 -- ---- events
 
-applied_past : (d : FailData) (p : Shown) (past : List TakenHead) (segment : ℕ) (r : Record) (kept : IsKept d p)
+pub applied_past : (d : FailData) (p : Shown) (past : List TakenHead) (segment : ℕ) (r : Record) (kept : IsKept d p)
     → MayApply d segment r → IsPast d past → IsPast (applied d segment r) past
 applied_past d p past segment r kept may is =
     let e = applied d segment r in
@@ -195,14 +200,27 @@ applied_past d p past segment r kept may is =
           is.pushed n new some place (omega arith);
     }
 
-ended_past : (d : FailData) (p : Shown) (past : List TakenHead) (n : Start) (mode : Mode) (kept : IsKept d p)
+end_new : (d : FailData) (n : Start) (mode : Mode) → EndsRoll d n mode → new_of d.mode ≡ Some n
+end_new d n mode ends = elim ends.may as (λ _. new_of d.mode ≡ Some n) [
+  | inl one ↦ ap new_of one.0
+  | inr two ↦ ap new_of two.0
+]
+
+end_no_new : (d : FailData) (n : Start) (mode : Mode) → EndsRoll d n mode → (m : Start) → new_of mode ≡ Some m → ⊥
+end_no_new d n mode ends m is_new = elim ends.may as (λ _. ⊥) [
+  | inl one ↦ (let never : None ≡ Some m = sym (ap new_of one.1) ∙ is_new in cc)
+  | inr two ↦ (let never : None ≡ Some m = sym (ap new_of two.1) ∙ is_new in cc)
+]
+
+pub end_newer : (d : FailData) (p : Shown) (n : Start) (mode : Mode) (kept : IsKept d p) → EndsRoll d n mode
+    → d.head.start.id < n.id
+end_newer d p n mode kept ends = kept.held.logged.newer n (inl (end_new d n mode ends))
+
+pub ended_past : (d : FailData) (p : Shown) (past : List TakenHead) (n : Start) (mode : Mode) (kept : IsKept d p)
     → EndsRoll d n mode → IsPast d past → IsPast (ended d n mode) (heads_of past d)
 ended_past d p past n mode kept ends is =
-    let new : new_of d.mode ≡ Some n = elim ends.may as (λ _. new_of d.mode ≡ Some n) [
-      | inl one ↦ ap new_of one.0
-      | inr two ↦ ap new_of two.0
-    ] in
-    let newer = kept.held.logged.newer n (inl new) in
+    let new = end_new d n mode ends in
+    let newer = end_newer d p n mode kept ends in
     let some = kept.held.some in
     let enough = ends.opened in
     record {
@@ -219,24 +237,30 @@ ended_past d p past n mode kept ends is =
       ];
       bare = λ none. refl;
       calm = λ _ none. omega arith;
-      pushed = λ m is_new. absurd (elim ends.may as (λ _. ⊥) [
-        | inl one ↦ (let never : None ≡ Some m = sym (ap new_of one.1) ∙ is_new in cc)
-        | inr two ↦ (let never : None ≡ Some m = sym (ap new_of two.1) ∙ is_new in cc)
-      ]);
+      pushed = λ m is_new. absurd (end_no_new d n mode ends m is_new);
     }
 
-pub past_stays : PastStays
-past_stays (Applies segment r) w v past kept is (may, same) =
-    inl (subst (λ (x : World). IsPast x.knows past) (sym same)
-    (applied_past w.knows w.shown past segment r kept may is))
-past_stays (Turns n mode) w v past kept is (roll, same) =
-    let d = w.knows in
-    let t = roll.0.texts in
+-- so does the first roll's end, with no head before
+pub first_past : (d : FailData) (p : Shown) (past : List TakenHead) (n : Start) (mode : Mode) (kept : IsKept d p)
+    → EndsRoll d n mode → d.head.start.id ≡ 0 → IsPast d past → IsPast (ended d n mode) past
+first_past d p past n mode kept ends none is = record {
+  units = units_again past (head_now d) (head_now (ended d n mode)) d.opening (commands_of d.history) (is.bare none)
+      is.units;
+  whole = is.whole;
+  bare = λ same. refl;
+  calm = λ at zero. (let newer = end_newer d p n mode kept ends in omega arith);
+  pushed = λ m is_new. absurd (end_no_new d n mode ends m is_new);
+}
+
+pub rolling_past : (d : FailData) (p : Shown) (past : List TakenHead) (n : Start) (mode : Mode) (kept : IsKept d p)
+    → IsRoll d kept.texts p n mode → IsPast d past → IsPast (rolling d n mode) past
+rolling_past d p past n mode kept roll is =
+    let t = kept.texts in
     let e = rolling d n mode in
-    let none = ap length (rolls.none_taken d t w.shown n mode roll.0.held.logged roll.0.held.mirrored roll.1) in
-    let new = rolls.mode_new d t w.shown n mode roll.0.held.logged roll.0.held.mirrored roll.1 in
-    inl (subst (λ (x : World). IsPast x.knows past) (sym same) (same_past d e past is refl refl refl refl
-    (λ at. absurd (elim roll.1.may as (λ _. ⊥) [
+    let none = ap length (rolls.none_taken d t p n mode kept.held.logged kept.held.mirrored roll) in
+    let new = rolls.mode_new d t p n mode kept.held.logged kept.held.mirrored roll in
+    same_past d e past is refl refl refl refl
+    (λ at. absurd (elim roll.may as (λ _. ⊥) [
       | inl one ↦ elim at as (λ _. ⊥) [
         | inl calm ↦ (let never : Rolls n ≡ Calm = sym one.1 ∙ calm in cc)
         | inr repairs ↦ (let never : Rolls n ≡ Repairs = sym one.1 ∙ repairs in cc)
@@ -248,34 +272,52 @@ past_stays (Turns n mode) w v past kept is (roll, same) =
     ]))
     (λ m is_new some place lt.
     let one = same_Some n m (sym new ∙ is_new) in
-    let size = ap (λ (x : Start). length (e.took x.id)) one in absurd (omega arith))))
-past_stays TakesId w v past kept is (works, same) =
-    let d = w.knows in
+    let size = ap (λ (x : Start). length (e.took x.id)) one in absurd (omega arith))
+
+pub id_taken_past : (d : FailData) (p : Shown) (past : List TakenHead) (kept : IsKept d p) → IsPast d past
+    → IsPast (id_taken d) past
+id_taken_past d p past kept is =
     let t = kept.texts in
     let e = id_taken d in
     let id = d.head.start.id in
-    let head = ids.took_other d t w.shown kept.held.logged kept.held.mirrored id
-    (ids.head_apart d t w.shown kept.held.logged kept.held.mirrored) in
-    inl (subst (λ (x : World). IsPast x.knows past) (sym same) (same_past d e past is refl refl refl refl (λ mode. mode)
+    let head = ids.took_other d t p kept.held.logged kept.held.mirrored id
+    (ids.head_apart d t p kept.held.logged kept.held.mirrored) in
+    same_past d e past is refl refl refl refl (λ mode. mode)
     (λ n new some place lt.
     let below = (kept.held.logged.new n (inl new)).next in
-    let size = ap length (ids.took_other d t w.shown kept.held.logged kept.held.mirrored n.id (λ one. omega arith)) in
+    let size = ap length (ids.took_other d t p kept.held.logged kept.held.mirrored n.id (λ one. omega arith)) in
     let old = is.pushed n new (omega arith) place lt in
-    let again = takers_again d.head (d.took id) (e.took id) d.counts place head in omega arith)))
+    let again = takers_again d.head (d.took id) (e.took id) d.counts place head in omega arith)
+
+pub mended_past : (d : FailData) (past : List TakenHead) → d.mode ≡ Repairs → IsPast d past → IsPast (mended d) past
+mended_past d past repairs is =
+    same_past d (mended d) past is refl refl refl refl (λ _. inr repairs) (λ n new. absurd (cc))
+
+pub failing_past : (d : FailData) (past : List TakenHead) (b : ℕ) → IsPast d past → IsPast (failing d b) past
+failing_past d past b is =
+    same_past d (failing d b) past is refl refl refl refl (λ mode. absurd (elim mode as (λ _. ⊥) [
+      | inl calm ↦ cc
+      | inr repairs ↦ cc
+    ])) (λ n new. absurd (cc))
+
+pub past_stays : PastStays
+past_stays (Applies segment r) w v past kept is (may, same) =
+    inl (subst (λ (x : World). IsPast x.knows past) (sym same)
+    (applied_past w.knows w.shown past segment r kept may is))
+past_stays (Turns n mode) w v past kept is (roll, same) =
+    inl (subst (λ (x : World). IsPast x.knows past) (sym same)
+    (rolling_past w.knows w.shown past n mode roll.0 roll.1 is))
+past_stays TakesId w v past kept is (works, same) =
+    inl (subst (λ (x : World). IsPast x.knows past) (sym same) (id_taken_past w.knows w.shown past kept is))
 past_stays (Ends n mode) w v past kept is (ends, same) =
     inr (subst (λ (x : World). IsPast x.knows (heads_of past w.knows)) (sym same)
     (ended_past w.knows w.shown past n mode kept ends is))
 past_stays Mended w v past kept is (repairs, same) =
-    inl (subst (λ (x : World). IsPast x.knows past) (sym same)
-    (same_past w.knows (mended w.knows) past is refl refl refl refl (λ _. inr repairs) (λ n new. absurd (cc))))
+    inl (subst (λ (x : World). IsPast x.knows past) (sym same) (mended_past w.knows past repairs is))
 past_stays (Takes o) w v past kept is (may, took, runs) =
     inl (next_past w.knows v.knows w.shown o past may.1 is may.2)
 past_stays (Fails o b) w v past kept is (e, may, at, faulted, works, same, runs) =
-    inl (subst (λ (x : FailData). IsPast x past) (sym same)
-    (same_past w.knows (failing w.knows b) past is refl refl refl refl (λ mode. absurd (elim mode as (λ _. ⊥) [
-      | inl calm ↦ cc
-      | inr repairs ↦ cc
-    ])) (λ n new. absurd (cc))))
+    inl (subst (λ (x : FailData). IsPast x past) (sym same) (failing_past w.knows past b is))
 past_stays (Halts o) w v past kept is (e, may, faulted, same, halts) =
     inl (subst (λ (x : FailData). IsPast x past) (sym same) is)
 

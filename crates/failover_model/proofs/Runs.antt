@@ -71,7 +71,7 @@ next_goes_on d e texts p o (inr (inr (inr (inr (inr (inr (inl is))))))) =
 next_goes_on d e texts p o (inr (inr (inr (inr (inr (inr (inr is))))))) =
     same_mode d e d.counts d.shut d.took is.gives
 
-there : (c : FailConfig) (o : Op) (b s : ℕ) (act : Act) → o ≡ On b s act → IsThere c o → b < c.backups
+pub there : (c : FailConfig) (o : Op) (b s : ℕ) (act : Act) → o ≡ On b s act → IsThere c o → b < c.backups
 there c o b s act is at = subst (IsThere c) is at
 
 pub next_keeps : (d e : FailData) (p q : Shown) (o : Op) (kept : IsKept d p) → IsThere d.config o
@@ -96,7 +96,7 @@ fitted : (e : FailData) (p q : Shown) (o : Op) → Fits e p o → taken p o ≡ 
 fitted e p q o fits took = subst (IsKnown e) (same_Some fits.0 q (sym fits.1 ∙ took)) fits.2
 
 -- what is freed was there
-was_there : (p q : Shown) (b s : ℕ) → taken p (On b s Free) ≡ Some q → IsSome (p.holds b s)
+pub was_there : (p q : Shown) (b s : ℕ) → taken p (On b s Free) ≡ Some q → IsSome (p.holds b s)
 was_there p q b s took = go (p.holds b s) took where
   go : (o : Option Replica)
       → option_map (λ (x : Option Replica). record { holds = with_replica p.holds b s x; least = p.least })
@@ -130,7 +130,7 @@ faulted_keeps d e p q o kept at next (inl same) = subst (IsKept d) (sym same) ke
 faulted_keeps d e p q o kept at next (inr took) = (next_keeps d e p q o kept at next took).0
 
 -- an op on a backup changes what it holds alone
-elsewhere : (p q : Shown) (o : Op) (b : ℕ) → IsOn b o → IsFaulted p o q → (c s : ℕ) → (c ≡ b → ⊥)
+pub elsewhere : (p q : Shown) (o : Op) (b : ℕ) → IsOn b o → IsFaulted p o q → (c s : ℕ) → (c ≡ b → ⊥)
     → q.holds c s ≡ p.holds c s
 elsewhere p q o b on (inl same) c s other = ap (λ (x : Shown). x.holds c s) same
 elsewhere p q (Raise id) b on (inr took) c s other = absurd on

@@ -22,7 +22,7 @@ use Rattle.failover_model.proofs.Lengths.{lens_known, len_known}
 use Rattle.failover_model.proofs.States.{whole_front, own_entries, present_stands}
 
 -- a base with one more segment
-base_push : (texts : Texts) (ids : List ℕ) (s : ℕ) (base : List Entry) → IsBase texts (ids ++ s ∷ []) base
+pub base_push : (texts : Texts) (ids : List ℕ) (s : ℕ) (base : List Entry) → IsBase texts (ids ++ s ∷ []) base
     → (es : List Entry) × (rest : List Entry) × IsVariant texts s es × IsBase texts ids rest × (base ≡ rest ++ es)
 base_push texts [] s base (es, rest, here, none, is) =
     (es, [], here, refl, is ∙ ap (λ (l : List Entry). es ++ l) none ∙ append-nil es)

@@ -44,6 +44,7 @@ bare_replica n = record { text = bare n; is_open = true }
 
 -- What a log is set up with.
 pub record FailConfig : Type 0 where
+  pub master : ℕ
   -- how many backups there are, numbered from 0
   pub backups : ℕ
   -- how many replicas a segment has

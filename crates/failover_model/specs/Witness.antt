@@ -7,7 +7,7 @@ use Rattle.failover_model.specs.Runs.{World, Event, IsRun}
 use Rattle.failover_model.specs.Steps.{fresh}
 
 abbrev pub three : FailConfig
-three = record { backups = 3; replicas = 2; most = 16; tablets = []; format = 2 }
+three = record { master = 1; backups = 3; replicas = 2; most = 16; tablets = []; format = 2 }
 
 -- a world in which nothing is held of the master
 abbrev pub start : World

@@ -1,26 +1,23 @@
--- What a head holds when a unit is added, and which states its fronts stand for.
+-- What units are when one is added, and which states their fronts stand for.
 use Rattle.std.proofs.Common.{◌≡◌, ℕ, suc, ◌<◌, ◌≤◌, ◌⊎◌, inl, inr, List, [], ◌∷◌, ◌++◌, length, take, refl, sym, ap}
 use Rattle.std.proofs.Common.{zero, subst, ◌∙◌, arith, Some}
 use Rattle.std.specs.Prelude.{slice_get}
 use Rattle.std.proofs.lemmas.Bool.{cases_lt}
-use Rattle.std.proofs.lemmas.List.{append-nil, length-append, length-map, map-append, take-append-le, take_all}
+use Rattle.std.proofs.lemmas.List.{append-nil, length-append, length-map, map-append, take-append-le}
 use Rattle.std.proofs.lemmas.Grind.{flat_map-append}
 use Rattle.std.proofs.lemmas.Option.{same_Some}
 use Rattle.entry.specs.declared.entry.Entry.{Entry}
 use Rattle.entry.specs.Meaning.{among}
-use Rattle.entry.proofs.BagLemmas.{among_left, among_right, among_either}
+use Rattle.entry.proofs.BagLemmas.{among_left, among_right}
 use Rattle.versioned_map.specs.declared.command.Command.{Command}
 use Rattle.versioned_map.specs.declared.command.Record.{Record}
 use Rattle.versioned_map.specs.History.{commands_of}
-use Rattle.versioned_map.specs.Represents.{Represents}
 use Rattle.versioned_map.specs.Versioned.{State, after, after_command}
 use Rattle.versioned_map.proofs.Units.{states_pushed}
-use Rattle.log_model.specs.Data.{LogUnit, Head, LogData, entries_of, front_entries, records_before, state_of}
-use Rattle.log_model.specs.Data.{state_after}
-use Rattle.log_model.specs.Log.{Texts, Rise, base_of, IsStanding}
+use Rattle.log_model.specs.Data.{LogUnit, Head, entries_of, front_entries, records_before}
+use Rattle.log_model.specs.Log.{Rise}
 use Rattle.log_model.specs.Steps.{with_unit}
 use Rattle.log_model.proofs.Counts.{rise_more, rise_push, before_within, before_end, before_push}
-use Rattle.log_model.proofs.Segments.{units_all}
 
 -- ---- one unit more
 
@@ -82,33 +79,7 @@ pub in_front : (h : Head) (place count : ℕ) (u : LogUnit) (e : Entry) → slic
 in_front h place count u e is lt m =
     among_right e h.loaded (entries_of (take count h.units)) (in_units h.units place count u e is lt m)
 
--- the entries of the first units are among all
-first_units : (e : Entry) (k : ℕ) (us : List LogUnit) → among (entries_of (take k us)) e → among (entries_of us) e
-first_units e zero us m = absurd m
-first_units e (suc k) [] m = absurd m
-first_units e (suc k) (u ∷ us) m = elim (among_either e u.entries (entries_of (take k us)) m) [
-  | inl l ↦ among_left e u.entries (entries_of us) l
-  | inr r ↦ among_right e u.entries (entries_of us) (first_units e k us r)
-]
-
--- so a front is among the whole
-pub front_in : (h : Head) (k : ℕ) (e : Entry) → among (front_entries h k) e
-    → among (front_entries h (length h.units)) e
-front_in h k e m =
-    subst (λ (us : List LogUnit). among (h.loaded ++ entries_of us) e) (sym (units_all h.units))
-    (elim (among_either e h.loaded (entries_of (take k h.units)) m) as (λ _. among (h.loaded ++ entries_of h.units) e) [
-      | inl l ↦ among_left e h.loaded (entries_of h.units) l
-      | inr r ↦ among_right e h.loaded (entries_of h.units) (first_units e k h.units r)
-    ])
-
 -- ---- states
-
--- all records that there are
-pub after_all : (d : LogData) → state_after d (length d.history) ≡ state_of d
-after_all d =
-    let n = length-map d.history (λ (r : Record). r.command) in
-    ap (λ (cs : List Command). after d.opening cs)
-    (take_all (length d.history) (commands_of d.history) (omega arith))
 
 -- the state after the first records doesn't change with one more
 pub state_front : (opening : State) (records : List Record) (r : Record) (k : ℕ) → k ≤ length records
@@ -125,16 +96,3 @@ pub state_next : (opening : State) (records : List Record) (r : Record)
 state_next opening records r =
     ap (after opening) (map-append (λ (x : Record). x.command) records (r ∷ []))
     ∙ (states_pushed opening (commands_of records) r.command).0
-
--- base and head stand for the present state
-pub present_stands : (d : LogData) (texts : Texts) → IsStanding d texts
-    → Represents d.head.start.safe
-    (base_of texts d.head.start.others ++ (d.head.loaded ++ entries_of d.head.units)) (state_of d)
-present_stands d texts standing =
-    let base = base_of texts d.head.start.others in
-    let last = standing.fronts (length d.head.units) (omega arith) in
-    let all = before_end d.head.units (length d.history) (length d.head.units) (omega arith) in
-    subst (λ (us : List LogUnit). Represents d.head.start.safe (base ++ (d.head.loaded ++ entries_of us)) (state_of d))
-    (units_all d.head.units)
-    (subst (λ (st : State). Represents d.head.start.safe (base ++ front_entries d.head (length d.head.units)) st)
-    (ap (state_after d) all ∙ after_all d) last)

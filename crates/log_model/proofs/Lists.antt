@@ -1,48 +1,14 @@
--- What is at a place of a list that grew or in which one place was set, members of lists of ids, and options.
-use Rattle.std.proofs.Common.{◌≡◌, ℕ, zero, suc, ◌<◌, ◌⊎◌, inl, inr, Bool, true, false, cond, List, [], ◌∷◌, ◌++◌}
-use Rattle.std.proofs.Common.{length, Some, refl, sym, ap, arith}
-use Rattle.std.specs.Prelude.{Option, None, IsSome, IsSomeAnd, filter, slice_get, slice_set}
+-- Members of lists of ids and of entries, and options.
+use Rattle.std.proofs.Common.{◌≡◌, ℕ, zero, suc, ◌<◌, inl, inr, Bool, true, false, cond, List, [], ◌∷◌, ◌++◌, length}
+use Rattle.std.proofs.Common.{Some, refl, ap, arith}
+use Rattle.std.specs.Prelude.{Option, None, IsSome, IsSomeAnd, filter}
 use Rattle.std.specs.List.{AllByRecursion}
 use Rattle.std.proofs.lemmas.List.{length-append}
-use Rattle.std.proofs.lemmas.Option.{same_Some}
 use Rattle.entry.specs.declared.entry.Entry.{Entry}
 use Rattle.entry.specs.Bag.{IsAmong}
 use Rattle.entry.specs.Text.{is_data}
 use Rattle.entry.specs.Meaning.{among}
 use Rattle.log_model.specs.Steps.{no_units}
-
--- ---- places
-
-pub get_push : {A : Type 0} (xs : List A) (y : A) (j : ℕ) (l : A) → slice_get (xs ++ y ∷ []) j ≡ Some l
-    → (slice_get xs j ≡ Some l) ⊎ ((j ≡ length xs) × (y ≡ l))
-get_push [] y zero l h = inr (refl, cc)
-get_push [] y (suc j) l h = absurd (cc)
-get_push (x ∷ xs) y zero l h = inl h
-get_push (x ∷ xs) y (suc j) l h = elim (get_push xs y j l h) [ inl a ↦ inl a | inr b ↦ inr (ap suc b.0, b.1) ]
-
-pub get_left : {A : Type 0} (xs ys : List A) (j : ℕ) (l : A) → slice_get xs j ≡ Some l
-    → slice_get (xs ++ ys) j ≡ Some l
-get_left [] ys j l h = absurd (cc)
-get_left (x ∷ xs) ys zero l h = h
-get_left (x ∷ xs) ys (suc j) l h = get_left xs ys j l h
-
-pub get_last : {A : Type 0} (xs : List A) (y : A) → slice_get (xs ++ y ∷ []) (length xs) ≡ Some y
-get_last [] y = refl
-get_last (x ∷ xs) y = get_last xs y
-
-pub get_set_same : {A : Type 0} (xs : List A) (j : ℕ) (l : A) → j < length xs
-    → slice_get (slice_set xs j l) j ≡ Some l
-get_set_same [] j l h = absurd (omega arith)
-get_set_same (x ∷ xs) zero l h = refl
-get_set_same (x ∷ xs) (suc j) l h = get_set_same xs j l (omega arith)
-
-pub get_set_other : {A : Type 0} (xs : List A) (i j : ℕ) (l : A) → (i ≡ j → ⊥)
-    → slice_get (slice_set xs i l) j ≡ slice_get xs j
-get_set_other [] i j l h = refl
-get_set_other (x ∷ xs) zero zero l h = absurd (h refl)
-get_set_other (x ∷ xs) zero (suc j) l h = refl
-get_set_other (x ∷ xs) (suc i) zero l h = refl
-get_set_other (x ∷ xs) (suc i) (suc j) l h = get_set_other xs i j l (λ e. h (ap suc e))
 
 -- ---- ids
 
@@ -71,16 +37,6 @@ same_front (w ∷ xs) (z ∷ ys) x y e =
 pub no_units_length : (n : ℕ) → length (no_units n) ≡ n
 no_units_length zero = refl
 no_units_length (suc n) = let rest = no_units_length n in omega arith
-
-pub no_units_none : (n j count : ℕ) → slice_get (no_units n) j ≡ Some count → count ≡ 0
-no_units_none zero j count is = absurd (cc)
-no_units_none (suc n) zero count is = sym (same_Some 0 count is)
-no_units_none (suc n) (suc j) count is = no_units_none n j count is
-
-pub no_units_some : (n j : ℕ) → j < n → slice_get (no_units n) j ≡ Some 0
-no_units_some zero j lt = absurd (omega arith)
-no_units_some (suc n) zero lt = refl
-no_units_some (suc n) (suc j) lt = no_units_some n j (omega arith)
 
 -- ---- options
 

@@ -1,8 +1,7 @@
--- What a master knows of its log, its fleet apart.
-use Rattle.std.specs.Prelude.{◌≡◌, ℕ, zero, suc, ◌+◌, ◌*◌, List, [], ◌∷◌, ◌++◌, length, take, Option, Some, None}
-use Rattle.std.specs.Prelude.{slice_get, map, min, unwrap_or, ◌==◌, nat_lt, if◌then◌else◌}
+-- A head of a log, its units and its digest.
+use Rattle.std.specs.Prelude.{ℕ, zero, suc, ◌+◌, ◌*◌, List, [], ◌∷◌, ◌++◌, length, take, Option, Some, None, map, min}
+use Rattle.std.specs.Prelude.{unwrap_or, ◌==◌, if◌then◌else◌}
 use Rattle.std.specs.List.{flat_map}
-use Rattle.entry.specs.declared.tablet.Tablet.{Tablet}
 use Rattle.entry.specs.declared.digest.Listed.{Listed}
 use Rattle.entry.specs.declared.digest.Digest.{Digest}
 use Rattle.entry.specs.declared.digest.Digest.TheVariants as digest
@@ -10,21 +9,8 @@ use Rattle.entry.specs.declared.entry.Entry.{Entry}
 use Rattle.entry.specs.declared.entry.Entry.TheVariants as entry
 use Rattle.entry.specs.declared.entry.Role.TheVariants as role
 use Rattle.entry.specs.Text.{lists_lengths, listed_len}
-use Rattle.versioned_map.specs.declared.command.Record.{Record}
-use Rattle.versioned_map.specs.History.{commands_of}
-use Rattle.versioned_map.specs.Versioned.{State, after}
 
 -- ---- data
-
--- What a log is set up with.
-pub record LogConfig : Type 0 where
-  pub master : ℕ
-  pub replicas : ℕ
-  -- the backups of each segment's replicas
-  pub homes : ℕ → List ℕ
-  pub tablets : List Tablet
-  -- 1 or 2: under format 2 digests list the lengths of segments
-  pub format : ℕ
 
 -- What a head begins with: its id, the other ids of its digest, their lengths if the digest lists these, and the
 -- recorded safe version.
@@ -55,30 +41,7 @@ pub data Phase : Type 0 where
   Opened : ℕ → Start → Phase
   Closed : ℕ → Start → Phase
 
--- All that a master knows of its log.
-pub record LogData : Type 0 where
-  pub config : LogConfig
-  -- the state that the history begins with
-  pub opening : State
-  pub history : List Record
-  pub head : Head
-  pub phase : Phase
-  -- the first id that no segment had yet
-  pub next : ℕ
-
 -- ---- words
-
--- the backups of a segment's replicas
-abbrev pub homes : LogData → ℕ → List ℕ
-homes d s = d.config.homes s
-
--- the backup is that of the segment's replica of this number
-abbrev pub IsHomeAt : LogData → ℕ → ℕ → ℕ → Type 0
-IsHomeAt d s j b = slice_get (homes d s) j ≡ Some b
-
--- the backup is that of some replica of the segment
-abbrev pub IsHome : LogData → ℕ → ℕ → Type 0
-IsHome d s b = (j : ℕ) × IsHomeAt d s j b
 
 -- the ids of a head's digest
 abbrev pub ids_of : Start → List ℕ
@@ -142,41 +105,7 @@ new_of Ready = None
 new_of (Opened j n) = Some n
 new_of (Closed j n) = Some n
 
--- how many replicas of the new head were opened, of this many
-abbrev pub opened_of : ℕ → Phase → ℕ
-opened_of replicas Ready = 0
-opened_of replicas (Opened j n) = j
-opened_of replicas (Closed j n) = replicas
-
--- how many replicas of the old head were closed
-abbrev pub closed_of : Phase → ℕ
-closed_of Ready = 0
-closed_of (Opened j n) = 0
-closed_of (Closed j n) = j
-
--- the head in force, if each of its homes took it
-abbrev pub opened_head : LogData → Option ℕ
-opened_head d = if length d.head.taken == d.config.replicas then Some d.head.start.id else None
-
--- the new head of a roll once all its replicas were opened, or else this one
-abbrev pub opened_in : Phase → Option ℕ → Option ℕ
-opened_in Ready old = old
-opened_in (Opened j n) old = old
-opened_in (Closed j n) old = Some n.id
-
--- the newest head that was opened on all its homes, by takes that answered Ok
-abbrev pub newest_opened : LogData → Option ℕ
-newest_opened d = opened_in d.phase (opened_head d)
-
 -- ---- history
-
--- the versioned map's state after the first records
-abbrev pub state_after : LogData → ℕ → State
-state_after d count = after d.opening (take count (commands_of d.history))
-
--- the versioned map's state after all records
-abbrev pub state_of : LogData → State
-state_of d = after d.opening (commands_of d.history)
 
 -- how many records come before the one whose unit is at this place; all of them, if there is none
 abbrev pub records_before : List LogUnit → ℕ → ℕ → ℕ
@@ -188,12 +117,3 @@ records_before (u ∷ us) all (suc place) = records_before us all place
 abbrev pub fewest : ℕ → List ℕ → ℕ
 fewest units [] = units
 fewest units (n ∷ ns) = min n (fewest units ns)
-
--- how many of its units all replicas of the head have
-abbrev pub everywhere : LogData → ℕ
-everywhere d =
-    if nat_lt (length d.head.taken) d.config.replicas then 0 else fewest (length d.head.units) d.head.taken
-
--- how many of the first records are durable
-abbrev pub durable_of : LogData → ℕ
-durable_of d = records_before d.head.units (length d.history) (everywhere d)

@@ -1,0 +1,205 @@
+-- What a fleet keeps of a master by the answer of each op.
+use Rattle.std.proofs.Common.{◌≡◌, ℕ, inl, inr, sym, ap, subst, ◌∙◌}
+use Rattle.std.proofs.lemmas.Option.{same_Some}
+use Rattle.replica.specs.Picture.{FleetState, shown_of}
+use Rattle.failover_model.specs.Shown.{Shown, Op}
+use Rattle.failover_model.specs.Data.{FailConfig, FailData}
+use Rattle.failover_model.specs.Log.{Texts}
+use Rattle.failover_model.specs.Runs.{IsThere, IsFaulted}
+use Rattle.failover_model.specs.Steps.{with_taken, Reseals, Seals}
+use Rattle.failover_model.proofs.Runs.{elsewhere}
+use Rattle.failover_bytes.specs.Keeping.{IsFreedThere, IsAsked}
+use Rattle.failover_bytes.specs.Runs.{read_fleet}
+use Rattle.failover_bytes.specs.Segments.{SealsSegment, IsHeldOp}
+use Rattle.failover_bytes.specs.Spelled.{IsSpelled}
+use Rattle.failover_bytes.proofs.Heads.{others_have_segments}
+use Rattle.failover_bytes.proofs.Keeping.{ok_is_spelled, fault_is_either, held_op_is_never_wrong}
+use Rattle.failover_bytes.proofs.Reading.{spelled_is_read}
+use Rattle.failover_clean.specs.Fleet.{read_of, KeepsAll, OkHoldsAll, FaultKeepsAll}
+use Rattle.failover_clean.specs.Fleet.{FaultFailsOver, OpIsNeverWrong}
+use Rattle.failover_clean.specs.Intact.{IsIntact, Knows}
+use Rattle.failover_clean.specs.Memory.{FailMemory}
+use Rattle.failover_clean.specs.Ops.{IsHeadOp, IsOp}
+use Rattle.failover_clean.specs.Steps.{stopped}
+use Rattle.failover_clean.proofs.Failing.{fail_keeps}
+use Rattle.failover_clean.proofs.Freeing.{spot_is_free}
+use Rattle.failover_clean.proofs.KeptFleets.{holds_at}
+use Rattle.failover_clean.proofs.Knowing.{fail_knows}
+use Rattle.failover_clean.proofs.OpsKeep.{op_keeps, op_fits}
+use Rattle.failover_clean.proofs.Repairing.{image_is_repair}
+use Rattle.failover_clean.proofs.Sealing.{seals_image}
+
+-- ---- the op, as bytes have it
+
+-- an op of the head
+pub head_held : (d e : FailData) (texts : Texts) (p : Shown) (o : Op) → IsHeadOp d o e → IsHeldOp d texts p o e
+head_held d e texts p o (inl is) = inl is
+head_held d e texts p o (inr (inl is)) = inr (inl is)
+head_held d e texts p o (inr (inr (inl is))) = inr (inr (inl is))
+head_held d e texts p o (inr (inr (inr (inl is)))) = inr (inr (inr (inl is)))
+head_held d e texts p o (inr (inr (inr (inr is)))) = inr (inr (inr (inr (inl is))))
+
+-- it seals and frees nothing, and its master has the same number
+pub record IsPlain (master : ℕ) (d e : FailData) (p : Shown) (o : Op) : Type 0 where
+  pub seals : SealsSegment master o
+  pub freed : IsFreedThere p o
+  pub config : e.config ≡ d.config
+
+pub head_plain : (master : ℕ) (d e : FailData) (p : Shown) (o : Op) → IsHeadOp d o e → IsPlain master d e p o
+head_plain master d e p o (inl is) = record {
+  seals = subst (SealsSegment master) (sym is.op) tt;
+  freed = subst (IsFreedThere p) (sym is.op) tt;
+  config = ap (λ (x : FailData). x.config) is.gives;
+}
+head_plain master d e p o (inr (inl is)) = record {
+  seals = subst (SealsSegment master) (sym is.op) tt;
+  freed = subst (IsFreedThere p) (sym is.op) tt;
+  config = ap (λ (x : FailData). x.config) is.gives;
+}
+head_plain master d e p o (inr (inr (inl is))) = record {
+  seals = subst (SealsSegment master) (sym is.op) tt;
+  freed = subst (IsFreedThere p) (sym is.op) tt;
+  config = ap (λ (x : FailData). x.config) is.gives;
+}
+head_plain master d e p o (inr (inr (inr (inl is)))) = record {
+  seals = subst (SealsSegment master) (sym is.op) tt;
+  freed = subst (IsFreedThere p) (sym is.op) tt;
+  config = ap (λ (x : FailData). x.config) is.gives;
+}
+head_plain master d e p o (inr (inr (inr (inr is)))) = record {
+  seals = subst (SealsSegment master) (sym is.op) tt;
+  freed = subst (IsFreedThere p) (sym is.op) tt;
+  config = ap (λ (x : FailData). x.config) is.gives;
+}
+
+-- What a fleet is asked.
+record IsAskable (master : ℕ) (d e : FailData) (texts : Texts) (p : Shown) (o : Op) : Type 0 where
+  held : IsHeldOp d texts p o e
+  seals : SealsSegment master o
+  config : e.config ≡ d.config
+
+askable : (d e : FailData) (m n : FailMemory) (p : Shown) (o : Op) (i : IsIntact d m p) → IsOp d m o e n
+    → IsAskable d.config.master d e i.log.texts p o
+askable d e m n p o i (inl (is, same)) =
+    let plain = head_plain d.config.master d e p o is in
+    record { held = head_held d e i.log.texts p o is; seals = plain.seals; config = plain.config }
+askable d e m n p o i (inr (inl (is, same))) =
+    let then : FailData = record d { took = with_taken d.took is.s is.b } in
+    record {
+      held = inr (inr (inr (inr (inr (inr (inl
+          (subst (λ (x : FailData). Seals d i.log.texts p o x) (sym is.gives)
+          (subst (λ (x : Op). Seals d i.log.texts p x then) (sym is.op)
+          (seals_image d m p is.s is.b i is.may)))))))));
+      seals = subst (SealsSegment d.config.master) (sym is.op) is.whole;
+      config = ap (λ (x : FailData). x.config) is.gives;
+    }
+askable d e m n p o i (inr (inr (inl (is, same)))) =
+    let then : FailData = record d { took = with_taken d.took is.s is.b } in
+    record {
+      held = inr (inr (inr (inr (inr (inl
+          (subst (λ (x : FailData). Reseals d i.log.texts o x) (sym is.gives)
+          (subst (λ (x : Op). Reseals d i.log.texts x then) (sym is.op)
+          (image_is_repair d m p is.s is.b i is.may))))))));
+      seals = subst (SealsSegment d.config.master) (sym is.op) is.whole;
+      config = ap (λ (x : FailData). x.config) is.gives;
+    }
+askable d e m n p o i (inr (inr (inr (is, same)))) = record {
+  held = inr (inr (inr (inr (inr (inr (inr (record {
+    b = is.b;
+    s = is.s;
+    calm = is.may.calm;
+    free = spot_is_free d m p is.s is.b i is.may;
+    op = is.op;
+    gives = same;
+  })))))));
+  seals = subst (SealsSegment d.config.master) (sym is.op) tt;
+  config = ap (λ (x : FailData). x.config) same;
+}
+
+-- what it frees is there
+freed_there : (d e : FailData) (m n : FailMemory) (p : Shown) (o : Op) → Knows d m p → IsOp d m o e n
+    → IsFreedThere p o
+freed_there d e m n p o k (inl (is, same)) = (head_plain d.config.master d e p o is).freed
+freed_there d e m n p o k (inr (inl (is, same))) = subst (IsFreedThere p) (sym is.op) tt
+freed_there d e m n p o k (inr (inr (inl (is, same)))) = subst (IsFreedThere p) (sym is.op) tt
+freed_there d e m n p o k (inr (inr (inr (is, same)))) =
+    subst (IsFreedThere p) (sym is.op) (k.waiting (record { segment = is.s; backup = is.b }) is.may.waits is.may.works)
+
+asked : (d e : FailData) (m n : FailMemory) (f : FleetState) (o : Op) (keeps : KeepsAll d m f) → IsOp d m o e n
+    → IsAsked d.config.master d keeps.intact.log.texts f (read_of d f) o e
+asked d e m n f o keeps is =
+    let may = askable d e m n (read_of d f) o keeps.intact is in
+    record {
+      spelled = keeps.spelled;
+      held = keeps.intact.log.held;
+      heads = keeps.heads;
+      op = may.held;
+      seals = may.seals;
+    }
+
+-- ---- the answers
+
+-- what a fleet spells is what is read of it
+same_picture : (master : ℕ) (g : FleetState) (q : Shown) → IsSpelled master (shown_of g master) q
+    → q ≡ read_fleet master g
+same_picture master g q spelled = sym (spelled_is_read master (shown_of g master) q spelled).0
+
+pub op_is_never_wrong : OpIsNeverWrong
+op_is_never_wrong d e m n f g o holds is on refused =
+    held_op_is_never_wrong d.config.master d e holds.keeps.intact.log.texts f g (read_of d f) o
+    (asked d e m n f o holds.keeps is) holds.knows.log on (freed_there d e m n (read_of d f) o holds.knows is) refused
+
+pub ok_holds_all : OkHoldsAll
+ok_holds_all d e m n f g o holds is at took =
+    let master = d.config.master in
+    let p = read_of d f in
+    let i = holds.keeps.intact in
+    let then = ok_is_spelled master d e i.log.texts f g p o (asked d e m n f o holds.keeps is) took in
+    let read = same_picture master g then.0 then.2 in
+    let both = op_keeps d e m n p then.0 o i is at then.1 in
+    let fits = op_fits d e m n p o i holds.knows is in
+    let known : Knows e n then.0 =
+    subst (Knows e n) (same_Some fits.0 then.0 (sym fits.1 ∙ then.1)) fits.2 in
+    holds_at master e n g (ap (λ (c : FailConfig). c.master) (askable d e m n p o i is).config) (record {
+      spelled = subst (IsSpelled master (shown_of g master)) read then.2;
+      heads = then.3;
+      intact = subst (IsIntact e n) read both.1;
+      knows = subst (Knows e n) read known;
+    })
+
+-- after a fault all is intact of the master as it was
+faulted : (d e : FailData) (m n : FailMemory) (p q : Shown) (o : Op) → IsIntact d m p → IsOp d m o e n
+    → IsThere d.config o → IsFaulted p o q → IsIntact d m q
+faulted d e m n p q o i is at (inl same) = subst (IsIntact d m) (sym same) i
+faulted d e m n p q o i is at (inr took) = (op_keeps d e m n p q o i is at took).0
+
+pub fault_keeps_all : FaultKeepsAll
+fault_keeps_all d e m n f g o holds is at refused =
+    let master = d.config.master in
+    let p = read_of d f in
+    let i = holds.keeps.intact in
+    let then = fault_is_either master d e i.log.texts f g p o (asked d e m n f o holds.keeps is) refused in
+    let read = same_picture master g then.0 then.2 in
+    record {
+      spelled = subst (IsSpelled master (shown_of g master)) read then.2;
+      heads = holds.keeps.heads;
+      intact = subst (IsIntact d m) read (faulted d e m n p then.0 o i is at then.1);
+    }
+
+pub fault_fails_over : FaultFailsOver
+fault_fails_over d e m n f g o b holds is at on may refused =
+    let master = d.config.master in
+    let p = read_of d f in
+    let i = holds.keeps.intact in
+    let then = fault_is_either master d e i.log.texts f g p o (asked d e m n f o holds.keeps is) refused in
+    let read = same_picture master g then.0 then.2 in
+    let left = faulted d e m n p then.0 o i is at then.1 in
+    record {
+      keeps = record {
+        spelled = subst (IsSpelled master (shown_of g master)) read then.2;
+        heads = (others_have_segments master d holds.keeps.heads).1 b;
+        intact = subst (IsIntact _ (stopped m)) read (fail_keeps d m then.0 b left may);
+      };
+      knows = subst (Knows _ (stopped m)) read
+          (fail_knows d m p then.0 b holds.knows (elsewhere p then.0 o b on then.1));
+    }

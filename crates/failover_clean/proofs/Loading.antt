@@ -1,0 +1,162 @@
+-- Another memory serves a master that is loading as well, and it finishes.
+use Rattle.std.proofs.Common.{◌≡◌, ℕ, inl, true, false, List, [], ◌∷◌, length, refl, sym, subst, ap, ◌∙◌, arith}
+use Rattle.std.specs.Prelude.{Some, None}
+use Rattle.entry.specs.declared.entry.Entry.{Entry}
+use Rattle.entry.specs.Bag.{IsAmong}
+use Rattle.versioned_map.specs.Versioned.{State}
+use Rattle.log_model.specs.Data.{Start}
+use Rattle.clean_model.specs.Intact.{IsPassOf}
+use Rattle.clean_model.specs.Memory.{Pass, LogSet}
+use Rattle.clean_model.specs.Tracked.{IsTracked, IsPassing}
+use Rattle.clean_model.proofs.LogSetChanges.{IsMore, was_in}
+use Rattle.clean_model.proofs.NoPass.{none_passing, none_chosen}
+use Rattle.failover_model.specs.Shown.{Shown}
+use Rattle.failover_model.specs.Data.{Calm, Repairs, FailData, HasTaken, new_of, state_of}
+use Rattle.failover_model.specs.Steps.{IsLoaded, adopted}
+use Rattle.failover_model.proofs.Adopting.{adopted_logged, adopted_mirrored, adopted_standing, adopted_known}
+use Rattle.failover_clean.specs.Intact.{AreSealed, IsIntact}
+use Rattle.failover_clean.specs.Loading.{IsLoading, SameIsLoading, FinishIsIntact}
+use Rattle.failover_clean.specs.Memory.{Spot, FailMemory, log_ids, log_set_of}
+use Rattle.failover_clean.specs.Same.{IsSameMemory}
+use Rattle.failover_clean.proofs.LoadingOps.{none_waits, knows_log}
+use Rattle.failover_clean.proofs.LoadingRolls.{opening_is, none_survive}
+use Rattle.failover_clean.proofs.Pasts.{adopted_past}
+use Rattle.failover_clean.proofs.SameMemories.{images_too, same_tracked, same_around}
+
+-- ---- another memory
+
+none_left : (spots : List Spot) → ((w : Spot) → IsAmong w spots → ⊥) → spots ≡ []
+none_left [] none = refl
+none_left (w ∷ spots) none = absurd (none w (inl refl))
+
+module _ (d : FailData) (m n : FailMemory) (p : Shown) (i : IsLoading d m p) (same : IsSameMemory d m n) where
+  abbrev other : FailMemory
+  other = record n { pass = m.pass }
+
+  abbrev log : LogSet
+  log = log_set_of d m i.texts
+
+  abbrev new : LogSet
+  new = log_set_of d other i.texts
+
+  state_is : d.opening ≡ state_of d
+  state_is = opening_is d i.begins
+
+  more : IsMore log new
+  more = record {
+    counted = λ s c. c;
+    image = same.images;
+    text = λ s c. refl;
+    blank = λ s c. inl c;
+  }
+
+  still : IsLoading d other p
+  still = record {
+    texts = i.texts;
+    held = i.held;
+    begins = i.begins;
+    numbers = i.numbers;
+    stands = i.stands;
+    new = i.new;
+    rolling = i.rolling;
+    empty = i.empty;
+    real = i.real;
+    only = λ k s f none l at. i.only k s f none (was_in log new more s f k at l) at;
+    tracked = subst (λ (st : State). IsTracked new m.pass n.index st.contents) (sym state_is)
+        (same_tracked d m n same i.texts (none_survive d m p i)
+        (subst (λ (st : State). IsTracked log m.pass m.index st.contents) state_is i.tracked));
+    around = same_around d m n same i.texts (none_survive d m p i) d.opening.contents d.opening.safe i.around;
+    recorded = i.recorded;
+    images = images_too d m n same i.texts i.images;
+    whole = i.whole;
+    working = i.working;
+    idle = record {
+      pass = i.idle.pass;
+      rest = same.done i.idle.rest;
+      commits = same.commits ∙ i.idle.commits;
+      waiting = none_left n.waiting (λ w c. none_waits d m p i w (same.waiting w c));
+    };
+  }
+
+pub same_is_loading : SameIsLoading
+same_is_loading d m n p i same =
+    subst (λ (x : Pass). IsLoading d (record n { pass = x }) p) (sym same.pass) (still d m n p i same)
+
+-- ---- it finishes
+
+module _ (d : FailData) (m : FailMemory) (p : Shown) (i : IsLoading d m p) (calm : d.mode ≡ Calm)
+    (whole : (b : ℕ) → HasTaken d d.head.start.id b → d.counts b ≡ length d.head.units) where
+  abbrev then_master : FailData
+  then_master = adopted d d.opening
+
+  some : d.head.start.id ≡ 0 → ⊥
+  some = i.real calm
+
+  abbrev loaded : IsLoaded d p d.opening
+  loaded = record {
+    texts = i.texts;
+    held = i.held;
+    calm = calm;
+    some = let other = some in omega arith;
+    whole = whole;
+    stands = i.stands some;
+  }
+
+  no_new : (n : Start) → new_of d.mode ≡ Some n → ⊥
+  no_new n is = let never : None ≡ Some n = sym (ap new_of calm) ∙ is in cc
+
+  none_survives : (s : ℕ) → IsAmong s m.pass.survivors → ⊥
+  none_survives s c = subst (λ (x : Pass). IsAmong s x.survivors) i.idle.pass c
+
+  no_image : (s : ℕ) (es : List Entry) → IsAmong es (i.texts.images s) → ⊥
+  no_image s es c = subst (λ (l : List (List Entry)). IsAmong es l) (i.whole.one i.working s) c
+
+  sealing : AreSealed then_master m i.texts p
+  sealing = record {
+    bare = λ s survivor. absurd (none_survives s survivor);
+    one = λ s survivor. absurd (none_survives s survivor);
+    each = λ s b r survivor. absurd (none_survives s survivor);
+    held = λ s b survivor. absurd (none_survives s survivor);
+  }
+
+  finished : IsIntact then_master m p
+  finished = record {
+    log = record {
+      texts = i.texts;
+      held = record {
+        some = i.held.some;
+        logged = adopted_logged d p d.opening loaded;
+        mirrored = adopted_mirrored d p d.opening loaded;
+      };
+      standing = adopted_standing d p d.opening loaded;
+    };
+    tracked = i.tracked;
+    passing = subst (λ (x : Pass). IsPassing (log_ids d m) m.images x m.index m.rest) (sym i.idle.pass)
+        (none_passing (log_ids d m) m.images m.index m.rest);
+    around = i.around;
+    images = i.images;
+    repaired = λ s es k e sealed. absurd (no_image s es sealed);
+    whole = record { one = i.whole.one; failed = i.whole.failed };
+    chosen = subst (λ (x : Pass). IsPassOf d.head.start (new_of d.mode) x) (sym i.idle.pass)
+        (none_chosen d.head.start (new_of d.mode));
+    sealing = sealing;
+    rolling = λ n is. absurd (no_new n is);
+    committed = λ its. absurd (let never : false ≡ true = sym i.idle.commits ∙ its in cc);
+    waiting = record {
+      out = λ w c. absurd (none_waits d m p i w c);
+      below = λ w c. absurd (none_waits d m p i w c);
+      real = λ w c. absurd (none_waits d m p i w c);
+    };
+    recorded = λ n is. absurd (no_new n is);
+    repairs = λ never. absurd (let other : Calm ≡ Repairs = sym calm ∙ never in cc);
+    real = λ _. some;
+    past = [];
+    before = adopted_past d p d.opening i.texts loaded;
+  }
+
+pub finish_is_intact : FinishIsIntact
+finish_is_intact d m p i knows calm whole = (
+  finished d m p i calm whole,
+  knows_log d (adopted d d.opening) m m p p i refl
+      (adopted_known d p d.opening (loaded d m p i calm whole) knows.log),
+)

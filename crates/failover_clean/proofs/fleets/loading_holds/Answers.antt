@@ -1,0 +1,17 @@
+use Rattle.failover_clean.proofs.LoadingFleets.{restored_holds_loading, load_holds_loading, ok_holds_loading}
+use Rattle.failover_clean.proofs.LoadingFleets.{loading_is_never_wrong, roll_holds_loading, end_holds_loading}
+use Rattle.failover_clean.proofs.LoadingFleets.{same_holds_loading, others_leave_loading, finished_holds_all}
+use Rattle.failover_clean.proofs.fleets.loading_holds.Goals as goal
+
+pub returns : goal.returns
+returns c = record {
+  restored = restored_holds_loading;
+  loads = load_holds_loading;
+  ok = ok_holds_loading;
+  right = loading_is_never_wrong;
+  rolls = roll_holds_loading;
+  ends = end_holds_loading;
+  same = same_holds_loading;
+  others = others_leave_loading;
+  finished = finished_holds_all;
+}

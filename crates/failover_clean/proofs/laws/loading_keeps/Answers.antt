@@ -1,0 +1,18 @@
+use Rattle.failover_clean.proofs.LoadedObjects.{load_keeps}
+use Rattle.failover_clean.proofs.Loading.{same_is_loading, finish_is_intact}
+use Rattle.failover_clean.proofs.LoadingBegins.{restored_is_loading}
+use Rattle.failover_clean.proofs.LoadingOps.{loading_op_keeps, loading_op_fits}
+use Rattle.failover_clean.proofs.LoadingRolls.{loading_roll_keeps, loading_end_keeps}
+use Rattle.failover_clean.proofs.laws.loading_keeps.Goals as goal
+
+pub returns : goal.returns
+returns c = record {
+  restored = restored_is_loading;
+  loads = load_keeps;
+  ops = loading_op_keeps;
+  fits = loading_op_fits;
+  rolls = loading_roll_keeps;
+  ends = loading_end_keeps;
+  same = same_is_loading;
+  finishes = finish_is_intact;
+}

@@ -1,0 +1,234 @@
+-- What a fleet keeps of a master and its memory, in bytes, by the answer of each op.
+use Rattle.std.specs.Prelude.{◌≡◌, ◌⊎◌, ℕ, ◌<◌, ◌≤◌, List, [], length, true, false, Some, slice_get}
+use Rattle.std.specs.List.Sorted.{IsStrictlySortedBy}
+use Rattle.std.specs.Ordering.{nat_cmp}
+use Rattle.entry.specs.declared.entry.Object.{Object}
+use Rattle.entry.specs.declared.entry.Entry.{Entry}
+use Rattle.entry.specs.Bag.{IsAmong}
+use Rattle.entry.specs.Meaning.{among}
+use Rattle.entry.specs.Text.{data_in}
+use Rattle.replica.specs.declared.op.TakeFault.TheVariants as take_fault
+use Rattle.replica.specs.Picture.{Replica, Shown, FleetState, shown_of}
+use Rattle.versioned_map.specs.declared.command.Record.{Record}
+use Rattle.log_model.specs.Data.{Start, LogUnit}
+use Rattle.clean_model.specs.Memory.{Place}
+use Rattle.failover_model.specs.Data.{front, front_entries, bare, Calm, FailConfig, Mode, FailData, HasTaken, IsHome}
+use Rattle.failover_model.specs.Data.{homes}
+use Rattle.failover_model.specs.Data.{is_failing, durable_of}
+use Rattle.failover_model.specs.Durable.{TakenHead, AreTaken, IsDurable}
+use Rattle.failover_model.specs.Log.{IsOther}
+use Rattle.failover_model.specs.Runs.{IsOn, IsThere}
+use Rattle.failover_model.specs.Shown.{Shown as ModelShown, Op}
+use Rattle.failover_model.specs.Steps.{fresh, restored, MayBegin, applied, MayApply, adopted, rolling, next_start}
+use Rattle.failover_model.specs.Steps.{MayTurn, ended, EndsRoll, failing, MayFail}
+use Rattle.failover_bytes.specs.Choice.{Counts, IsNewestCounted, newest_opened}
+use Rattle.failover_bytes.specs.Held.{HoldsUnit}
+use Rattle.failover_bytes.specs.Ops.{IsOnFleet, TakesOp, RefusesOp}
+use Rattle.failover_bytes.specs.Runs.{read_fleet}
+use Rattle.failover_bytes.specs.Segments.{HeadsAreSegments}
+use Rattle.failover_bytes.specs.Sound.{IsSoundInBytes}
+use Rattle.failover_bytes.specs.Spelled.{IsSpelled}
+use Rattle.failover_bytes.specs.Text.{bytes_for, IsWholeText}
+use Rattle.failover_clean.specs.Covered.{IsCovered}
+use Rattle.failover_clean.specs.Intact.{IsIntact, Knows}
+use Rattle.failover_clean.specs.Loading.{with_object, object_loaded, MayLoad, IsLoading}
+use Rattle.failover_clean.specs.Memory.{FailMemory}
+use Rattle.failover_clean.specs.Ops.{IsHeadOp, IsOp}
+use Rattle.failover_clean.specs.Past.{past_ids}
+use Rattle.failover_clean.specs.Same.{IsSameMemory}
+use Rattle.failover_clean.specs.Steps.{first_memory, recorded, IsNamed, compacted, MayCompact, ids_taken, pass_begun}
+use Rattle.failover_clean.specs.Steps.{MayBeginClean, copy_done, MayCopy, rolled, stopped, MayCommit, finished}
+
+-- what the fleet holds of the master, as the model reads it
+abbrev pub read_of : FailData → FleetState → ModelShown
+read_of d f = read_fleet d.config.master f
+
+-- what the fleet shows of the master
+abbrev pub shown_for : FailData → FleetState → Shown
+shown_for d f = shown_of f d.config.master
+
+-- ---- a master
+
+-- The fleet spells a log of whole segments, and all is intact.
+pub record KeepsAll (d : FailData) (m : FailMemory) (f : FleetState) : Type 0 where
+  pub spelled : IsSpelled d.config.master (shown_for d f) (read_of d f)
+  pub heads : HeadsAreSegments d.config.master d
+  pub intact : IsIntact d m (read_of d f)
+
+-- And the master knows what backups that haven't failed hold.
+pub record HoldsAll (d : FailData) (m : FailMemory) (f : FleetState) : Type 0 where
+  pub keeps : KeepsAll d m f
+  pub knows : Knows d m (read_of d f)
+
+-- ---- durable
+
+-- The backup holds the head's whole text; or, after a backup has failed, an image of it that a repair sealed.
+pub record HoldsPast (d : FailData) (shown : Shown) (b : ℕ) (h : TakenHead) : Type 0 where
+  pub r : Replica
+  pub held : shown.holds b d.config.master h.head.start.id ≡ Some r
+  pub text : (r.bytes ≡ bytes_for d.config.master h.head.start.id (front h.head (length h.head.units)))
+      ⊎ ((d.failed ≡ [] → ⊥) × (r.is_open ≡ false)
+      × ((e : Entry) → among (data_in r.bytes) e → among (front_entries h.head (length h.head.units)) e))
+
+-- The durable count is the most records, from the first on, that are durable: each of their units was taken whole by as
+-- many backups as replicas, by takes that answered Ok. While a failover is open it stays as it was, and all it counts
+-- was so taken.
+pub record CountsDurable (d : FailData) (shown : Shown) : Type 0 where
+  -- the heads before the one in force
+  pub past : List TakenHead
+  pub rising : IsStrictlySortedBy nat_cmp (past_ids past)
+  pub older : (h : TakenHead) → IsAmong h past → h.head.start.id < d.head.start.id
+  pub counted : is_failing d.mode ≡ false → IsDurable d past (durable_of d)
+  pub taken : AreTaken d past (durable_of d)
+  -- each backup that took the head's Open holds each durable unit of it
+  pub units : (place b : ℕ) (u : LogUnit) → slice_get d.head.units place ≡ Some u → u.number < durable_of d
+      → HasTaken d d.head.start.id b → HoldsUnit shown d.config.master b d.head.start.id u
+  -- each home of a head that went before holds it, while the segment is of the log
+  pub heads : (h : TakenHead) (b : ℕ) → IsAmong h past → IsOther d h.head.start.id → IsHome d h.head.start.id b
+      → HoldsPast d shown b h
+
+-- ---- laws of what is kept
+
+-- The picture is sound, and the newest head that was opened on as many backups as replicas is the one that counts.
+abbrev pub KeptIsSound : Type 0
+KeptIsSound = (d : FailData) (m : FailMemory) (f : FleetState) → KeepsAll d m f
+    → IsSoundInBytes d.config.master d (shown_for d f)
+    × IsNewestCounted (Counts d d.config.master (shown_for d f)) (f.least d.config.master) (newest_opened d)
+
+abbrev pub KeptIsCovered : Type 0
+KeptIsCovered = (d : FailData) (m : FailMemory) (f : FleetState) → KeepsAll d m f → IsCovered d m (read_of d f)
+
+abbrev pub KeptIsDurable : Type 0
+KeptIsDurable = (d : FailData) (m : FailMemory) (f : FleetState) → KeepsAll d m f
+    → length (homes d d.head.start.id) ≤ d.config.replicas → CountsDurable d (shown_for d f)
+
+-- Replicas of other masters, and their least heads, don't matter.
+abbrev pub OthersLeaveAll : Type 0
+OthersLeaveAll = (d : FailData) (m : FailMemory) (f g : FleetState)
+    → ((b s : ℕ) → g.picture b d.config.master s ≡ f.picture b d.config.master s)
+    → g.least d.config.master ≡ f.least d.config.master
+    → (KeepsAll d m f → KeepsAll d m g) × (HoldsAll d m f → HoldsAll d m g)
+
+-- ---- laws of ops
+
+-- If the op is answered Ok, the fleet holds all that it leads to.
+abbrev pub OkHoldsAll : Type 0
+OkHoldsAll = (d e : FailData) (m n : FailMemory) (f g : FleetState) (o : Op) → HoldsAll d m f → IsOp d m o e n
+    → IsThere d.config o → TakesOp d.config.master f o g → HoldsAll e n g
+
+-- If it ends in a fault, the fleet keeps all of the master as it was, which may halt.
+abbrev pub FaultKeepsAll : Type 0
+FaultKeepsAll = (d e : FailData) (m n : FailMemory) (f g : FleetState) (o : Op) → HoldsAll d m f → IsOp d m o e n
+    → IsThere d.config o → RefusesOp d.config.master f o take_fault.Fault g → KeepsAll d m g
+
+-- And it holds all of a master whose failover is open.
+abbrev pub FaultFailsOver : Type 0
+FaultFailsOver = (d e : FailData) (m n : FailMemory) (f g : FleetState) (o : Op) (b : ℕ) → HoldsAll d m f
+    → IsOp d m o e n → IsThere d.config o → IsOn b o → MayFail d
+    → RefusesOp d.config.master f o take_fault.Fault g → HoldsAll (failing d b) (stopped m) g
+
+-- The fleet never answers Wrong to it.
+abbrev pub OpIsNeverWrong : Type 0
+OpIsNeverWrong = (d e : FailData) (m n : FailMemory) (f g : FleetState) (o : Op) → HoldsAll d m f → IsOp d m o e n
+    → IsOnFleet f o → RefusesOp d.config.master f o take_fault.Wrong g → ⊥
+
+-- ---- laws of steps that take no op
+
+abbrev pub FreshHoldsAll : Type 0
+FreshHoldsAll = (c : FailConfig) (f : FleetState) → MayBegin c (read_fleet c.master f)
+    → HeadsAreSegments c.master (fresh c) → HoldsAll (fresh c) (first_memory c 1) f
+
+-- The head is a whole segment with what is appended to it.
+abbrev pub ApplyHoldsAll : Type 0
+ApplyHoldsAll = (d : FailData) (m : FailMemory) (f : FleetState) (segment : ℕ) (r : Record) → HoldsAll d m f
+    → MayApply d segment r → IsNamed m segment r
+    → IsWholeText d.config.master d.head.start.id
+    (front (applied d segment r).head (length (applied d segment r).head.units))
+    → HoldsAll (applied d segment r) (recorded d m segment r) f
+
+abbrev pub CompactHoldsAll : Type 0
+CompactHoldsAll = (d : FailData) (m : FailMemory) (f : FleetState) (s : ℕ) → HoldsAll d m f → MayCompact d m s
+    → HoldsAll d (compacted d m s) f
+
+abbrev pub BeginHoldsAll : Type 0
+BeginHoldsAll = (d : FailData) (m : FailMemory) (f : FleetState) (victims : List ℕ) (count : ℕ) → HoldsAll d m f
+    → MayBeginClean d m victims → HoldsAll (ids_taken count d) (pass_begun d m victims count) f
+
+abbrev pub CopyHoldsAll : Type 0
+CopyHoldsAll = (d : FailData) (m : FailMemory) (f : FleetState) (first : Place) (rest : List Place) (s : ℕ) (e : Entry)
+    → HoldsAll d m f → MayCopy d m first rest s e → HoldsAll d (copy_done d m first rest s e) f
+
+-- The opening of the new head is a whole segment.
+abbrev pub RollHoldsAll : Type 0
+RollHoldsAll = (d : FailData) (m : FailMemory) (f : FleetState) (mode : Mode) → HoldsAll d m f → MayTurn d mode
+    → IsWholeText d.config.master (next_start d).id (bare (next_start d))
+    → HoldsAll (rolling d (next_start d) mode) (rolled d m (next_start d) false) f
+
+abbrev pub CommitHoldsAll : Type 0
+CommitHoldsAll = (d : FailData) (m : FailMemory) (f : FleetState) (n : Start) (mode : Mode) → HoldsAll d m f
+    → MayCommit d m n mode → IsWholeText d.config.master n.id (bare n)
+    → HoldsAll (rolling d n mode) (rolled d m n true) f
+
+abbrev pub EndHoldsAll : Type 0
+EndHoldsAll = (d : FailData) (m : FailMemory) (f : FleetState) (n : Start) (mode : Mode) → HoldsAll d m f
+    → EndsRoll d n mode → m.commits ≡ false → HoldsAll (ended d n mode) m f
+
+abbrev pub FinishHoldsAll : Type 0
+FinishHoldsAll = (d : FailData) (m : FailMemory) (f : FleetState) (n : Start) (mode : Mode) → HoldsAll d m f
+    → EndsRoll d n mode → m.commits ≡ true → HoldsAll (ended d n mode) (finished d m) f
+
+abbrev pub SameHoldsAll : Type 0
+SameHoldsAll = (d : FailData) (m n : FailMemory) (f : FleetState) → IsSameMemory d m n
+    → (HoldsAll d m f → HoldsAll d n f) × (KeepsAll d m f → KeepsAll d n f)
+
+-- ---- a master that is loading
+
+-- The fleet spells a log of whole segments, which stands for what was loaded, and the master knows it.
+pub record HoldsLoading (d : FailData) (m : FailMemory) (f : FleetState) : Type 0 where
+  pub spelled : IsSpelled d.config.master (shown_for d f) (read_of d f)
+  pub heads : HeadsAreSegments d.config.master d
+  pub loading : IsLoading d m (read_of d f)
+  pub knows : Knows d m (read_of d f)
+
+abbrev pub RestoredHoldsLoading : Type 0
+RestoredHoldsLoading = (c : FailConfig) (safe : ℕ) (f : FleetState) → MayBegin c (read_fleet c.master f)
+    → HeadsAreSegments c.master (restored c safe) → HoldsLoading (restored c safe) (first_memory c safe) f
+
+abbrev pub LoadHoldsLoading : Type 0
+LoadHoldsLoading = (d : FailData) (m : FailMemory) (f : FleetState) (o : Object) → HoldsLoading d m f → MayLoad d o
+    → IsWholeText d.config.master d.head.start.id
+    (front (with_object d o).head (length (with_object d o).head.units))
+    → HoldsLoading (with_object d o) (object_loaded d m o) f
+
+abbrev pub OkHoldsLoading : Type 0
+OkHoldsLoading = (d e : FailData) (m : FailMemory) (f g : FleetState) (o : Op) → HoldsLoading d m f → IsHeadOp d o e
+    → IsThere d.config o → TakesOp d.config.master f o g → HoldsLoading e m g
+
+abbrev pub LoadingIsNeverWrong : Type 0
+LoadingIsNeverWrong = (d e : FailData) (m : FailMemory) (f g : FleetState) (o : Op) → HoldsLoading d m f
+    → IsHeadOp d o e → IsOnFleet f o → RefusesOp d.config.master f o take_fault.Wrong g → ⊥
+
+abbrev pub RollHoldsLoading : Type 0
+RollHoldsLoading = (d : FailData) (m : FailMemory) (f : FleetState) (mode : Mode) → HoldsLoading d m f
+    → MayTurn d mode → IsWholeText d.config.master (next_start d).id (bare (next_start d))
+    → HoldsLoading (rolling d (next_start d) mode) (rolled d m (next_start d) false) f
+
+abbrev pub EndHoldsLoading : Type 0
+EndHoldsLoading = (d : FailData) (m : FailMemory) (f : FleetState) (n : Start) (mode : Mode) → HoldsLoading d m f
+    → EndsRoll d n mode → HoldsLoading (ended d n mode) m f
+
+abbrev pub SameHoldsLoading : Type 0
+SameHoldsLoading = (d : FailData) (m n : FailMemory) (f : FleetState) → IsSameMemory d m n → HoldsLoading d m f
+    → HoldsLoading d n f
+
+-- What other masters do doesn't matter to it.
+abbrev pub OthersLeaveLoading : Type 0
+OthersLeaveLoading = (d : FailData) (m : FailMemory) (f g : FleetState) → HoldsLoading d m f
+    → ((b s : ℕ) → g.picture b d.config.master s ≡ f.picture b d.config.master s)
+    → g.least d.config.master ≡ f.least d.config.master → HoldsLoading d m g
+
+-- With all of it on the backups the history begins.
+abbrev pub FinishedHoldsAll : Type 0
+FinishedHoldsAll = (d : FailData) (m : FailMemory) (f : FleetState) → HoldsLoading d m f → d.mode ≡ Calm
+    → ((b : ℕ) → HasTaken d d.head.start.id b → d.counts b ≡ length d.head.units)
+    → HoldsAll (adopted d d.opening) m f

@@ -1,0 +1,128 @@
+-- A master that is loading what was recovered, before its history begins.
+use Rattle.std.specs.Prelude.{◌≡◌, ℕ, ◌<◌, List, [], ◌∷◌, ◌++◌, length, true, false, Some, None}
+use Rattle.entry.specs.declared.entry.Object.{Object}
+use Rattle.entry.specs.declared.entry.Entry.{Entry}
+use Rattle.entry.specs.declared.entry.Entry.TheVariants as entry
+use Rattle.entry.specs.Bag.{IsAmong}
+use Rattle.entry.specs.Tablet.{have_key}
+use Rattle.versioned_map.specs.Represents.{Represents}
+use Rattle.log_model.specs.Adopt.{with_loaded}
+use Rattle.log_model.specs.Data.{Start, LogUnit}
+use Rattle.clean_model.specs.Loading.{HasOnly}
+use Rattle.clean_model.specs.Memory.{no_pass, grown}
+use Rattle.clean_model.specs.Steps.{index_after}
+use Rattle.clean_model.specs.Tracked.{IsTracked, IsAround}
+use Rattle.failover_model.specs.Shown.{Shown, Op, taken}
+use Rattle.failover_model.specs.Data.{front_entries, Calm, Mode, FailConfig, FailData, HasTaken, new_of}
+use Rattle.failover_model.specs.Log.{Texts, IsBase, BasesStand, IsLogHeld}
+use Rattle.failover_model.specs.Runs.{IsThere}
+use Rattle.failover_model.specs.Steps.{restored, MayBegin, ids_now, adopted, rolling, next_start, MayTurn, ended}
+use Rattle.failover_model.specs.Steps.{EndsRoll}
+use Rattle.failover_clean.specs.Intact.{AreUnrepaired, IsIntact, Knows}
+use Rattle.failover_clean.specs.Memory.{FailMemory, log_set_of, AreImages}
+use Rattle.failover_clean.specs.Ops.{IsHeadOp}
+use Rattle.failover_clean.specs.Same.{IsSameMemory}
+use Rattle.failover_clean.specs.Steps.{first_memory, rolled}
+
+-- ---- an object is loaded
+
+-- the master with the object, whose opening has it too: what is loaded is a unit of the head, and of no record
+abbrev pub with_object : FailData → Object → FailData
+with_object d o = record d {
+  opening = with_loaded d.opening o;
+  head = record d.head { units = d.head.units ++ record { number = 0; entries = entry.Object o ∷ [] } ∷ [] };
+}
+
+-- memory with the object at the end of the head's image, where the index finds it
+abbrev pub object_loaded : FailData → FailMemory → Object → FailMemory
+object_loaded d m o = record m {
+  images = grown m.images d.head.start.id (entry.Object o);
+  index = index_after m.images m.index d.head.start.id (entry.Object o);
+}
+
+-- No roll is under way, the object's key is of the master's tablets and was not loaded, and its version is below the
+-- safe one.
+pub record MayLoad (d : FailData) (o : Object) : Type 0 where
+  pub calm : d.mode ≡ Calm
+  pub key : have_key d.config.tablets o.key ≡ true
+  pub absent : d.opening.contents o.key ≡ None
+  pub low : o.version < d.opening.safe
+
+-- ---- what holds while it loads
+
+-- No pass is open, nothing waits to be freed, and no roll is a commit.
+pub record IsIdle (m : FailMemory) : Type 0 where
+  pub pass : m.pass ≡ no_pass
+  pub rest : m.rest ≡ []
+  pub commits : m.commits ≡ false
+  pub waiting : m.waiting ≡ []
+
+-- The backups hold texts that stand for what was loaded so far, which is the opening; images and index track it, and no
+-- pass is open.
+pub record IsLoading (d : FailData) (m : FailMemory) (p : Shown) : Type 0 where
+  pub texts : Texts
+  pub held : IsLogHeld d texts p
+  -- it has no history, and its units are of no record
+  pub begins : d.history ≡ []
+  pub numbers : (u : LogUnit) → IsAmong u d.head.units → u.number ≡ 0
+  -- if there is a head, bases with it stand for the opening, and so do those of the head that a roll is opening
+  pub stands : (d.head.start.id ≡ 0 → ⊥) → (base : List Entry) → IsBase texts d.head.start.others base
+      → Represents d.head.start.safe (base ++ front_entries d.head (length d.head.units)) d.opening
+  pub new : (n : Start) → new_of d.mode ≡ Some n → BasesStand texts n d.opening
+  pub rolling : (n : Start) → new_of d.mode ≡ Some n → n.others ≡ ids_now d.head.start
+  -- before the first head nothing was loaded
+  pub empty : d.head.start.id ≡ 0
+      → (d.head.start.others ≡ []) × (front_entries d.head (length d.head.units) ≡ [])
+  pub real : d.mode ≡ Calm → d.head.start.id ≡ 0 → ⊥
+  pub only : HasOnly (log_set_of d m texts) d.opening.contents
+  pub tracked : IsTracked (log_set_of d m texts) m.pass m.index d.opening.contents
+  pub around : IsAround (log_set_of d m texts) m.pass d.opening.contents d.opening.safe d.next
+  pub recorded : (n : Start) → new_of d.mode ≡ Some n → n.safe ≡ d.opening.safe
+  pub images : AreImages d m texts
+  pub whole : AreUnrepaired d texts
+  -- no backup has failed
+  pub working : d.failed ≡ []
+  pub idle : IsIdle m
+
+-- ---- laws
+
+-- A new master of which nothing is held is loading, and knows it.
+abbrev pub RestoredIsLoading : Type 0
+RestoredIsLoading = (c : FailConfig) (safe : ℕ) (p : Shown) → MayBegin c p
+    → IsLoading (restored c safe) (first_memory c safe) p × Knows (restored c safe) (first_memory c safe) p
+
+-- It goes on with one object more.
+abbrev pub LoadKeeps : Type 0
+LoadKeeps = (d : FailData) (m : FailMemory) (p : Shown) (o : Object) → IsLoading d m p → MayLoad d o
+    → IsLoading (with_object d o) (object_loaded d m o) p
+    × (Knows d m p → Knows (with_object d o) (object_loaded d m o) p)
+
+-- An op of the head that is taken fits, and it goes on.
+abbrev pub LoadingOpKeeps : Type 0
+LoadingOpKeeps = (d e : FailData) (m : FailMemory) (p q : Shown) (o : Op) → IsLoading d m p → IsHeadOp d o e
+    → IsThere d.config o → taken p o ≡ Some q → IsLoading e m q
+
+abbrev pub LoadingOpFits : Type 0
+LoadingOpFits = (d e : FailData) (m : FailMemory) (p : Shown) (o : Op) → IsLoading d m p → Knows d m p
+    → IsHeadOp d o e → (q : Shown) × (taken p o ≡ Some q) × Knows e m q
+
+-- It goes on when a roll begins, and when one ends.
+abbrev pub LoadingRollKeeps : Type 0
+LoadingRollKeeps = (d : FailData) (m : FailMemory) (p : Shown) (mode : Mode) → IsLoading d m p → MayTurn d mode
+    → IsLoading (rolling d (next_start d) mode) (rolled d m (next_start d) false) p
+    × (Knows d m p → Knows (rolling d (next_start d) mode) (rolled d m (next_start d) false) p)
+
+abbrev pub LoadingEndKeeps : Type 0
+LoadingEndKeeps = (d : FailData) (m : FailMemory) (p : Shown) (n : Start) (mode : Mode) → IsLoading d m p
+    → Knows d m p → EndsRoll d n mode → IsLoading (ended d n mode) m p × Knows (ended d n mode) m p
+
+-- Another memory with the same images and pass, whose index leads to the same objects, serves it as well.
+abbrev pub SameIsLoading : Type 0
+SameIsLoading = (d : FailData) (m n : FailMemory) (p : Shown) → IsLoading d m p → IsSameMemory d m n
+    → IsLoading d n p
+
+-- With all of it on the backups all is intact of the master whose history begins with what was loaded.
+abbrev pub FinishIsIntact : Type 0
+FinishIsIntact = (d : FailData) (m : FailMemory) (p : Shown) → IsLoading d m p → Knows d m p → d.mode ≡ Calm
+    → ((b : ℕ) → HasTaken d d.head.start.id b → d.counts b ≡ length d.head.units)
+    → IsIntact (adopted d d.opening) m p × Knows (adopted d d.opening) m p

@@ -1,0 +1,60 @@
+-- The ops of a master: of its head and the next one, of a failover, seals, repairs and frees.
+use Rattle.std.specs.Prelude.{◌≡◌, ◌⊎◌, ℕ, Some}
+use Rattle.failover_model.specs.Shown.{Shown, Op, taken}
+use Rattle.failover_model.specs.Data.{FailData}
+use Rattle.failover_model.specs.Runs.{IsThere}
+use Rattle.failover_model.specs.Steps.{with_taken, MayRepair, Extends, OpensNew, Replaces, Raises, ClosesOld}
+use Rattle.failover_bytes.specs.Text.{IsWholeText}
+use Rattle.failover_clean.specs.Intact.{IsIntact, Knows}
+use Rattle.failover_clean.specs.Memory.{FailMemory, text_in}
+use Rattle.failover_clean.specs.Steps.{seal_op, MaySeal, free_op, freed, MayFree}
+
+-- the op is on a replica of the head in force or of a new one, or it raises the registry
+abbrev pub IsHeadOp : FailData → Op → FailData → Type 0
+IsHeadOp d o e = Extends d o e ⊎ (OpensNew d o e ⊎ (Replaces d o e ⊎ (Raises d o e ⊎ ClosesOld d o e)))
+
+-- A survivor of the open pass is sealed.
+pub record SealsSurvivor (d : FailData) (m : FailMemory) (o : Op) (e : FailData) : Type 0 where
+  pub s : ℕ
+  pub b : ℕ
+  pub may : MaySeal d m s b
+  pub whole : IsWholeText d.config.master s (text_in m s)
+  pub op : o ≡ seal_op m s b
+  pub gives : e ≡ record d { took = with_taken d.took s b }
+
+-- A lost replica of a segment of the log is sealed anew, from its image.
+pub record RepairsImage (d : FailData) (m : FailMemory) (o : Op) (e : FailData) : Type 0 where
+  pub s : ℕ
+  pub b : ℕ
+  pub may : MayRepair d s b
+  pub whole : IsWholeText d.config.master s (text_in m s)
+  pub op : o ≡ seal_op m s b
+  pub gives : e ≡ record d { took = with_taken d.took s b }
+
+-- A replica that waits is freed.
+pub record FreesSpot (d : FailData) (m : FailMemory) (o : Op) (n : FailMemory) : Type 0 where
+  pub s : ℕ
+  pub b : ℕ
+  pub may : MayFree d m s b
+  pub op : o ≡ free_op s b
+  pub gives : n ≡ freed m (record { segment = s; backup = b })
+
+-- with the op taken master and memory are these
+abbrev pub IsOp : FailData → FailMemory → Op → FailData → FailMemory → Type 0
+IsOp d m o e n =
+    (IsHeadOp d o e × (n ≡ m))
+    ⊎ ((SealsSurvivor d m o e × (n ≡ m))
+    ⊎ ((RepairsImage d m o e × (n ≡ m))
+    ⊎ (FreesSpot d m o n × (e ≡ d))))
+
+-- ---- laws
+
+-- With an op taken all is intact, whether the master knows it or not.
+abbrev pub OpKeeps : Type 0
+OpKeeps = (d e : FailData) (m n : FailMemory) (p q : Shown) (o : Op) → IsIntact d m p → IsOp d m o e n
+    → IsThere d.config o → taken p o ≡ Some q → IsIntact d m q × IsIntact e n q
+
+-- The op fits, and then the master knows what is held.
+abbrev pub OpFits : Type 0
+OpFits = (d e : FailData) (m n : FailMemory) (p : Shown) (o : Op) → IsIntact d m p → Knows d m p → IsOp d m o e n
+    → (q : Shown) × (taken p o ≡ Some q) × Knows e n q
