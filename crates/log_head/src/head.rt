@@ -139,6 +139,13 @@ impl Head {
         &self.image
     }
 
+    /// How many units it has.
+    pub fn count(&self) -> usize
+        ensures { result ≡ length self.now.units }
+    {
+        self.units.len()
+    }
+
     /// How many replicas were opened.
     pub fn opened(&self) -> usize
         ensures { result ≡ length self.now.taken }

@@ -3,16 +3,14 @@ use Rattle.std.proofs.Common.{◌≡◌, ◌⊎◌, ℕ, refl, sym, subst}
 use Rattle.std.specs.Prelude.{Result, Ok, Err, IfOk, IfErr, OnOk, OnErr, Some, None}
 use Rattle.replica.specs.Picture.{FleetState}
 use Rattle.versioned_map.specs.declared.command.Command.{Command}
-use Rattle.log_model.specs.Steps.{MayApply}
 use Rattle.master_state.specs.declared.step.Refusal.{Refusal}
 use Rattle.master_state.specs.declared.step.StepAnswer.{StepAnswer}
 use Rattle.master_state.specs.declared.step.Refusal.TheVariants as refusal
 use Rattle.master_state.specs.declared.step.Step.TheVariants.{Apply}
-use Rattle.master_state.specs.Causes.{dead_segment, command_refusal}
+use Rattle.master_state.specs.Causes.{command_refusal}
 use Rattle.master_state.specs.Data.{MasterData}
 use Rattle.master_state.specs.Invariant.{IsCore}
-use Rattle.master_state.specs.Log.{log_of}
-use Rattle.master_state.specs.Steps.{Applies, record_now}
+use Rattle.master_state.specs.Steps.{Applies, MayApplyNow}
 use Rattle.master.specs.Invariant.{IsWellKept}
 use Rattle.master.specs.Keeps.{Keeps}
 use Rattle.master.specs.Steps.{Accepts, Declines}
@@ -26,7 +24,7 @@ module _ (A : Type 0) (answer_of : A → StepAnswer) where
   pub kept_then : (d e : MasterData) (f : FleetState) (seat : ℕ) (command : Command)
       (result : Result A Refusal) → IsWellKept d f
       → IfOk result (λ a. Applies d seat command (answer_of a) e)
-      → OnOk result (MayApply (log_of d) (dead_segment d command) (record_now d seat command)) → OnOk result (IsCore e)
+      → OnOk result (MayApplyNow d seat command) → OnOk result (IsCore e)
       → OnErr result (e ≡ d) → IsWellKept e f
   kept_then d e f seat command (Ok a) kept is may core same =
       applied_kept d e f seat command (answer_of a) kept is may core

@@ -1,5 +1,5 @@
--- A memory that agrees with an intact one, but for what its cursor passed over.
-use Rattle.std.proofs.Common.{◌≡◌, ℕ, ◌≤◌, true, [], refl, sym, subst, ◌∙◌}
+-- A memory that agrees with one that all holds of, but for what its cursor passed over.
+use Rattle.std.proofs.Common.{◌≡◌, ℕ, true, List, [], refl, sym, subst, ◌∙◌}
 use Rattle.std.specs.Prelude.{Option, Some, None}
 use Rattle.std.proofs.lemmas.Option.{same_Some}
 use Rattle.entry.specs.declared.key.Key.{Key}
@@ -8,28 +8,31 @@ use Rattle.entry.specs.declared.entry.Entry.TheVariants as entry
 use Rattle.entry.specs.Bag.{IsAmong}
 use Rattle.entry.specs.Meaning.{Versioned, object_at}
 use Rattle.entry.specs.Text.{is_data}
-use Rattle.replica.specs.Picture.{Picture}
-use Rattle.log_model.specs.Data.{LogData}
-use Rattle.clean_model.specs.Covered.{map_of}
-use Rattle.clean_model.specs.Intact.{IsIntact}
-use Rattle.clean_model.specs.Memory.{Place, Memory, log_ids, StandsAt}
-use Rattle.clean_model.specs.Same.{IsFoundInBoth}
-use Rattle.clean_model.proofs.SameMemories.{same_is_intact}
+use Rattle.replica.specs.Picture.{FleetState}
+use Rattle.clean_model.specs.Memory.{Place, StandsAt}
+use Rattle.failover_model.specs.Data.{FailData}
+use Rattle.failover_clean.specs.Covered.{map_of}
+use Rattle.failover_clean.specs.Fleet.{read_of, HoldsAll}
+use Rattle.failover_clean.specs.Intact.{IsIntact}
+use Rattle.failover_clean.specs.Memory.{Spot, FailMemory}
+use Rattle.failover_clean.specs.Same.{IsFoundInBoth}
+use Rattle.failover_clean.proofs.FleetSteps.{same_holds_all}
 
-pub record Agree (d : LogData) (m n : Memory) : Type 0 where
+pub record Agree (d : FailData) (m n : FailMemory) : Type 0 where
   pub pass : n.pass ≡ m.pass
-  pub images : (s : ℕ) → IsAmong s (log_ids d m) → n.images s ≡ m.images s
+  pub images : (s : ℕ) → n.images s ≡ m.images s
   pub index : (k : Key) → n.index k ≡ m.index k
   -- a victim's object or tombstone that is to come in the one is to come in the other
   pub rest : (p : Place) (e : Entry) → IsAmong p.segment m.pass.victims → StandsAt m.images p e → is_data e ≡ true
       → IsAmong p m.rest → IsAmong p n.rest
   pub done : m.rest ≡ [] → n.rest ≡ []
-  pub sealed : (s : ℕ) → IsAmong s m.pass.survivors → n.sealed s ≡ m.sealed s
   pub commits : n.commits ≡ m.commits
-  pub waiting : (s : ℕ) → IsAmong s n.waiting → IsAmong s m.waiting
-  pub freed : (s : ℕ) → IsAmong s n.waiting → m.freed s ≤ n.freed s
+  pub waiting : (w : Spot) → IsAmong w n.waiting → IsAmong w m.waiting
 
-module _ (d : LogData) (m n : Memory) (p : Picture) (i : IsIntact d m p) (agree : Agree d m n) where
+module _ (d : FailData) (m n : FailMemory) (f : FleetState) (holds : HoldsAll d m f) (agree : Agree d m n) where
+  abbrev i : IsIntact d m (read_of d f)
+  i = holds.keeps.intact
+
   found : (k : Key) (x : Versioned) → map_of d k ≡ Some x → IsFoundInBoth m n k x
   found k x has =
       let was = i.tracked.found k x has in
@@ -56,17 +59,16 @@ module _ (d : LogData) (m n : Memory) (p : Picture) (i : IsIntact d m p) (agree 
         same was.stands) refl
         (i.passing.live k q before victim)
 
-  pub agreeing_is_intact : IsIntact d n p
-  agreeing_is_intact = same_is_intact d m n p i (record {
+  pub agreeing_holds : HoldsAll d n f
+  agreeing_holds = (same_holds_all d m n f (record {
     pass = agree.pass;
-    images = agree.images;
+    images = λ s counts. agree.images s;
+    fewer = λ s e among. subst (λ (es : List Entry). IsAmong e es) (agree.images s) among;
     found = found;
     unindexed = λ k none. agree.index k ∙ i.tracked.unindexed k none;
     live = live;
     carried = λ q t victim stands kept to_come. agree.rest q (entry.Tombstone t) victim stands refl to_come;
     done = agree.done;
-    sealed = agree.sealed;
     commits = agree.commits;
     waiting = agree.waiting;
-    freed = agree.freed;
-  })
+  })).0 holds

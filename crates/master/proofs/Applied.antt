@@ -16,28 +16,35 @@ use Rattle.versioned_map.specs.declared.command.Command.{Command}
 use Rattle.versioned_map.specs.declared.command.Record.{Record}
 use Rattle.versioned_map.specs.Command.{command_key}
 use Rattle.log_head.specs.Head.{HeadValue}
-use Rattle.log_head.specs.Log.{head_of}
-use Rattle.log_model.specs.Data.{LogData}
-use Rattle.log_model.specs.Steps.{unit_now, MayApply}
-use Rattle.clean_model.specs.Intact.{IsIntact}
-use Rattle.clean_model.specs.Memory.{Place as EntryPlace, Index, Images, Memory, grown}
-use Rattle.clean_model.specs.Steps.{next_place, index_after, images_with, index_with, recorded, IsNamed}
-use Rattle.clean_model.proofs.Applying.{apply_keeps}
+use Rattle.clean_model.specs.Memory.{Place as EntryPlace, Index, Images, grown}
+use Rattle.clean_model.specs.Steps.{next_place, index_after, images_with, index_with}
+use Rattle.failover_model.specs.Data.{Head as FailHead, front, FailData}
+use Rattle.failover_model.specs.Steps.{unit_now as log_unit, applied}
+use Rattle.failover_bytes.specs.Text.{IsWholeText}
+use Rattle.failover_clean.specs.Fleet.{HoldsAll}
+use Rattle.failover_clean.specs.Memory.{FailMemory}
+use Rattle.failover_clean.specs.Steps.{recorded, IsNamed}
+use Rattle.failover_clean.proofs.FleetSteps.{apply_holds_all}
 use Rattle.places.specs.declared.place.Place.{Place}
 use Rattle.master_state.specs.declared.step.StepAnswer.{StepAnswer}
 use Rattle.master_state.specs.Budget.{victims_of, survivors_of, is_committing}
 use Rattle.master_state.specs.Causes.{dead_segment}
-use Rattle.master_state.specs.Steps.{appended, record_now, Applies}
+use Rattle.master_state.specs.Steps.{appended, record_now, Applies, MayApplyNow}
 use Rattle.master_state.specs.Data.{MasterData}
 use Rattle.master_state.specs.Images.{images_among}
 use Rattle.master_state.specs.Invariant.{IsCore}
 use Rattle.master_state.specs.Log.{log_of, images_of, find, entry_place, rest_now, memory_of}
 use Rattle.master_commands.proofs.Adding.{same_appended, image_appended}
+use Rattle.master_commands.proofs.HeadsInForce.{open_opened}
 use Rattle.master_state.proofs.Imaging.{same_id, other_id, appended_own, appended_other}
 use Rattle.master_state.proofs.Refusals.{is_admitted, passed_early}
 use Rattle.master.specs.Invariant.{IsWellKept}
-use Rattle.master.proofs.Handed.{unhanded_kept}
-use Rattle.master.proofs.Models.{IsModel, LeavesPass, is_model, own_intact}
+use Rattle.master.specs.Placed.{IsPlaced}
+use Rattle.master.proofs.HeadTexts.{head_whole}
+use Rattle.master.proofs.InForce.{force_opened}
+use Rattle.master.proofs.Lasting.{kept_as, well_kept, unhanded_kept}
+use Rattle.master.proofs.Models.{IsModel, LeavesPass, is_model, own_holds_all}
+use Rattle.master.proofs.Placements.{placed_appended}
 use Rattle.master.proofs.Victims.{victim_below, survivor_no_head, never_both}
 
 -- ---- images and the index
@@ -86,18 +93,26 @@ index_more images index s (e ∷ es) k r is =
 
 module _ (d e : MasterData) (f : FleetState) (seat : ℕ) (command : Command) (answer : StepAnswer)
     (kept : IsWellKept d f) (is : Applies d seat command answer e)
-    (may : MayApply (log_of d) (dead_segment d command) (record_now d seat command)) (core : IsCore e) where
-  abbrev m : Memory
+    (may : MayApplyNow d seat command) (core : IsCore e) where
+  abbrev m : FailMemory
   m = memory_of d
 
   abbrev r : Record
   r = record_now d seat command
 
-  abbrev head : ℕ
-  head = (head_of d.head).start.id
-
   abbrev unit : List Entry
-  unit = unit_now (log_of d) (dead_segment d command) (record_now d seat command)
+  unit = log_unit (log_of d) (dead_segment d command) (record_now d seat command)
+
+  -- the head of the log, which is open if something is appended
+  abbrev head : ℕ
+  head = (log_of d).head.start.id
+
+  head_is : (unit ≡ []) ⊎ (head ≡ d.head.id)
+  head_is = elim may.1 as (λ _. (unit ≡ []) ⊎ (head ≡ d.head.id)) [
+    | inl none ↦ inl none
+    | inr fits ↦ inr (ap (λ (h : FailHead). h.start.id)
+        (force_opened d.config.format d.head (open_opened d.head fits.opened)) ∙ kept.core.image.id)
+  ]
 
   running : d.is_halted ≡ false
   running = (is_admitted d command (passed_early d command is.passed)).running
@@ -110,7 +125,7 @@ module _ (d e : MasterData) (f : FleetState) (seat : ℕ) (command : Command) (a
     go None indexed = absurd (cc)
     go (Some q) indexed = ap (λ (x : EntryPlace). x.segment) (same_Some (entry_place d q) p indexed)
 
-  abbrev then_memory : Memory
+  abbrev then_memory : FailMemory
   then_memory = recorded (log_of d) m (dead_segment d command) r
 
   -- ---- the images
@@ -126,11 +141,17 @@ module _ (d e : MasterData) (f : FleetState) (seat : ℕ) (command : Command) (a
       let grows = same_appended d.head (length d.history) unit in
       images_then s ∙ appended_other d.head grown_head d.closed s grows.0 grows.2 away
 
-  same_images : (s : ℕ) → images_of e s ≡ then_memory.images s
-  same_images s = at_segment (d.head.id == s) refl where
+  -- nothing is appended
+  none_images : unit ≡ [] → (s : ℕ) → images_of e s ≡ then_memory.images s
+  none_images none s =
+      images_then s ∙ ap (λ (u : List Entry). images_among (appended d.head (length d.history) u) d.closed s) none
+      ∙ sym (ap (λ (u : List Entry). images_with m.images head u s) none)
+
+  head_images : head ≡ d.head.id → (s : ℕ) → images_of e s ≡ then_memory.images s
+  head_images own s = at_segment (d.head.id == s) refl where
     at_segment : (t : Bool) → (d.head.id == s) ≡ t → images_of e s ≡ then_memory.images s
     at_segment true here =
-        let same : head ≡ s = kept.core.image.id ∙ eqb-true d.head.id s here in
+        let same : head ≡ s = own ∙ eqb-true d.head.id s here in
         let grows = same_appended d.head (length d.history) unit in
         images_then s ∙ appended_own d.head grown_head d.closed unit s grows.0
         (image_appended d.head (length d.history) unit) here
@@ -138,29 +159,45 @@ module _ (d e : MasterData) (f : FleetState) (seat : ℕ) (command : Command) (a
         ∙ ap (λ (z : ℕ). m.images z ++ unit) same)
     at_segment false away =
         let beside : (s == head) ≡ false = other_id s head (λ x. (
-        let same : d.head.id ≡ s = sym kept.core.image.id ∙ sym x in
+        let same : d.head.id ≡ s = sym own ∙ sym x in
         let yes : (d.head.id == s) ≡ true = ap (λ (z : ℕ). d.head.id == z) (sym same) ∙ same_id d.head.id in cc)) in
         others_same s away ∙ sym (images_beside m.images head s unit beside)
+
+  same_images : (s : ℕ) → images_of e s ≡ then_memory.images s
+  same_images s = elim head_is as (λ _. images_of e s ≡ then_memory.images s) [
+    | inl none ↦ none_images none s
+    | inr own ↦ head_images own s
+  ]
 
   -- ---- the open pass
 
   leaves : LeavesPass d e
   leaves = record {
     pass = ap (λ (x : MasterData). (memory_of x).pass) is.rest;
-    sealed = λ s. ap (λ (x : MasterData). (memory_of x).sealed s) is.rest;
-    waiting = ap (λ (x : MasterData). x.waiting) is.rest;
-    freed = ap (λ (x : MasterData). x.freed) is.rest;
+    waiting = ap (λ (x : MasterData). (memory_of x).waiting) is.rest;
     rest = ap rest_now is.rest;
     victims = λ s victim.
         others_same s (other_id d.head.id s (λ own. (let lt = victim_below d kept.core s victim in omega arith)));
   }
 
+  -- what the model's index finds it found before, or it is in the head
+  was_indexed : (k : Key) (p : EntryPlace) → then_memory.index k ≡ Some p
+      → (p.segment ≡ d.head.id) ⊎ (m.index k ≡ Some p)
+  was_indexed k p indexed = elim head_is as (λ _. (p.segment ≡ d.head.id) ⊎ (m.index k ≡ Some p)) [
+    | inl none ↦ inr (sym (ap (λ (u : List Entry). index_with m.images m.index head u k) none) ∙ indexed)
+    | inr own ↦ elim (index_more m.images m.index head unit k p indexed)
+        as (λ _. (p.segment ≡ d.head.id) ⊎ (m.index k ≡ Some p)) [
+          | inl there ↦ inl (there ∙ own)
+          | inr before ↦ inr before
+        ]
+  ]
+
   -- what is found in a victim was found there before
   behind : (k : Key) (q : Place) (p : EntryPlace) → find e k ≡ Some q → then_memory.index k ≡ Some p
       → IsAmong q.segment (victims_of d.pass) → IsAmong p.segment (survivors_of d.pass) → ⊥
   behind k q p found indexed victim survivor = elim (is.found k q found) as (λ _. ⊥) [
-    | inl before ↦ elim (index_more m.images m.index head unit k p indexed) as (λ _. ⊥) [
-      | inl own ↦ survivor_no_head d kept.core p.segment survivor (own ∙ kept.core.image.id)
+    | inl before ↦ elim (was_indexed k p indexed) as (λ _. ⊥) [
+      | inl own ↦ survivor_no_head d kept.core p.segment survivor own
       | inr old ↦ (
           let both : entry_place d q ≡ p = same_Some (entry_place d q) p
           (sym (ap (option_map (entry_place d)) before) ∙ old) in
@@ -175,9 +212,28 @@ module _ (d e : MasterData) (f : FleetState) (seat : ℕ) (command : Command) (a
   model = is_model d e leaves then_memory.images then_memory.index (is_committing d)
       (ap is_committing is.rest) (λ s counts. same_images s) behind
 
+  -- ---- the log
+
+  log_then : log_of e ≡ applied (log_of d) (dead_segment d command) r
+  log_then = is.log
+
+  whole : IsWholeText d.config.master head
+      (front (applied (log_of d) (dead_segment d command) r).head
+      (length (applied (log_of d) (dead_segment d command) r).head.units))
+  whole =
+      subst (λ (l : FailData). IsWholeText l.config.master l.head.start.id (front l.head (length l.head.units)))
+      log_then
+      (head_whole e core)
+
+  placed : IsPlaced e
+  placed =
+      placed_appended d e kept.core kept.placed (length d.history) unit is.config
+      (ap (λ (x : MasterData). x.ledger) is.rest) (ap (λ (x : MasterData). x.head) is.rest)
+      (ap (λ (x : MasterData). x.pass) is.rest)
+
   pub applied_kept : IsWellKept e f
   applied_kept =
-      unhanded_kept d e f kept running core is.config leaves.waiting
-      (own_intact e core then_memory kept.before (subst (λ (l : LogData). IsIntact l then_memory
-      kept.before) (sym is.log)
-      (apply_keeps (log_of d) m kept.before (dead_segment d command) r kept.holds may named)) model)
+      well_kept e f (unhanded_kept d e f (kept_as d f kept running) core placed is.config
+      (ap (λ (x : MasterData). x.waiting) is.rest)
+      (own_holds_all e core then_memory f (subst (λ (l : FailData). HoldsAll l then_memory f) (sym is.log)
+      (apply_holds_all (log_of d) m f (dead_segment d command) r (kept.known running) may.0 named whole)) model))

@@ -1,17 +1,17 @@
 -- A pass that begins keeps what holds of a master.
-use Rattle.std.proofs.Common.{◌≡◌, ℕ, ◌+◌, ◌-◌, ◌<◌, ◌≤◌, Bool, true, false, List, [], ◌∷◌, ◌++◌, map, length, drop, refl, sym}
+use Rattle.std.proofs.Common.{◌≡◌, ℕ, zero, suc, ◌+◌, ◌<◌, ◌≤◌, Bool, true, false, List, [], ◌∷◌, ◌++◌, map, length}
+use Rattle.std.proofs.Common.{drop, refl, sym}
 use Rattle.std.proofs.Common.{ap, subst, ◌∙◌, arith}
 use Rattle.std.specs.Prelude.{Option, Some, None, IfSome, is_some, unwrap_or, ◌==◌, if◌then◌else◌}
 use Rattle.std.specs.List.{AllByRecursion, range_with_len}
 use Rattle.std.specs.Option.{option_map_or}
-use Rattle.std.proofs.lemmas.Bool.{eqb-true, le-ltb}
+use Rattle.std.proofs.lemmas.Bool.{eqb-true}
 use Rattle.std.proofs.lemmas.List.{append-nil}
 use Rattle.cleaner.specs.declared.fault.PassFault.{PassFault}
 use Rattle.cleaner.specs.declared.fault.PassFault.TheVariants.{PassOpen}
 use Rattle.cleaner.specs.declared.pass.Cursor.{Cursor}
 use Rattle.cleaner.specs.declared.pass.Pass.{Pass as OpenPass}
 use Rattle.cleaner.specs.Passes.{images_in, places_of, rest_of}
-use Rattle.cleaner.specs.Seals.{none_sealed, sealed_of}
 use Rattle.cleaner.proofs.Places.{place_at, on_same, among_drop}
 use Rattle.cleaner.proofs.SurvivorIds.{among_ids}
 use Rattle.entry.specs.declared.entry.Entry.{Entry}
@@ -25,19 +25,25 @@ use Rattle.images.specs.Sorted.{segment_of}
 use Rattle.log_head.specs.declared.head.Roll.{Roll}
 use Rattle.log_head.specs.Log.{head_of}
 use Rattle.replica.specs.Picture.{FleetState}
-use Rattle.log_model.specs.Data.{LogData}
 use Rattle.log_model.specs.Ids.{has, all_inserted}
-use Rattle.clean_model.specs.Intact.{IsIntact, survivor_entries}
-use Rattle.clean_model.specs.Memory.{Place as EntryPlace, Pass, Memory, StandsAt, IsAt}
-use Rattle.clean_model.specs.Steps.{ids_taken, survivors_begun, pass_begun, MayBeginClean}
-use Rattle.clean_model.proofs.Beginning.{begin_keeps}
+use Rattle.clean_model.specs.Compaction.{places}
+use Rattle.clean_model.specs.Intact.{survivor_entries}
+use Rattle.clean_model.specs.Memory.{Place as EntryPlace, Index, Pass, StandsAt, IsAt}
+use Rattle.clean_model.specs.Steps.{survivors_begun}
 use Rattle.clean_model.proofs.KeptEntries.{has_is, is_has}
+use Rattle.failover_model.specs.Data.{FailData}
+use Rattle.failover_clean.specs.Fleet.{HoldsAll}
+use Rattle.failover_clean.specs.Memory.{Spot, FailMemory}
+use Rattle.failover_clean.specs.Steps.{ids_taken, pass_begun, MayBeginClean}
+use Rattle.failover_clean.proofs.BegunSurvivors.{begun_survivors}
+use Rattle.failover_clean.proofs.FleetSteps.{begin_holds_all}
 use Rattle.master_state.specs.declared.step.Refusal.{Refusal}
 use Rattle.master_state.specs.declared.step.Refusal.TheVariants.{Halted, Pass as PassRefused}
 use Rattle.master_state.specs.declared.step.StepAnswer.{StepAnswer}
 use Rattle.master_state.specs.Budget.{victims_of, survivors_of}
 use Rattle.master_state.specs.declared.config.Config.{Config}
 use Rattle.master_state.specs.Causes.{victims_fault, survivors_for, space_refusal}
+use Rattle.master_state.specs.declared.ledger.Posting.TheVariants as posting
 use Rattle.master_state.specs.Data.{MasterData}
 use Rattle.master_state.specs.Images.{survivor_images}
 use Rattle.master_state.specs.Invariant.{IsRollOf, IsCore}
@@ -48,13 +54,16 @@ use Rattle.master_state.proofs.Imaging.{ids_in, other_id, none_above}
 use Rattle.master_state.proofs.Indexing.{Grow}
 use Rattle.master_state.proofs.Refusals.{passes}
 use Rattle.master.specs.Invariant.{IsWellKept}
-use Rattle.master.proofs.Agreeing.{Agree, agreeing_is_intact}
+use Rattle.master.specs.Placed.{IsPlaced}
+use Rattle.master.proofs.Agreeing.{Agree, agreeing_holds}
 use Rattle.master.proofs.GrownImages.{index_then}
-use Rattle.master.proofs.Handed.{unhanded_kept}
+use Rattle.master.proofs.InForce.{others_in}
 use Rattle.master.proofs.KeptByEntries.{position_is}
+use Rattle.master.proofs.Lasting.{kept_as, well_kept, unhanded_kept}
 use Rattle.master.proofs.OpenPasses.{closed_among, same_among, older_image, open_now}
 use Rattle.master.proofs.Victims.{victim_older}
 use Rattle.master.proofs.PassPlaces.{is_behind, place_there, place_of, no_places}
+use Rattle.master.proofs.Placements.{placed_begun}
 
 -- ---- no test refuses it
 
@@ -99,14 +108,29 @@ segment_new c (z ∷ ids) s = go (z == s) refl (segment_new c ids s) where
   go true here later = rw here (ap (λ (y : ℕ). Some (survivor_entries c.master y)) (eqb-true z s here))
   go false away later = rw away later
 
--- no replica of a new survivor is sealed
-unsealed : (replicas first s : ℕ) → sealed_of replicas none_sealed first s ≡ 0
-unsealed replicas first s =
-    let t = le-ltb (s - first) 0 (omega arith) in rw t (go ((s - first) == 0))
-  where
-    go : (t : Bool) → (if t then none_sealed.replicas else none_sealed.replicas) ≡ none_sealed.replicas
-    go true = refl
-    go false = refl
+-- ---- what the model's memory becomes
+
+-- beside its images and survivors
+module _ (d : FailData) (m : FailMemory) (victims : List ℕ) where
+  victims_begun : (n : ℕ) → (pass_begun d m victims n).pass.victims ≡ victims
+  victims_begun zero = refl
+  victims_begun (suc n) = victims_begun n
+
+  index_begun : (n : ℕ) → (pass_begun d m victims n).index ≡ m.index
+  index_begun zero = refl
+  index_begun (suc n) = index_begun n
+
+  rest_begun : (n : ℕ) → (pass_begun d m victims n).rest ≡ places victims m.images
+  rest_begun zero = refl
+  rest_begun (suc n) = rest_begun n
+
+  commits_begun : (n : ℕ) → (pass_begun d m victims n).commits ≡ m.commits
+  commits_begun zero = refl
+  commits_begun (suc n) = commits_begun n
+
+  waiting_begun : (n : ℕ) → (pass_begun d m victims n).waiting ≡ m.waiting
+  waiting_begun zero = refl
+  waiting_begun (suc n) = waiting_begun n
 
 -- ---- what a core becomes
 
@@ -119,6 +143,7 @@ begun_data d victims count cursor = record d {
   closed = d.closed ++ survivor_images d.config (range_with_len d.next count);
   next = d.next + count;
   pass = Some (fresh_pass victims (record { first = d.next; count = count }) cursor);
+  ledger = posting.Survivors d.next count ∷ d.ledger;
 }
 
 module _ (d : MasterData) (core : IsCore d) (victims : List ℕ) (count : ℕ) (cursor : Cursor) (none : d.pass ≡ None)
@@ -257,12 +282,12 @@ module _ (d : MasterData) (core : IsCore d) (victims : List ℕ) (count : ℕ) (
         let some = (open_now x then_core fresh refl).victims.some in
         let size = ap (λ (ids : List ℕ). length ids) empty in
         omega (arith, some, size));
-    older = older;
+    older = λ s victim. others_in d core s (older s victim);
   }
 
   -- ---- memory then
 
-  abbrev then_memory : Memory
+  abbrev then_memory : FailMemory
   then_memory = pass_begun (log_of d) (memory_of d) victims count
 
   -- an object or a tombstone of a victim is to come
@@ -284,21 +309,30 @@ module _ (d : MasterData) (core : IsCore d) (victims : List ℕ) (count : ℕ) (
       (among_image (entry_place x) (places_of (images_in d.closed) victims)
       (place_at q.segment (length (text_of b.before))) among)
 
+  same_images : (s : ℕ) → images_of x s ≡ then_memory.images s
+  same_images s = images_then s ∙ sym ((begun_survivors (log_of d) (memory_of d) victims count may).2 s)
+
   agree : Agree (ids_taken count (log_of d)) then_memory (memory_of x)
   agree = record {
-    pass = refl;
-    images = λ s counts. images_then s;
-    index = λ k. index_then d x core then_core (λ j. refl) grow k (λ u key held. held);
-    rest = λ q e victim stands of_data coming.
+    pass = λ i. record {
+      victims = sym (victims_begun (log_of d) (memory_of d) victims count) i;
+      survivors = sym (begun_survivors (log_of d) (memory_of d) victims count may).0 i;
+    };
+    images = same_images;
+    index = λ k. index_then d x core then_core (λ j. refl) grow k (λ u key held. held)
+        ∙ sym (ap (λ (index : Index). index k) (index_begun (log_of d) (memory_of d) victims count));
+    rest = λ q e victim stands of_data coming. (
+        let among = subst (λ (ids : List ℕ). IsAmong q.segment ids)
+        (victims_begun (log_of d) (memory_of d) victims count) victim in
         subst (λ (ps : List Place). IsAmong q (map (entry_place x) ps)) (sym rest_then)
-        (rest_has q e victim (subst (λ (es : List Entry). IsAt es q.position e)
-        (sym (images_then q.segment) ∙ images_other q.segment (victim_out q.segment victim)) stands) of_data);
+        (rest_has q e among (subst (λ (es : List Entry). IsAt es q.position e)
+        (sym (same_images q.segment) ∙ images_other q.segment (victim_out q.segment among)) stands) of_data));
     done = λ empty. ap (map (entry_place x)) (rest_then ∙ no_places (images_of d)
-        (images_in d.closed) victims victim_image empty);
-    sealed = λ s survivor. unsealed d.config.replicas d.next s;
-    commits = sym may.no_commit;
-    waiting = λ s waits. waits;
-    freed = λ s waits. omega arith;
+        (images_in d.closed) victims victim_image
+        (sym (rest_begun (log_of d) (memory_of d) victims count) ∙ empty));
+    commits = sym (commits_begun (log_of d) (memory_of d) victims count ∙ may.no_commit);
+    waiting = λ w waits. subst (λ (ws : List Spot). IsAmong w ws)
+        (sym (waiting_begun (log_of d) (memory_of d) victims count)) waits;
   }
 
 -- ---- a pass begins
@@ -318,17 +352,22 @@ module _ (d e : MasterData) (f : FleetState) (victims : List ℕ) (answer : Step
   then_core : IsCore (begun_data d victims (survivors_for d victims) is.cursor)
   then_core = subst IsCore is.rest core
 
-  intact : IsIntact (log_of e) (memory_of e) kept.before
-  intact =
-      subst (λ (l : LogData). IsIntact l (memory_of e) kept.before) (sym is.log)
-      (subst (λ (y : MasterData). IsIntact (ids_taken count (log_of d)) (memory_of y) kept.before) (sym is.rest)
-      (agreeing_is_intact (ids_taken count (log_of d)) (pass_begun (log_of d) (memory_of d) victims count)
-      (memory_of (begun_data d victims count is.cursor)) kept.before
-      (begin_keeps (log_of d) (memory_of d) kept.before victims count kept.holds
+  holds : HoldsAll (log_of e) (memory_of e) f
+  holds =
+      subst (λ (l : FailData). HoldsAll l (memory_of e) f) (sym is.log)
+      (subst (λ (y : MasterData). HoldsAll (ids_taken count (log_of d)) (memory_of y) f) (sym is.rest)
+      (agreeing_holds (ids_taken count (log_of d)) (pass_begun (log_of d) (memory_of d) victims count)
+      (memory_of (begun_data d victims count is.cursor)) f
+      (begin_holds_all (log_of d) (memory_of d) f victims count (kept.known admitted.0)
       (may d kept.core victims count is.cursor admitted.1 then_core is.begins))
       (agree d kept.core victims count is.cursor admitted.1 then_core is.begins)))
 
+  placed : IsPlaced e
+  placed = subst IsPlaced (sym is.rest) (placed_begun d kept.core kept.placed victims count is.cursor
+      (d.closed ++ survivor_images d.config (range_with_len d.next count)))
+
   pub begun_kept : IsWellKept e f
   begun_kept =
-      unhanded_kept d e f kept admitted.0 core (ap (λ (y : MasterData). y.config) is.rest)
-      (ap (λ (y : MasterData). y.waiting) is.rest) intact
+      well_kept e f (unhanded_kept d e f (kept_as d f kept admitted.0) core placed
+      (ap (λ (y : MasterData). y.config) is.rest)
+      (ap (λ (y : MasterData). y.waiting) is.rest) holds)

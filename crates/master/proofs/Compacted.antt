@@ -8,14 +8,15 @@ use Rattle.entry.specs.declared.key.Key.{Key}
 use Rattle.entry.specs.declared.entry.Entry.{Entry}
 use Rattle.entry.specs.Bag.{IsAmong}
 use Rattle.replica.specs.Picture.{FleetState}
-use Rattle.log_model.specs.Data.{LogData}
+use Rattle.log_head.specs.Log.{head_of}
 use Rattle.clean_model.specs.Compaction.{moved_place, kept_before}
-use Rattle.clean_model.specs.Intact.{IsIntact}
-use Rattle.clean_model.specs.Memory.{Place as EntryPlace, Memory, log_ids}
-use Rattle.clean_model.specs.Steps.{compacted, MayCompact}
-use Rattle.clean_model.proofs.Compacting.{compact_keeps}
+use Rattle.clean_model.specs.Memory.{Place as EntryPlace}
 use Rattle.clean_model.proofs.KeptEntries.{has_is}
-use Rattle.clean_model.proofs.LogSetIds.{in_digest as counts_listed}
+use Rattle.failover_model.specs.Data.{FailData}
+use Rattle.failover_clean.specs.Fleet.{HoldsAll}
+use Rattle.failover_clean.specs.Memory.{FailMemory, log_ids}
+use Rattle.failover_clean.specs.Steps.{compacted, MayCompact}
+use Rattle.failover_clean.proofs.FleetSteps.{compact_holds_all}
 use Rattle.places.specs.declared.place.Place.{Place}
 use Rattle.compactor.specs.Kept.{kept_of}
 use Rattle.compactor.specs.Laws.{compacted_images, CompactionFollows}
@@ -30,10 +31,12 @@ use Rattle.master_space.proofs.CompactedCore.{IsAdmitted, admitted, in_digest, i
 use Rattle.master_space.proofs.CompactedIndex.{found_elsewhere}
 use Rattle.master_state.proofs.Imaging.{other_id}
 use Rattle.master.specs.Invariant.{IsWellKept}
-use Rattle.master.proofs.Handed.{unhanded_kept}
+use Rattle.master.specs.Placed.{sealed_now, IsPlaced}
 use Rattle.master.proofs.KeptByEntries.{kept_by_entries}
-use Rattle.master.proofs.LogSets.{has_same, same_set}
-use Rattle.master.proofs.Models.{IsModel, LeavesPass, rest_stays, is_model, own_intact}
+use Rattle.master.proofs.Lasting.{kept_as, well_kept, unhanded_kept}
+use Rattle.master.proofs.LogSets.{has_same, same_set, of_digest}
+use Rattle.master.proofs.Models.{IsModel, LeavesPass, rest_stays, is_model, own_holds_all}
+use Rattle.master.proofs.Placements.{placed_same}
 use Rattle.master.proofs.Victims.{survivor_outside, never_both}
 
 law : CompactionFollows
@@ -55,13 +58,13 @@ same_segment ids index s es r p is = go (r.segment == s) refl where
 module _ (d e : MasterData) (f : FleetState) (id : ℕ) (answer : StepAnswer) (kept : IsWellKept d f)
     (is : Compacts d id answer e)
     (core : IsCore e) where
-  abbrev m : Memory
+  abbrev m : FailMemory
   m = memory_of d
 
   abbrev ids : List ℕ
   ids = log_ids (log_of d) (memory_of d)
 
-  abbrev then_memory : Memory
+  abbrev then_memory : FailMemory
   then_memory = compacted (log_of d) m id
 
   fit : IsAdmitted d id
@@ -75,7 +78,7 @@ module _ (d e : MasterData) (f : FleetState) (id : ℕ) (answer : StepAnswer) (k
 
   may : MayCompact (log_of d) m id
   may = record {
-    counts = counts_listed (log_of d) m id (in_digest d kept.core id fit);
+    counts = of_digest d kept.core id (in_digest d kept.core id fit);
     no_survivor = λ survivor. survivor_outside d kept.core id survivor (in_digest d kept.core id fit);
     no_victim = no_victim;
   }
@@ -112,9 +115,7 @@ module _ (d e : MasterData) (f : FleetState) (id : ℕ) (answer : StepAnswer) (k
   leaves : LeavesPass d e
   leaves = record {
     pass = ap (λ (x : MasterData). (memory_of x).pass) is.rest;
-    sealed = λ s. ap (λ (x : MasterData). (memory_of x).sealed s) is.rest;
-    waiting = ap (λ (x : MasterData). x.waiting) is.rest;
-    freed = ap (λ (x : MasterData). x.freed) is.rest;
+    waiting = ap (λ (x : MasterData). (memory_of x).waiting) is.rest;
     rest = rest_stays d e kept.core core pass_same
         (let own = ap (λ (x : MasterData). x.head.id) is.rest in omega arith) victims_same;
     victims = victims_same;
@@ -138,10 +139,23 @@ module _ (d e : MasterData) (f : FleetState) (id : ℕ) (answer : StepAnswer) (k
   model = is_model d e leaves then_memory.images then_memory.index (is_committing d)
       (ap is_committing is.rest) (λ s counts. same_images s) behind
 
+  placed : IsPlaced e
+  placed = placed_same d e (record {
+    config = ap (λ (x : MasterData). x.config) is.rest;
+    ledger = ap (λ (x : MasterData). x.ledger) is.rest;
+    id = ap (λ (x : MasterData). x.head.id) is.rest;
+    replicas = ap (λ (x : MasterData). x.head.replicas) is.rest;
+    taken = ap (λ (x : MasterData). x.head.taken) is.rest;
+    roll = ap (λ (x : MasterData). x.head.roll) is.rest;
+    others = ap (λ (x : MasterData). (head_of x.head).start.others) is.rest;
+    survivors = ap (λ (x : MasterData). survivors_of x.pass) is.rest;
+    sealed = λ s. ap (λ (x : MasterData). sealed_now x s) is.rest;
+  }) kept.placed
+
   pub compacted_kept : IsWellKept e f
   compacted_kept =
-      unhanded_kept d e f kept fit.running core (ap (λ (x : MasterData). x.config) is.rest)
-      leaves.waiting
-      (own_intact e core then_memory kept.before (subst (λ (l : LogData). IsIntact l then_memory
-      kept.before) (sym is.log)
-      (compact_keeps (log_of d) m kept.before id kept.holds may)) model)
+      well_kept e f (unhanded_kept d e f (kept_as d f kept fit.running) core placed
+      (ap (λ (x : MasterData). x.config) is.rest)
+      (ap (λ (x : MasterData). x.waiting) is.rest)
+      (own_holds_all e core then_memory f (subst (λ (l : FailData). HoldsAll l then_memory f) (sym is.log)
+      (compact_holds_all (log_of d) m f id (kept.known fit.running) may)) model))

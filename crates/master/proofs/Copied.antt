@@ -1,5 +1,6 @@
 -- An entry that is treated keeps what holds of a master.
-use Rattle.std.proofs.Common.{◌≡◌, ℕ, ◌+◌, Bool, true, false, inl, inr, List, [], ◌∷◌, ◌++◌, map, length, drop, refl, sym}
+use Rattle.std.proofs.Common.{◌≡◌, ℕ, ◌+◌, Bool, true, false, inl, inr, List, [], ◌∷◌, ◌++◌, map, length, drop, refl}
+use Rattle.std.proofs.Common.{sym}
 use Rattle.std.proofs.Common.{ap, subst, ◌∙◌, arith}
 use Rattle.std.specs.Prelude.{Option, Some, ◌==◌, if◌then◌else◌}
 use Rattle.std.specs.Option.{option_map, option_map_or}
@@ -27,13 +28,16 @@ use Rattle.places.proofs.Words.{names_still, names_moved, named_found}
 use Rattle.images.specs.Image.{Image}
 use Rattle.images.specs.Sorted.{changed}
 use Rattle.images.specs.Steps.{with_unit}
+use Rattle.log_head.specs.Log.{head_of}
 use Rattle.replica.specs.Picture.{FleetState}
 use Rattle.versioned_map.proofs.Keys.{key_eq-tells}
 use Rattle.clean_model.specs.Compaction.{kept as entry_kept}
-use Rattle.clean_model.specs.Intact.{IsIntact}
-use Rattle.clean_model.specs.Memory.{Place as EntryPlace, Pass as PassIds, grown, log_ids}
-use Rattle.clean_model.specs.Steps.{next_place, index_moved, is_copied, with_copy, MayCopy}
-use Rattle.clean_model.proofs.Copying.{copy_keeps}
+use Rattle.clean_model.specs.Memory.{Place as EntryPlace, Pass as PassIds, grown}
+use Rattle.clean_model.specs.Steps.{next_place, is_copied}
+use Rattle.failover_clean.specs.Fleet.{HoldsAll}
+use Rattle.failover_clean.specs.Memory.{log_ids}
+use Rattle.failover_clean.specs.Steps.{index_moved, with_copy, MayCopy}
+use Rattle.failover_clean.proofs.FleetSteps.{copy_holds_all}
 use Rattle.master_state.specs.declared.step.Refusal.TheVariants.{Halted}
 use Rattle.master_state.specs.declared.step.StepAnswer.{StepAnswer}
 use Rattle.master_state.specs.Budget.{victims_of, survivors_of}
@@ -45,13 +49,15 @@ use Rattle.master_state.proofs.Finding.{each_of}
 use Rattle.master_state.proofs.Indexing.{Grow, key_seen}
 use Rattle.master_state.proofs.Refusals.{passes}
 use Rattle.master.specs.Invariant.{IsWellKept}
-use Rattle.master.proofs.Agreeing.{Agree, agreeing_is_intact}
+use Rattle.master.specs.Placed.{sealed_now, IsPlaced}
+use Rattle.master.proofs.Agreeing.{Agree, agreeing_holds}
 use Rattle.master.proofs.GrownImages.{index_then}
-use Rattle.master.proofs.Handed.{unhanded_kept}
 use Rattle.master.proofs.KeptByEntries.{position_is, stands_by_entries, kept_same}
+use Rattle.master.proofs.Lasting.{kept_as, well_kept, unhanded_kept}
 use Rattle.master.proofs.LogSets.{same_set}
 use Rattle.master.proofs.OpenPasses.{closed_among, same_among, rest_is, victim_image, below_survivor, not_head, not_new}
 use Rattle.master.proofs.OpenPasses.{survivor_image, survivor_whole}
+use Rattle.master.proofs.Placements.{placed_same}
 
 -- ---- what is kept, by entries and by offsets
 
@@ -235,15 +241,13 @@ module _ (d : MasterData) (core : IsCore d) (p : Pass) (opened : d.pass ≡ Some
       (memory_of (record d { pass = Some q }))
   agree_dropped left = record {
     pass = same_ids;
-    images = λ s counts. refl;
+    images = λ s. refl;
     index = λ k. refl;
     rest = λ w y victim stands data_is coming. subst (λ (ps : List Place). IsAmong w (map (entry_place d) ps))
         (sym left) coming;
     done = λ none. ap (map (entry_place d)) left ∙ none;
-    sealed = λ s survivor. same_sealed s;
     commits = same_commits;
-    waiting = λ s waits. waits;
-    freed = λ s waits. omega arith;
+    waiting = λ w waits. waits;
   }
 
   -- it was copied
@@ -265,14 +269,12 @@ module _ (d : MasterData) (core : IsCore d) (p : Pass) (opened : d.pass ≡ Some
         (memory_of (copied_data d z u e q))
     agree_kept = record {
       pass = same_ids;
-      images = λ s counts. images_then d core p opened z survivor u e q then_core s;
+      images = λ s. images_then d core p opened z survivor u e q then_core s;
       index = index_kept d core p opened z survivor u e q then_core l is;
       rest = λ w y victim stands data_is coming. subst (λ (ps : List EntryPlace). IsAmong w ps) (sym same_rest) coming;
       done = λ none. same_rest ∙ none;
-      sealed = λ s survivor. same_sealed s;
       commits = same_commits;
-      waiting = λ s waits. waits;
-      freed = λ s waits. omega arith;
+      waiting = λ w waits. waits;
     }
 
 -- ---- a copy
@@ -310,31 +312,38 @@ module _ (d e : MasterData) (f : FleetState) (answer : StepAnswer) (kept : IsWel
         (each_of d kept.core is.treats.place.segment) lies;
   }
 
-  intact_if : (t : Bool) → is_kept (log_set_ids d) d.index is.treats.place is.treats.entry ≡ t
-      → IsIntact (log_of d)
-      (if t then with_copy (memory_of d) rest (target is.pass is.after) is.treats.entry
-      else record (memory_of d) { rest = rest }) kept.before
-  intact_if t test =
-      subst (λ (b : Bool). IsIntact (log_of d)
-      (if b then with_copy (memory_of d) rest (target is.pass is.after) is.treats.entry
-      else record (memory_of d) { rest = rest }) kept.before)
-      (copied_is_kept d kept.core is.treats.place is.treats.entry lies is.treats.of_data ∙ test)
-      (copy_keeps (log_of d) (memory_of d) kept.before (entry_place d is.treats.place) rest (target is.pass is.after)
-      is.treats.entry kept.holds may)
+  running : d.is_halted ≡ false
+  running = (passes d.is_halted Halted _ is.passed).0
 
-  intact_then : (t : Bool) → is_kept (log_set_ids d) d.index is.treats.place is.treats.entry ≡ t
-      → IsIntact (log_of e) (memory_of e) kept.before
-  intact_then true test =
-      subst (λ (y : MasterData). IsIntact (log_of y) (memory_of y) kept.before) (sym whole)
-      (agreeing_is_intact (log_of d) (with_copy (memory_of d) rest (target is.pass is.after) is.treats.entry)
-      (memory_of (copied_data d (target is.pass is.after) is.treats.place is.treats.entry is.after)) kept.before (intact_if true test)
+  holds_if : (t : Bool) → is_kept (log_set_ids d) d.index is.treats.place is.treats.entry ≡ t
+      → HoldsAll (log_of d)
+      (if t then with_copy (memory_of d) rest (target is.pass is.after) is.treats.entry
+      else record (memory_of d) { rest = rest }) f
+  holds_if t test =
+      subst (λ (b : Bool). HoldsAll (log_of d)
+      (if b then with_copy (memory_of d) rest (target is.pass is.after) is.treats.entry
+      else record (memory_of d) { rest = rest }) f)
+      (copied_is_kept d kept.core is.treats.place is.treats.entry lies is.treats.of_data ∙ test)
+      (copy_holds_all (log_of d) (memory_of d) f (entry_place d is.treats.place) rest (target is.pass is.after)
+      is.treats.entry (kept.known running) may)
+
+  holds_then : (t : Bool) → is_kept (log_set_ids d) d.index is.treats.place is.treats.entry ≡ t
+      → HoldsAll (log_of e) (memory_of e) f
+  holds_then true test =
+      subst (λ (y : MasterData). HoldsAll (log_of y) (memory_of y) f) (sym whole)
+      (agreeing_holds (log_of d) (with_copy (memory_of d) rest (target is.pass is.after) is.treats.entry)
+      (memory_of (copied_data d (target is.pass is.after) is.treats.place is.treats.entry is.after)) f
+      (holds_if true test)
       (agree_kept d kept.core is.pass is.opened is.treats.place is.treats.later is.treats.first is.treats.entry
       is.after is.treats.pass (target is.pass is.after) among lies test (subst IsCore whole core) left))
     where
       closed_is : e.closed ≡ changed d.closed (target is.pass is.after) (with_unit (is.treats.entry ∷ []))
-      closed_is = is.treats.survivor ∙ ap (λ (b : Bool). images_with b (target is.pass is.after) is.treats.entry d.closed) test
+      closed_is =
+          is.treats.survivor
+          ∙ ap (λ (b : Bool). images_with b (target is.pass is.after) is.treats.entry d.closed) test
 
-      index_is : e.index ≡ moved_one is.treats.place (copy_place (target is.pass is.after) d.closed) is.treats.entry d.index
+      index_is : e.index
+          ≡ moved_one is.treats.place (copy_place (target is.pass is.after) d.closed) is.treats.entry d.index
       index_is =
           is.treats.index
           ∙ ap (λ (b : Bool). held_with b is.treats.place (copy_place (target is.pass is.after) d.closed)
@@ -346,16 +355,18 @@ module _ (d e : MasterData) (f : FleetState) (answer : StepAnswer) (kept : IsWel
       left : rest_of (images_in (changed d.closed (target is.pass is.after) (with_unit (is.treats.entry ∷ []))))
           is.after ≡ is.treats.later
       left = ap (λ (cs : List Image). rest_of (images_in cs) is.after) (sym closed_is) ∙ is.treats.rest
-  intact_then false test =
-      subst (λ (y : MasterData). IsIntact (log_of y) (memory_of y) kept.before) (sym whole)
-      (agreeing_is_intact (log_of d) (record (memory_of d) { rest = rest })
-      (memory_of (record d { pass = Some is.after })) kept.before
-      (intact_if false test)
+  holds_then false test =
+      subst (λ (y : MasterData). HoldsAll (log_of y) (memory_of y) f) (sym whole)
+      (agreeing_holds (log_of d) (record (memory_of d) { rest = rest })
+      (memory_of (record d { pass = Some is.after })) f
+      (holds_if false test)
       (agree_dropped d kept.core is.pass is.opened is.treats.place is.treats.later is.treats.first is.treats.entry
       is.after is.treats.pass left))
     where
       closed_is : e.closed ≡ d.closed
-      closed_is = is.treats.survivor ∙ ap (λ (b : Bool). images_with b (target is.pass is.after) is.treats.entry d.closed) test
+      closed_is =
+          is.treats.survivor
+          ∙ ap (λ (b : Bool). images_with b (target is.pass is.after) is.treats.entry d.closed) test
 
       index_is : e.index ≡ d.index
       index_is =
@@ -369,9 +380,26 @@ module _ (d e : MasterData) (f : FleetState) (answer : StepAnswer) (kept : IsWel
       left : rest_of (images_in d.closed) is.after ≡ is.treats.later
       left = ap (λ (cs : List Image). rest_of (images_in cs) is.after) (sym closed_is) ∙ is.treats.rest
 
+  placed : IsPlaced e
+  placed = placed_same d e (record {
+    config = ap (λ (x : MasterData). x.config) is.rest;
+    ledger = ap (λ (x : MasterData). x.ledger) is.rest;
+    id = ap (λ (x : MasterData). x.head.id) is.rest;
+    replicas = ap (λ (x : MasterData). x.head.replicas) is.rest;
+    taken = ap (λ (x : MasterData). x.head.taken) is.rest;
+    roll = ap (λ (x : MasterData). x.head.roll) is.rest;
+    others = ap (λ (x : MasterData). (head_of x.head).start.others) is.rest;
+    survivors = ap (λ (x : MasterData). survivors_of x.pass) is.rest
+        ∙ ap (λ (i : PassIds). i.survivors) (same_ids d kept.core p is.opened u is.treats.later is.treats.first
+        is.treats.entry is.after is.treats.pass);
+    sealed = λ s. ap (λ (x : MasterData). sealed_now x s) is.rest
+        ∙ same_sealed d kept.core p is.opened u is.treats.later is.treats.first is.treats.entry is.after
+        is.treats.pass s;
+  }) kept.placed
+
   pub copied_kept : IsWellKept e f
   copied_kept =
-      unhanded_kept d e f kept (passes d.is_halted Halted _ is.passed).0 core
+      well_kept e f (unhanded_kept d e f (kept_as d f kept running) core placed
       (ap (λ (y : MasterData). y.config) is.rest)
-      (ap (λ (y : MasterData). y.waiting) is.rest) (intact_then
-      (is_kept (log_set_ids d) d.index is.treats.place is.treats.entry) refl)
+      (ap (λ (y : MasterData). y.waiting) is.rest)
+      (holds_then (is_kept (log_set_ids d) d.index is.treats.place is.treats.entry) refl))

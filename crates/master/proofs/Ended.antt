@@ -1,54 +1,60 @@
 -- A roll ends with the last Close. With a commit the victims of its pass leave memory, and wait to be freed.
-use Rattle.std.proofs.Common.{◌≡◌, ℕ, ◌⊎◌, ◌<◌, ◌≤◌, inl, inr, Bool, true, false, List, [], ◌∷◌, ◌++◌, refl, sym, ap}
-use Rattle.std.proofs.Common.{subst, ◌∙◌, arith}
-use Rattle.std.specs.Prelude.{Option, Some, ◌==◌, filter, unwrap_or, slice_get, if◌then◌else◌}
+use Rattle.std.proofs.Common.{◌≡◌, ℕ, zero, suc, ◌⊎◌, ◌+◌, ◌-◌, ◌<◌, ◌≤◌, inl, inr, Bool, true, false, List, []}
+use Rattle.std.proofs.Common.{◌∷◌, ◌++◌, refl, sym, ap, subst, ◌∙◌, map, arith}
+use Rattle.std.specs.Prelude.{Option, Some, ◌==◌, filter, unwrap_or, if◌then◌else◌}
 use Rattle.std.specs.List.{AllByRecursion}
 use Rattle.std.specs.Option.{option_map, option_map_or}
 use Rattle.std.proofs.lemmas.Option.{same_Some}
 use Rattle.cleaner.specs.declared.pass.Pass.{Pass as OpenPass}
-use Rattle.cleaner.specs.Seals.{sealed_of}
 use Rattle.entry.specs.declared.key.Key.{Key}
 use Rattle.entry.specs.declared.entry.Entry.{Entry}
 use Rattle.entry.specs.Bag.{IsAmong}
-use Rattle.entry.proofs.BagLemmas.{among_left, among_right, among_either, among_push}
+use Rattle.entry.proofs.BagLemmas.{among_left, among_right, among_either}
 use Rattle.places.specs.declared.place.Place.{Place}
 use Rattle.places.specs.Map.{found}
 use Rattle.compactor.specs.Places.{keys_in}
-use Rattle.replica.specs.Picture.{Picture, FleetState}
 use Rattle.log_head.specs.declared.head.Roll.{Roll}
 use Rattle.log_head.specs.Log.{head_of, start_of}
 use Rattle.log_head.specs.Steps.{in_force}
-use Rattle.log_head.proofs.RollLog.{head_in_force}
-use Rattle.log_model.specs.Data.{Start, Head, LogData, ids_of}
-use Rattle.log_model.specs.Ids.{has}
-use Rattle.clean_model.specs.Intact.{IsIntact}
-use Rattle.clean_model.specs.Memory.{Place as EntryPlace, Memory, log_ids}
-use Rattle.clean_model.specs.Steps.{finished}
-use Rattle.clean_model.proofs.KeptEntries.{is_has}
+use Rattle.log_head.proofs.Digests.{all_out, without_none}
+use Rattle.log_model.specs.Data.{ids_of}
+use Rattle.log_model.specs.Ids.{has, without}
+use Rattle.clean_model.specs.Memory.{Place as EntryPlace}
+use Rattle.clean_model.proofs.KeptEntries.{has_is, is_has}
+use Rattle.failover_model.specs.Data.{Calm, FailData, homes}
+use Rattle.failover_model.specs.Steps.{ended, ids_now}
+use Rattle.failover_clean.specs.Memory.{Spot, log_ids}
+use Rattle.failover_clean.specs.Steps.{spots_of, finished}
+use Rattle.failover_clean.proofs.Ids.{now_is}
+use Rattle.master_state.specs.declared.config.Config.{Config}
+use Rattle.master_state.specs.declared.ledger.Posting.{Posting}
 use Rattle.master_state.specs.Budget.{victims_of, survivors_of, is_committing}
 use Rattle.master_state.specs.Data.{MasterData}
 use Rattle.images.specs.Image.{Image, closed_image}
 use Rattle.master_state.specs.Images.{with_closed, leaving}
-use Rattle.master_state.specs.Invariant.{AreApart, IsCore}
-use Rattle.master_state.specs.Log.{log_of, image_of, images_of, find, entry_place, freed_of, memory_of}
+use Rattle.master_state.specs.Invariant.{AreApart, IsCore, listed_with}
+use Rattle.master_state.specs.Ledger.{took_in}
+use Rattle.master_state.specs.Log.{log_of, image_of, images_of, find, entry_place, home, spots_from, spots_in}
+use Rattle.master_state.specs.Log.{memory_of}
 use Rattle.master_state.specs.Steps.{pass_ended}
 use Rattle.master_space.proofs.Committed.{image_stays}
-use Rattle.master_space.proofs.Digests.{id_is}
 use Rattle.master_state.proofs.Imaging.{ids_in}
 use Rattle.master_state.proofs.LogIds.{open_of, closed_rise, no_head}
 use Rattle.master_state.proofs.Rising.{Rise, has_not, rise_put}
-use Rattle.master_space.proofs.RollEnds.{added_ids, rolls_of, values, closed_images}
-use Rattle.master.specs.Invariant.{IsKeptAs}
-use Rattle.master.proofs.LogSets.{new_now}
-use Rattle.master.proofs.Models.{IsModel, LeavesPass, rest_stays, is_model}
-use Rattle.master.proofs.Victims.{victim_below, never_both}
+use Rattle.master_space.proofs.RollEnds.{added_ids, closed_images}
+use Rattle.master.specs.Placed.{placed, IsPlaced}
+use Rattle.master.proofs.Models.{among_map, IsModel, LeavesPass, rest_stays, is_model}
+use Rattle.master.proofs.NextOps.{roll_of, start_id}
+use Rattle.master.proofs.Placing.{home_placed}
+use Rattle.master.proofs.PushedPlaces.{not_without}
+use Rattle.master.proofs.Victims.{victim_older, victim_below, never_both}
 
 -- ---- the same images
 
 -- the model's memory stays, if images and the index do
 module _ (d e : MasterData) (core : IsCore d) (later : IsCore e) (config : e.config ≡ d.config)
-    (images : (s : ℕ) → image_of e s ≡ image_of d s) (index : e.index ≡ d.index) (pass : e.pass ≡ d.pass) (waiting : e.waiting ≡ d.waiting) (freed : e.freed ≡ d.freed)
-    (newer : d.head.id ≤ e.head.id) where
+    (images : (s : ℕ) → image_of e s ≡ image_of d s) (index : e.index ≡ d.index) (pass : e.pass ≡ d.pass)
+    (waiting : e.waiting ≡ d.waiting) (freed : e.freed ≡ d.freed) (newer : d.head.id ≤ e.head.id) where
   same_at : (s : ℕ) → images_of e s ≡ images_of d s
   same_at s = ap (λ (o : Option (List Entry)). unwrap_or o []) (images s)
 
@@ -58,10 +64,7 @@ module _ (d e : MasterData) (core : IsCore d) (later : IsCore e) (config : e.con
   leaves : LeavesPass d e
   leaves = record {
     pass = λ i. record { victims = victims_of (pass i); survivors = survivors_of (pass i) };
-    sealed = λ s. (λ i. option_map_or
-        (λ (p : OpenPass). sealed_of (config i).replicas p.sealed p.survivors.first s) (pass i) 0);
-    waiting = waiting;
-    freed = freed;
+    waiting = λ i. spots_in (config i) (waiting i) (freed i);
     rest = rest_stays d e core later pass newer (λ s victim. same_at s);
     victims = λ s victim. same_at s;
   }
@@ -130,37 +133,124 @@ apart_append (x ∷ xs) ys first later never = (
   apart_append xs ys first.1 later (λ s m n. never s (inr m) n),
 )
 
--- what waits behind others waits for its turn
-first_freed : (waiting more : List ℕ) (freed s : ℕ)
-    → (if option_map_or (λ (first : ℕ). first == s) (slice_get waiting 0) false then freed else 0)
-    ≤ (if option_map_or (λ (first : ℕ). first == s) (slice_get (waiting ++ more) 0) false then freed else 0)
-first_freed [] more freed s = omega arith
-first_freed (w ∷ ws) more freed s = omega arith
+-- ---- what waits
+
+-- a spot of some of the segments, all of whose replicas have this many
+pub spot_there : (c : Config) (ids : List ℕ) (j s : ℕ) → j < c.replicas → IsAmong s ids
+    → (w : Spot) × IsAmong w (spots_in c ids j) × (w.segment ≡ s)
+spot_there c [] j s lt m = absurd m
+spot_there c (z ∷ ids) j s lt (inl same) = (
+  record { segment = z; backup = home c z j },
+  among_left (record { segment = z; backup = home c z j }) (spots_from c z j (c.replicas - j)) (spots_in c ids 0)
+      (first (c.replicas - j) (omega (arith, lt))),
+  same,
+) where
+  first : (n : ℕ) → 0 < n → IsAmong (record { segment = z; backup = home c z j }) (spots_from c z j n)
+  first zero some = absurd (omega (arith, some))
+  first (suc n) some = inl refl
+spot_there c (z ∷ ids) j s lt (inr m) =
+    let later = spot_there c ids 0 s (omega (arith, lt)) m in
+    (later.0, among_right later.0 (spots_from c z j (c.replicas - j)) (spots_in c ids 0) later.1, later.2)
+
+-- A replica of one of these segments.
+record IsSpotIn (c : Config) (ids : List ℕ) (w : Spot) : Type 0 where
+  segment : IsAmong w.segment ids
+  replica : ℕ
+  within : replica < c.replicas
+  is : w.backup ≡ home c w.segment replica
+
+spots_are : (c : Config) (s j n : ℕ) (w : Spot) → j + n ≤ c.replicas → IsAmong w (spots_from c s j n)
+    → IsSpotIn c (s ∷ []) w
+spots_are c s j zero w le m = absurd m
+spots_are c s j (suc n) w le (inl same) = record {
+  segment = inl (ap (λ (v : Spot). v.segment) same);
+  replica = j;
+  within = omega (arith, le);
+  is = sym (ap (λ (v : Spot). v.backup) same) ∙ ap (λ (v : Spot). home c v.segment j) same;
+}
+spots_are c s j (suc n) w le (inr m) = spots_are c s (suc j) n w (omega (arith, le)) m
+
+one_spot : (c : Config) (s j : ℕ) (ids : List ℕ) (w : Spot) → j ≤ c.replicas
+    → IsAmong w (spots_from c s j (c.replicas - j)) → IsSpotIn c (s ∷ ids) w
+one_spot c s j ids w le m =
+    let at = spots_are c s j (c.replicas - j) w (omega (arith, le)) m in
+    record { segment = first at.segment; replica = at.replica; within = at.within; is = at.is }
+  where
+    first : IsAmong w.segment (s ∷ []) → IsAmong w.segment (s ∷ ids)
+    first (inl same) = inl same
+    first (inr none) = absurd none
+
+later_spot : (c : Config) (s : ℕ) (ids : List ℕ) (w : Spot) → IsSpotIn c ids w → IsSpotIn c (s ∷ ids) w
+later_spot c s ids w at =
+    record { segment = inr at.segment; replica = at.replica; within = at.within; is = at.is }
+
+spots_all : (c : Config) (ids : List ℕ) (j : ℕ) (w : Spot) → j ≤ c.replicas → IsAmong w (spots_in c ids j)
+    → IsSpotIn c ids w
+spots_all c [] j w le m = absurd m
+spots_all c (s ∷ ids) j w le m =
+    elim (among_either w (spots_from c s j (c.replicas - j)) (spots_in c ids 0) m) as (λ _. IsSpotIn c (s ∷ ids) w) [
+      | inl own ↦ one_spot c s j ids w le own
+      | inr later ↦ later_spot c s ids w (spots_all c ids 0 w (omega arith) later)
+    ]
+
+-- what waited, or is of those that come to wait
+more_waits : (c : Config) (xs ys : List ℕ) (j : ℕ) (w : Spot) → j ≤ c.replicas → IsAmong w (spots_in c (xs ++ ys) j)
+    → IsAmong w (spots_in c xs j) ⊎ IsSpotIn c ys w
+more_waits c [] ys j w le m = inr (spots_all c ys j w le m)
+more_waits c (s ∷ xs) ys j w le m =
+    let own = spots_from c s j (c.replicas - j) in
+    elim (among_either w own (spots_in c (xs ++ ys) 0) m)
+    as (λ _. IsAmong w (spots_in c (s ∷ xs) j) ⊎ IsSpotIn c ys w) [
+      | inl here ↦ inl (among_left w own (spots_in c xs 0) here)
+      | inr later ↦ elim (more_waits c xs ys 0 w (omega arith) later)
+          as (λ _. IsAmong w (spots_in c (s ∷ xs) j) ⊎ IsSpotIn c ys w) [
+            | inl old ↦ inl (among_right w own (spots_in c xs 0) old)
+            | inr new ↦ inr new
+          ]
+    ]
+
+-- the replica of a segment on a backup
+abbrev spot_at : ℕ → ℕ → Spot
+spot_at s b = record { segment = s; backup = b }
+
+-- the log's own replicas of a segment
+spot_of : (l : FailData) (ids : List ℕ) (s b : ℕ) → IsAmong s ids → IsAmong b (homes l s)
+    → IsAmong (spot_at s b) (spots_of l ids)
+spot_of l [] s b m at = absurd m
+spot_of l (z ∷ ids) s b (inl same) at =
+    among_left (spot_at s b) (map (spot_at z) (homes l z)) (spots_of l ids)
+    (subst (λ (y : ℕ). IsAmong (spot_at s b) (map (spot_at y) (homes l y))) (sym same)
+    (among_map (spot_at s) (homes l s) b at))
+spot_of l (z ∷ ids) s b (inr m) at =
+    among_right (spot_at s b) (map (spot_at z) (homes l z)) (spots_of l ids) (spot_of l ids s b m at)
 
 -- ---- the head that was rolled to is in force
 
-module _ {Holds : LogData → Memory → Picture → Type 0} (d : MasterData) (f : FleetState)
-    (kept : IsKeptAs Holds d f) (r : Roll)
-    (rolls : d.head.roll ≡ Some r) where
+module _ (d : MasterData) (core : IsCore d) (r : Roll) (rolls : d.head.roll ≡ Some r) (ps : List Posting) where
   abbrev closed : List Image
   closed = with_closed d.closed d.head.id (Some d.head.image)
 
   abbrev rolled : MasterData
-  rolled = record d { head = in_force d.head r; closed = with_closed d.closed d.head.id (Some d.head.image) }
+  rolled = record d {
+    head = in_force d.head r;
+    closed = with_closed d.closed d.head.id (Some d.head.image);
+    ledger = ps;
+  }
 
   newer : d.head.id < r.id
-  newer = (rolls_of d kept.core r rolls).newer
+  newer = (roll_of d core r rolls).newer
 
   -- an ordinary roll
   pub rolled_model : IsCore rolled → IsModel rolled (memory_of d)
-  rolled_model core =
-      same_model d rolled kept.core core refl (closed_images d kept.core r rolls) refl refl refl refl
+  rolled_model later =
+      same_model d rolled core later refl (closed_images d core r rolls) refl refl refl refl
       (let lt = newer in omega arith)
 
   -- ---- a commit
 
-  module _ (p : OpenPass) (opened : d.pass ≡ Some p) (commits : p.is_committing ≡ true)
-      (intact : IsIntact (log_of d) (memory_of d) kept.before) where
+  module _ (placed_now : IsPlaced d) (p : OpenPass) (opened : d.pass ≡ Some p) (commits : p.is_committing ≡ true)
+      (mid : FailData) (took : mid.took ≡ took_in d.ledger) (works : mid.failed ≡ [])
+      (log : log_of (pass_ended p rolled) ≡ ended mid (start_of r) Calm) where
     abbrev e : MasterData
     e = pass_ended p rolled
 
@@ -174,82 +264,94 @@ module _ {Holds : LogData → Memory → Picture → Type 0} (d : MasterData) (f
     -- ---- images
 
     -- no victim is in the digest in force then
-    start_is : (head_of e.head).start ≡ start_of r
-    start_is =
-        ap (λ (h : Head). h.start)
-        (head_in_force d.config.master d.head r (rolls_of d kept.core r rolls).image
-        (values d kept.core r rolls).segment)
+    lists : (start_of r).others ≡ listed_with d (victims_of d.pass) (survivors_of d.pass)
+    lists = (roll_of d core r rolls).lists ∙ ap (λ (t : Bool). if t
+        then listed_with d (victims_of d.pass) (survivors_of d.pass) else ids_of (head_of d.head).start) committing
 
-    not_victim : (s : ℕ) → IsAmong s (ids_of (head_of e.head).start) → IsAmong s (victims_of d.pass) → ⊥
+    not_victim : (s : ℕ) → IsAmong s (ids_of (start_of r)) → IsAmong s (victims_of d.pass) → ⊥
     not_victim s listed victim =
-        elim (among_push s (start_of r).others (start_of r).id
-        (subst (λ (n : Start). IsAmong s (ids_of n)) start_is listed))
-        as (λ _. ⊥) [
-          | inl other ↦ elim (((intact.rolling (start_of r) (new_now d r rolls)).1 committing).0.from s
-              other) as (λ _. ⊥) [
-                | inl old ↦ old.1 victim
-                | inr survivor ↦ never_both d kept.core s victim survivor
+        elim (among_either s (start_of r).others ((start_of r).id ∷ []) listed) as (λ _. ⊥) [
+          | inl other ↦ elim (all_out (survivors_of d.pass)
+              (without (victims_of d.pass) (ids_of (head_of d.head).start)) s
+              (subst (λ (ids : List ℕ). IsAmong s ids) lists other)) as (λ _. ⊥) [
+                | inl old ↦ (
+                    let none = (not_without (victims_of d.pass) (ids_of (head_of d.head).start) s old).1 in
+                    let some = has_is (victims_of d.pass) s victim in
+                    cc)
+                | inr survivor ↦ never_both d core s victim survivor
               ]
-          | inr own ↦ (
-              let lt = victim_below d kept.core s victim in
-              let more = newer in
-              let top = id_is d kept.core r rolls in
-              omega arith)
+          | inr own ↦ elim own as (λ _. ⊥) [
+            | inl same ↦ (
+                let lt = victim_below d core s victim in
+                let more = newer in
+                let top = start_id r in
+                omega (arith, same, lt, more, top))
+            | inr none ↦ none
+          ]
         ]
 
-    log_set_same : (s : ℕ) → IsAmong s (log_ids (log_of e) (finished (memory_of d))) → images_of e s ≡ images_of d s
+    log_set_same : (s : ℕ) → IsAmong s (log_ids (log_of e) (finished mid (memory_of d))) → images_of e s ≡ images_of d s
     log_set_same s counts =
-        let listed : IsAmong s (ids_of (head_of e.head).start) =
-        elim (among_either s (ids_of (head_of e.head).start) [] counts) as (λ _. IsAmong s
-        (ids_of (head_of e.head).start)) [
-          | inl i ↦ i
+        let real : (start_of r).id ≡ 0 → ⊥ = (λ none. (let top = start_id r in let more = newer in
+        omega (arith, none, top, more))) in
+        let there = subst (λ (l : FailData). IsAmong s (log_ids l (finished mid (memory_of d)))) log counts in
+        let listed : IsAmong s (ids_of (start_of r)) =
+        elim (among_either s (ids_now (start_of r)) [] there) as (λ _. IsAmong s (ids_of (start_of r))) [
+          | inl i ↦ subst (λ (ids : List ℕ). IsAmong s ids) (now_is (start_of r) real) i
           | inr none ↦ absurd none
         ] in
         ap (λ (o : Option (List Entry)). unwrap_or o [])
-        (image_stays d kept.core r rolls p (open_of d kept.core p opened) opened commits s
+        (image_stays d core r rolls p (open_of d core p opened) opened commits s
         (hasnt p.victims s (λ victim. not_victim s listed (subst (λ (ids : List ℕ). IsAmong s ids)
         (sym victims_are) victim))))
 
     -- ---- what waits
 
-    waits : (s : ℕ) → IsAmong s e.waiting → IsAmong s (victims_of d.pass ++ d.waiting)
-    waits s m = elim (among_either s d.waiting (leaving p.victims closed) m) as (λ _. IsAmong s
-        (victims_of d.pass ++ d.waiting)) [
-          | inl old ↦ among_right s (victims_of d.pass) d.waiting old
-          | inr new ↦ among_left s (victims_of d.pass) d.waiting
-              (subst (λ (ids : List ℕ). IsAmong s ids) (sym victims_are)
-              (is_has p.victims s (in_filter (has p.victims) (ids_in closed) s new)))
+    waits : (w : Spot) → IsAmong w (memory_of e).waiting → IsAmong w (finished mid (memory_of d)).waiting
+    waits w m =
+        let few = core.freed in
+        elim (more_waits d.config d.waiting (leaving p.victims closed) d.freed w (omega (arith, few)) m)
+        as (λ _. IsAmong w (finished mid (memory_of d)).waiting) [
+          | inl old ↦ among_right w (spots_of mid (victims_of d.pass)) (memory_of d).waiting old
+          | inr new ↦ among_left w (spots_of mid (victims_of d.pass)) (memory_of d).waiting (
+              let victim : IsAmong w.segment (victims_of d.pass) =
+              subst (λ (ids : List ℕ). IsAmong w.segment ids) (sym victims_are)
+              (is_has p.victims w.segment (in_filter (has p.victims) (ids_in closed) w.segment new.segment)) in
+              let there : homes mid w.segment ≡ placed d.config w.segment d.config.replicas =
+              (λ i. without (works i) (took i w.segment)) ∙ without_none (took_in d.ledger w.segment)
+              ∙ placed_now.others w.segment (victim_older d core w.segment victim) in
+              let at : IsAmong w.backup (homes mid w.segment) =
+              is_has (homes mid w.segment) w.backup
+              ((λ i. has (there i) (new.is i))
+              ∙ home_placed d.config w.segment d.config.replicas new.replica new.within) in
+              spot_of mid (victims_of d.pass) w.segment w.backup victim at)
         ]
-
-    fewer : (s : ℕ) → (if has (victims_of d.pass) s then 0 else freed_of d s) ≤ freed_of e s
-    fewer s = go (has (victims_of d.pass) s) where
-      go : (t : Bool) → (if t then 0 else freed_of d s) ≤ freed_of e s
-      go true = omega arith
-      go false = first_freed d.waiting (leaving p.victims closed) d.freed s
 
     ids_rise : Rise (ids_in closed)
     ids_rise =
         subst Rise (sym (added_ids (closed_image d.head.id d.head.image) d.closed))
-        (rise_put d.head.id (ids_in d.closed) (no_head d kept.core) (closed_rise d kept.core))
+        (rise_put d.head.id (ids_in d.closed) (no_head d core) (closed_rise d core))
 
-    pub apart_then : AreApart e.waiting
-    apart_then =
-        apart_append d.waiting (leaving p.victims closed) kept.apart
+    -- nothing waits twice
+    pub apart_then : AreApart d.waiting
+        → ((w : Spot) → IsAmong w (memory_of d).waiting → IsAmong w.segment (victims_of d.pass) → ⊥)
+        → AreApart e.waiting
+    apart_then apart gone =
+        apart_append d.waiting (leaving p.victims closed) apart
         (apart_rise (leaving p.victims closed) (rise_filter (has p.victims) (ids_in closed) ids_rise))
         (λ s old new. (
         let victim = is_has p.victims s (in_filter (has p.victims) (ids_in closed) s new) in
-        intact.waiting.out s old
-        (intact.passing.victims_count s (subst (λ (ids : List ℕ). IsAmong s ids) (sym victims_are) victim))))
+        let at = spot_there d.config d.waiting d.freed s core.freed old in
+        gone at.0 at.1 (subst (λ (z : ℕ). IsAmong z (victims_of d.pass)) (sym at.2)
+        (subst (λ (ids : List ℕ). IsAmong s ids) (sym victims_are) victim))))
 
-    pub ended_model : IsModel e (finished (memory_of d))
+    pub ended_model : IsModel e (finished mid (memory_of d))
     ended_model = record {
       pass = refl;
       images = log_set_same;
       behind = λ k q x found indexed victim survivor. victim;
       carried = λ x t victim stands named i. absurd victim;
       done = λ none. refl;
-      sealed = λ s survivor. absurd survivor;
       commits = refl;
       waiting = waits;
-      freed = λ s m. fewer s;
     }

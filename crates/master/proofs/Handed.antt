@@ -1,148 +1,125 @@
 -- An op that a backup was handed, taken or not, keeps what holds of a master.
-use Rattle.std.proofs.Common.{◌≡◌, ◌<◌, ◌≤◌, inl, inr, false, refl, sym, ap, subst, ◌∙◌, arith}
-use Rattle.std.specs.Prelude.{Some}
+use Rattle.std.proofs.Common.{◌≡◌, ℕ, ◌<◌, inl, inr, Bool, true, false, refl, sym, ap, subst, arith}
+use Rattle.std.specs.Prelude.{Option, Some, None, nat_lt}
 use Rattle.std.proofs.lemmas.Option.{same_Some}
-use Rattle.replica.specs.Picture.{Picture, FleetState}
-use Rattle.replica.specs.Take.{Refuses, taken as fleet_taken}
+use Rattle.replica.specs.Op.{OpValue}
+use Rattle.replica.specs.Picture.{Replica, FleetState}
+use Rattle.replica.specs.Take.{Refuses, taken, with_effect, effect}
 use Rattle.replica.specs.declared.op.TakeFault.{TakeFault}
 use Rattle.replica.specs.declared.op.TakeFault.TheVariants as take_fault
-use Rattle.log_model.specs.Data.{LogData}
-use Rattle.log_model.specs.Laws.{with_taken}
-use Rattle.log_model.specs.Ops.{LogOp, op_of, taken}
-use Rattle.log_model.proofs.Fleets.{fleet_takes}
-use Rattle.clean_model.specs.Memory.{Memory}
-use Rattle.clean_model.specs.Steps.{IsOp, IsFault}
+use Rattle.log_model.specs.Ops.{op_of}
+use Rattle.failover_model.specs.Data.{FailData}
+use Rattle.failover_model.specs.Shown.{Act, Op, On}
+use Rattle.failover_bytes.specs.Ops.{log_op_for, RefusesOp}
+use Rattle.failover_clean.specs.Fleet.{HoldsAll}
+use Rattle.failover_clean.specs.Memory.{FailMemory}
+use Rattle.failover_clean.specs.Ops.{IsOp}
+use Rattle.failover_clean.proofs.FleetAnswers.{fault_keeps_all, op_is_never_wrong}
 use Rattle.master_state.specs.declared.config.Config.{Config}
 use Rattle.master_state.specs.Data.{MasterData}
 use Rattle.master_state.specs.Invariant.{AreApart, IsCore}
 use Rattle.master_state.specs.Log.{log_of, memory_of}
 use Rattle.master_state.specs.Steps.{halted, refusal_of, failed_data}
 use Rattle.master_state.proofs.Beginning.{halted_core}
-use Rattle.master.specs.Invariant.{IsKeptAs}
+use Rattle.master.specs.Invariant.{IsWellKept}
+use Rattle.master.specs.Placed.{IsPlaced}
 use Rattle.master.specs.Registry.{IsUnraised}
 use Rattle.master.specs.Steps.{FailsTake}
+use Rattle.master.proofs.Lasting.{IsKeptAs}
+use Rattle.master.proofs.Placements.{placed_halted}
 use Rattle.master.proofs.Unraised.{unraised_on}
 
--- The backups before it take the op.
-module _ {Holds : LogData → Memory → Picture → Type 0} (d : MasterData) (f : FleetState) (kept : IsKeptAs Holds d f)
-    (running : d.is_halted ≡ false) (o : LogOp) (home : o.backup < d.config.backups) (q : Picture)
-    (took : taken kept.before d.config.master o ≡ Some q) where
-  here : f.picture ≡ kept.before
-  here = kept.running running
+-- ---- the fleet
 
-  fits : fleet_taken f o.backup (op_of d.config.master o) ≡ Some (with_taken f q)
-  fits =
-      fleet_takes f o d.config.master q (let le = kept.backups in let lt = home in omega arith)
-      (ap (λ (p : Picture). taken p d.config.master o) here ∙ took)
+-- The other fleet has as many backups, and the same least heads.
+pub record IsSameSize (f g : FleetState) : Type 0 where
+  pub backups : g.backups ≡ f.backups
+  pub least : g.least ≡ f.least
 
-  -- so the fleet never answers Wrong
-  pub never_wrong : (g : FleetState) → Refuses f o.backup (op_of d.config.master o) take_fault.Wrong g → ⊥
-  never_wrong g refused = let both = sym fits ∙ refused.0 in cc
+module _ (f : FleetState) (b : ℕ) (op : OpValue) where
+  effect_size : (g : FleetState) (r : Option (Option Replica)) → with_effect f b op r ≡ Some g → IsSameSize f g
+  effect_size g None is = absurd (cc)
+  effect_size g (Some r) is = subst (IsSameSize f) (same_Some _ g is) (record { backups = refl; least = refl })
 
-  pub not_wrong : (g : FleetState) (x : TakeFault) → Refuses f o.backup (op_of d.config.master o) x g
-      → x ≡ take_fault.Wrong → ⊥
-  not_wrong g x refused is =
-      never_wrong g (subst (λ (y : TakeFault). Refuses f o.backup (op_of d.config.master o) y g) is refused)
+  pub taken_size : (g : FleetState) → taken f b op ≡ Some g → IsSameSize f g
+  taken_size g is = go (nat_lt b f.backups) refl where
+    go : (t : Bool) → nat_lt b f.backups ≡ t → IsSameSize f g
+    go true within = effect_size g (effect op.act (f.picture b op.master op.segment)) (rw within at is)
+    go false past = (let never : None ≡ Some g = rw past at is in absurd (cc))
 
-  -- the fleet is the one that took the op
-  picture_is : (g : FleetState) → fleet_taken f o.backup (op_of d.config.master o) ≡ Some g → (q ≡ g.picture)
-      × (g.backups ≡ f.backups) × (g.least ≡ f.least)
-  picture_is g is =
-      let same = same_Some (with_taken f q) g (sym fits ∙ is) in (
-        ap (λ (h : FleetState). h.picture) same,
-        sym (ap (λ (h : FleetState). h.backups) same),
-        sym (ap (λ (h : FleetState). h.least) same),
-      )
+  pub fault_size : (g : FleetState) → Refuses f b op take_fault.Fault g → IsSameSize f g
+  fault_size g (inl same) = subst (IsSameSize f) (sym same) (record { backups = refl; least = refl })
+  fault_size g (inr took) =
+      let size = taken_size took.0 took.1.1 in
+      subst (IsSameSize f) (sym took.2) (record { backups = size.backups; least = size.least })
 
-  pub handed_kept : (e : MasterData) (g : FleetState) → IsCore e → e.config ≡ d.config → AreApart e.waiting
-      → Holds (log_of e) (memory_of e) q → fleet_taken f o.backup (op_of d.config.master o) ≡ Some g
-      → IsKeptAs Holds e g
-  handed_kept e g core config apart then_holds is =
-      let same = picture_is g is in
+-- ---- the op was taken
+
+pub handed_kept : {Holds : FailData → FailMemory → FleetState → Type 0} (d e : MasterData) (f g : FleetState)
+    → IsKeptAs Holds d f → IsSameSize f g → IsCore e → IsPlaced e → e.config ≡ d.config → AreApart e.waiting
+    → Holds (log_of e) (memory_of e) g → IsKeptAs Holds e g
+handed_kept d e f g kept size core placed config apart then_holds = record {
+  core = core;
+  placed = placed;
+  holds = then_holds;
+  backups = (let le = kept.backups in let count = size.backups in
+      let own = ap (λ (c : Config). c.backups) config in omega arith);
+  least = unraised_on e.config.master f g size.least
+      (subst (λ (c : Config). IsUnraised c.master f) (sym config) kept.least);
+  apart = apart;
+}
+
+-- ---- the op was refused
+
+-- what a take that failed answers, if it isn't wrong
+pub failed_tells : (d : MasterData) (f : FleetState) (b s : ℕ) (act : Act) (Is : Op → Type 0) → Is (On b s act)
+    → (g : FleetState) (fault : TakeFault) → RefusesOp d.config.master f (On b s act) fault g
+    → (fault ≡ take_fault.Wrong → ⊥)
+    → FailsTake Is (record { knows = d; fleet = f }) (refusal_of fault)
+    (record { knows = failed_data d fault; fleet = g })
+failed_tells d f b s act Is is g take_fault.NoMemory refused right =
+    ap (λ (h : FleetState). record { knows = d; fleet = h }) refused
+failed_tells d f b s act Is is g take_fault.Wrong refused right = absurd (right refl)
+failed_tells d f b s act Is is g take_fault.Fault refused right = (refl, (On b s act, is, refused))
+failed_tells d f b s act Is is g take_fault.Spent refused right = (
+  refused.0,
+  ap (λ (h : FleetState). record { knows = d; fleet = h }) refused.1,
+)
+
+module _ (d : MasterData) (f : FleetState) (kept : IsWellKept d f) (running : d.is_halted ≡ false) (b s : ℕ)
+    (act : Act) (e : FailData) (n : FailMemory) (op : IsOp (log_of d) (memory_of d) (On b s act) e n)
+    (home : b < d.config.backups) where
+  abbrev bytes : OpValue
+  bytes = op_of d.config.master (log_op_for d.config.master b s act)
+
+  holds : HoldsAll (log_of d) (memory_of d) f
+  holds = kept.known running
+
+  -- the fleet never answers Wrong
+  never_wrong : (g : FleetState) → Refuses f b bytes take_fault.Wrong g → ⊥
+  never_wrong g refused =
+      op_is_never_wrong (log_of d) e (memory_of d) n f g (On b s act) holds op
+      (let le = kept.backups in let lt = home in omega arith) refused
+
+  pub not_wrong : (g : FleetState) (y : TakeFault) → Refuses f b bytes y g → y ≡ take_fault.Wrong → ⊥
+  not_wrong g y refused is = never_wrong g (subst (λ (x : TakeFault). Refuses f b bytes x g) is refused)
+
+  -- after a fault the master halts
+  fault_kept : (g : FleetState) → Refuses f b bytes take_fault.Fault g → IsWellKept (halted d) g
+  fault_kept g refused =
+      let size = fault_size f b bytes g refused in
       record {
-        core = core;
-        before = q;
-        holds = then_holds;
-        backups = (let le = kept.backups in let count = same.1 in
-            let own = ap (λ (c : Config). c.backups) config in omega arith);
-        least = unraised_on e.config.master f g same.2
-            (subst (λ (c : Config). IsUnraised c.master f) (sym config) kept.least);
-        now = inl (sym same.0);
-        running = λ going. sym same.0;
-        apart = apart;
+        core = halted_core d kept.core;
+        placed = placed_halted d kept.placed;
+        kept = fault_keeps_all (log_of d) e (memory_of d) n f g (On b s act) holds op home refused;
+        known = λ never. absurd (cc);
+        backups = (let le = kept.backups in let count = size.backups in omega arith);
+        least = unraised_on d.config.master f g size.least kept.least;
+        apart = kept.apart;
       }
 
-  -- after a fault the backups are as before, or have the op
-  module _ (op : IsOp (log_of d) (memory_of d) o) where
-    fault_kept : (g : FleetState) → Refuses f o.backup (op_of d.config.master o) take_fault.Fault g
-        → IsKeptAs Holds (halted d) g
-    fault_kept g refused = record {
-      core = halted_core d kept.core;
-      before = kept.before;
-      holds = kept.holds;
-      backups = count refused;
-      least = unraised refused;
-      now = after refused;
-      running = λ never. absurd (cc);
-      apart = kept.apart;
-    } where
-      count : Refuses f o.backup (op_of d.config.master o) take_fault.Fault g → d.config.backups ≤ g.backups
-      count (inl same) = let le = kept.backups in let is : g.backups ≡ f.backups =
-          ap (λ (h : FleetState). h.backups) same in omega arith
-      count (inr t) =
-          let le = kept.backups in
-          let is : g.backups ≡ t.0.backups = ap (λ (h : FleetState). h.backups) t.2 in
-          let was = (picture_is t.0 t.1.1).1 in omega arith
-
-      unraised : Refuses f o.backup (op_of d.config.master o) take_fault.Fault g → IsUnraised d.config.master g
-      unraised (inl same) =
-          unraised_on d.config.master f g (ap (λ (h : FleetState). h.least) same) kept.least
-      unraised (inr t) =
-          unraised_on d.config.master f g
-          (ap (λ (h : FleetState). h.least) t.2 ∙ (picture_is t.0 t.1.1).2) kept.least
-
-      after : Refuses f o.backup (op_of d.config.master o) take_fault.Fault g
-          → IsFault (log_of d) (memory_of d) kept.before g.picture
-      after (inl same) = inl (ap (λ (h : FleetState). h.picture) same ∙ here)
-      after (inr t) = inr (
-        o,
-        op,
-        took ∙ ap (λ (p : Picture). Some p) ((picture_is t.0 t.1.1).0 ∙ sym (ap (λ (h : FleetState). h.picture) t.2)),
-      )
-
-    pub failed_kept : (g : FleetState) (fault : TakeFault) → Refuses f o.backup (op_of d.config.master o) fault g
-        → IsKeptAs Holds (failed_data d fault) g
-    failed_kept g take_fault.NoMemory refused = subst (IsKeptAs Holds d) (sym refused) kept
-    failed_kept g take_fault.Wrong refused = absurd (never_wrong g refused)
-    failed_kept g take_fault.Fault refused = fault_kept g refused
-    failed_kept g take_fault.Spent refused = subst (IsKeptAs Holds d) (sym refused.1) kept
-
-  -- what a take that failed answers
-  pub failed_tells : (Is : LogOp → Type 0) → Is o → (g : FleetState) (fault : TakeFault)
-      → Refuses f o.backup (op_of d.config.master o) fault g
-      → FailsTake Is (record { knows = d; fleet = f }) (refusal_of fault)
-      (record { knows = failed_data d fault; fleet = g })
-  failed_tells Is is g take_fault.NoMemory refused = ap (λ (h : FleetState). record { knows = d; fleet = h }) refused
-  failed_tells Is is g take_fault.Wrong refused = absurd (never_wrong g refused)
-  failed_tells Is is g take_fault.Fault refused = (refl, (o, is, refused))
-  failed_tells Is is g take_fault.Spent refused = (
-    refused.0,
-    ap (λ (h : FleetState). record { knows = d; fleet = h }) refused.1,
-  )
-
--- ---- no op
-
--- a step that hands no op to a backup
-pub unhanded_kept : {Holds : LogData → Memory → Picture → Type 0} (d e : MasterData) (f : FleetState)
-    (kept : IsKeptAs Holds d f) → d.is_halted ≡ false → IsCore e → e.config ≡ d.config
-    → e.waiting ≡ d.waiting → Holds (log_of e) (memory_of e) kept.before → IsKeptAs Holds e f
-unhanded_kept d e f kept running core config waiting then_holds = record {
-  core = core;
-  before = kept.before;
-  holds = then_holds;
-  backups = subst (λ (c : Config). c.backups ≤ f.backups) (sym config) kept.backups;
-  least = subst (λ (c : Config). IsUnraised c.master f) (sym config) kept.least;
-  now = inl (kept.running running);
-  running = λ going. kept.running running;
-  apart = subst AreApart (sym waiting) kept.apart;
-}
+  pub op_failed : (g : FleetState) (fault : TakeFault) → Refuses f b bytes fault g → IsWellKept (failed_data d fault) g
+  op_failed g take_fault.NoMemory refused = subst (IsWellKept d) (sym refused) kept
+  op_failed g take_fault.Wrong refused = absurd (never_wrong g refused)
+  op_failed g take_fault.Fault refused = fault_kept g refused
+  op_failed g take_fault.Spent refused = subst (IsWellKept d) (sym refused.1) kept

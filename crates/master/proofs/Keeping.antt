@@ -1,20 +1,36 @@
 -- What every step keeps.
-use Rattle.std.proofs.Common.{◌≡◌, ℕ, suc, ◌+◌, ◌≤◌, inl, inr, Bool, true, false, List, [], ◌∷◌, ◌++◌, length, refl}
+use Rattle.std.proofs.Common.{◌≡◌, ◌⊎◌, ℕ, suc, ◌+◌, ◌<◌, ◌≤◌, inl, inr, Bool, true, false, List, [], ◌∷◌, ◌++◌}
+use Rattle.std.proofs.Common.{length, refl}
 use Rattle.std.proofs.Common.{sym, ap, subst, ◌∙◌, append_assoc, arith}
-use Rattle.std.specs.Prelude.{Option, Some, None, Result, Ok, Err, nat_lt, drop, ◌==◌, if◌then◌else◌}
+use Rattle.std.specs.Prelude.{Option, Some, None, IfSome, IsSome, Result, Ok, Err, nat_lt, drop, ◌==◌, if◌then◌else◌}
+use Rattle.std.specs.Option.{option_and_then}
 use Rattle.std.proofs.lemmas.List.{append-nil, length-append}
 use Rattle.std.proofs.lemmas.Option.{same_Some}
+use Rattle.cleaner.specs.declared.pass.Pass.{Pass}
+use Rattle.cleaner.specs.Passes.{survivor_ids, next_seal as next_seal_of}
+use Rattle.entry.specs.declared.entry.Entry.{Entry}
+use Rattle.entry.specs.Bag.{IsAmong}
+use Rattle.entry.proofs.BagLemmas.{among_last}
 use Rattle.replica.specs.Op.{OpValue}
 use Rattle.replica.specs.Picture.{Replica, FleetState, is_same_place}
 use Rattle.replica.specs.Take.{Refuses, taken, with_effect, effect}
 use Rattle.replica.specs.declared.op.TakeFault.TheVariants as take_fault
 use Rattle.versioned_map.specs.declared.command.Command.{Command}
-use Rattle.log_model.specs.Data.{LogData, durable_of}
-use Rattle.log_model.specs.Kept.{IsKept as IsLogKept}
-use Rattle.log_model.specs.Ops.{LogOp, op_of}
-use Rattle.log_model.specs.Steps.{IsNext}
-use Rattle.log_model.proofs.DurableSteps.{durable_stays_applied, durable_stays_rolling, durable_stays_next}
+use Rattle.log_model.specs.Data.{Start, ids_of}
+use Rattle.log_model.specs.Ops.{op_of}
 use Rattle.log_model.proofs.Pictures.{place_tells}
+use Rattle.failover_model.specs.Data.{Calm, Mode, FailData, new_of, is_failing, taken_records, durable_of}
+use Rattle.failover_model.specs.Runs.{IsThere, World as ModelWorld, Applies as AppliesThere, Takes as TakesThere}
+use Rattle.failover_model.specs.Shown.{Act, Op, On, Shown as ModelShown}
+use Rattle.failover_model.specs.Steps.{with_taken, applied as log_applied, ended, MayApply, Extends, OpensNew}
+use Rattle.failover_model.specs.Steps.{ClosesOld}
+use Rattle.failover_model.specs.Text.{Replica as ModelReplica}
+use Rattle.failover_model.proofs.DurableSteps.{durable_stays, durable_is_within}
+use Rattle.failover_bytes.specs.Ops.{log_op_for, TakesOp, RefusesOp}
+use Rattle.failover_clean.specs.Fleet.{read_of}
+use Rattle.failover_clean.specs.Intact.{IsIntact, Knows}
+use Rattle.failover_clean.specs.Memory.{FailMemory}
+use Rattle.failover_clean.proofs.OpsKeep.{op_fits}
 use Rattle.master_state.specs.declared.step.Refusal.{Refusal}
 use Rattle.master_state.specs.declared.step.Refusal.TheVariants as refusal
 use Rattle.master_state.specs.declared.step.Step.{Step}
@@ -24,19 +40,27 @@ use Rattle.master_state.specs.declared.step.StepAnswer.{StepAnswer}
 use Rattle.master_state.specs.declared.step.StepAnswer.TheVariants.{Applied, Opened, Extended, Closed, Rolling}
 use Rattle.master_state.specs.declared.step.StepAnswer.TheVariants.{Compacted}
 use Rattle.master_state.specs.declared.step.StepAnswer.TheVariants.{Begun, Moved, Carried, Dropped, Sealed, Freed}
-use Rattle.clean_model.specs.Steps.{ids_taken}
-use Rattle.master_state.specs.Causes.{dead_segment, survivors_for}
+use Rattle.master_state.specs.Budget.{survivors_of}
+use Rattle.master_state.specs.Causes.{dead_segment, survivors_for, command_refusal, unit_now, is_empty}
 use Rattle.master_state.specs.Data.{MasterData}
-use Rattle.master_state.specs.Log.{log_of}
-use Rattle.master_state.specs.Steps.{Applies, BeginsRoll, Compacts, BeginsPass, Copies, next_now, record_now}
+use Rattle.master_state.specs.Ledger.{forgotten, took_in, shut_in}
+use Rattle.master_state.specs.Log.{home, mode_of, log_of, memory_of}
+use Rattle.master_state.specs.Steps.{Applies, BeginsRoll, Compacts, BeginsPass, Copies, record_now, rolling_data}
 use Rattle.master_state.specs.Steps.{freed_data}
+use Rattle.master_state.proofs.Imaging.{other_id}
+use Rattle.master_state.proofs.Refusals.{is_admitted, passed_early, unit_open}
+use Rattle.master_commands.proofs.HeadsInForce.{open_calm}
+use Rattle.master_space.proofs.SealedCore.{next_among}
 use Rattle.master.specs.Invariant.{IsWellKept}
 use Rattle.master.specs.Keeps.{Keeps}
 use Rattle.master.specs.Passes.{IsSealOp, Seals, IsFreeOp, Frees}
-use Rattle.master.specs.Pushes.{IsNextOp, Pushes}
+use Rattle.master.specs.Pushes.{IsAfter, IsNextOp, Pushes}
 use Rattle.master.specs.Steps.{FailsTake, IsPushOp, Steps}
 use Rattle.master.specs.World.{World}
-use Rattle.master.proofs.Pushed.{same_rest}
+use Rattle.master.proofs.Counting.{counted_of}
+use Rattle.master.proofs.InForce.{never_fails}
+use Rattle.master.proofs.Placements.{not_begun, forgotten_below}
+use Rattle.master.proofs.PushedRest.{same_rest}
 
 -- ---- many steps
 
@@ -119,8 +143,26 @@ module _ (f : FleetState) (b : ℕ) (op : OpValue) where
       subst (IsBeside op.master f) (sym took.2)
       (record { takes = taken.takes; others = taken.others; least = taken.least })
 
+-- The op is on a backup.
+pub record IsOnBackup (o : Op) : Type 0 where
+  pub backup : ℕ
+  pub segment : ℕ
+  pub act : Act
+  pub is : o ≡ On backup segment act
+
+pub op_beside : (master : ℕ) (f g : FleetState) (o : Op) → IsOnBackup o → TakesOp master f o g → IsBeside master f g
+op_beside master f g o at took =
+    let there = subst (λ (x : Op). TakesOp master f x g) at.is took in
+    taken_beside f at.backup (op_of master (log_op_for master at.backup at.segment at.act)) g there.1
+
+pub op_faulted : (master : ℕ) (f g : FleetState) (o : Op) → IsOnBackup o → RefusesOp master f o take_fault.Fault g
+    → IsBeside master f g
+op_faulted master f g o at refused =
+    fault_beside f at.backup (op_of master (log_op_for master at.backup at.segment at.act)) g
+    (subst (λ (x : Op). RefusesOp master f x take_fault.Fault g) at.is refused)
+
 -- a take that failed changed nothing, or halted the master
-pub take_failed : {P : Type 0} (IsOp : LogOp → Type 0) (old new : World) (r : Refusal)
+pub take_failed : {P : Type 0} (IsOp : Op → Type 0) (old new : World) (r : Refusal)
     → FailsTake IsOp old r new → (new ≡ old → P)
     → (FailsTake IsOp old refusal.Halted new → P) → P
 take_failed IsOp old new refusal.NoMemory t same halts = same t
@@ -136,22 +178,121 @@ take_failed IsOp old new (refusal.Pass fault) t same halts = absurd t
 take_failed IsOp old new refusal.NoTablet t same halts = absurd t
 take_failed IsOp old new refusal.SegmentsSpent t same halts = absurd t
 
--- ---- a step
+-- ---- the ops of steps
 
-is_next : (d e : LogData) (o : LogOp) (answer : StepAnswer) → IsNextOp d o answer e → IsNext d o e
-is_next d e o (Opened backup segment) is = elim is.0 as (λ _. IsNext d o e)
-    [ inl first ↦ inl first | inr new ↦ inr (inr (inl new)) ]
-is_next d e o (Extended backup segment) is = inr (inl is.0.extends)
-is_next d e o (Closed backup segment) is = inr (inr (inr is.0))
-is_next d e o (Applied place reply) is = absurd is
-is_next d e o (Rolling segment) is = absurd is
-is_next d e o (Compacted segment len) is = absurd is
-is_next d e o (Begun segment) is = absurd is
-is_next d e o Moved is = absurd is
-is_next d e o Carried is = absurd is
-is_next d e o Dropped is = absurd is
-is_next d e o (Sealed backup) is = absurd is
-is_next d e o (Freed segment backup) is = absurd is
+-- a push's op is on a backup
+pub next_on : (d : MasterData) (e : FailData) (o : Op) (answer : StepAnswer) → IsNextOp d o answer e → IsOnBackup o
+next_on d e o (Opened backup segment) is =
+    record { backup = is.0.1.b; segment = is.0.1.n.id; act = _; is = is.0.1.op }
+next_on d e o (Extended backup segment) is =
+    record { backup = is.0.extends.b; segment = (log_of d).head.start.id; act = _; is = is.0.extends.op }
+next_on d e o (Closed backup segment) is =
+    record { backup = is.0.1.b; segment = (log_of d).head.start.id; act = _; is = is.0.1.op }
+next_on d e o (Applied place reply) is = absurd is
+next_on d e o (Rolling segment) is = absurd is
+next_on d e o (Compacted segment len) is = absurd is
+next_on d e o (Begun segment) is = absurd is
+next_on d e o Moved is = absurd is
+next_on d e o Carried is = absurd is
+next_on d e o Dropped is = absurd is
+next_on d e o (Sealed backup) is = absurd is
+next_on d e o (Freed segment backup) is = absurd is
+
+pub push_on : (old : World) (o : Op) → IsPushOp old o → IsOnBackup o
+push_on old o (answer, e, is) = next_on old.knows e o answer is
+
+seal_on : (d : MasterData) (o : Op) → IsSealOp d o → IsOnBackup o
+seal_on d o is = record { backup = home d.config is.segment is.replica; segment = is.segment; act = _; is = is.is }
+
+free_on : (d : MasterData) (o : Op) → IsFreeOp d o → IsOnBackup o
+free_on d o is = record { backup = home d.config is.segment d.freed; segment = is.segment; act = _; is = is.is }
+
+-- ---- the durable count
+
+-- while no failover is open it goes by what the head's backups took
+durable_is : (d : FailData) → is_failing d.mode ≡ false → durable_of d ≡ taken_records d
+durable_is d works = ap (λ (b : Bool). if b then d.frozen else taken_records d) works
+
+-- it stays if they took as much
+module _ (d : FailData) (works : is_failing d.mode ≡ false) where
+  same_count : (took : ℕ → List ℕ) (mode : Mode) (shut : List ℕ) (unused : ℕ) → is_failing mode ≡ false
+      → took d.head.start.id ≡ d.took d.head.start.id
+      → durable_of d ≡ durable_of (record d { took = took; mode = mode; shut = shut; next = unused })
+  same_count took mode shut unused also same =
+      durable_is d works
+      ∙ sym (ap (λ (bs : List ℕ). counted_of d.head (length d.history) d.counts (λ s. bs)) same)
+      ∙ sym (durable_is (record d { took = took; mode = mode; shut = shut; next = unused }) also)
+
+-- once a roll has ended all records are durable
+ended_all : (d : FailData) (n : Start) → durable_of (ended d n Calm) ≡ length d.history
+ended_all d n = refl
+
+module _ (d : FailData) (m : FailMemory) (p : ModelShown) (i : IsIntact d m p) (works : is_failing d.mode ≡ false) where
+  within : durable_of d ≤ length d.history
+  within = durable_is_within d p i.log
+
+  -- an op that leaves the count, and perhaps the end of a roll with it
+  module _ (mid : FailData) (same : durable_of d ≡ durable_of mid) (history : mid.history ≡ d.history) where
+    after_op : (e : FailData) → IsAfter mid e → durable_of d ≤ durable_of e
+    after_op e (inl is) =
+        subst (λ (x : FailData). durable_of d ≤ durable_of x) (sym is) (omega (arith, same))
+    after_op e (inr (n, ends, is)) =
+        let le = within in
+        let all = ap length history in
+        subst (λ (x : FailData). durable_of d ≤ durable_of x) (sym is)
+        (subst (λ (k : ℕ). durable_of d ≤ k) (sym (ended_all mid n)) (omega (arith, le, all)))
+
+  opened : (o : Op) (mid e : FailData) → OpensNew d o mid → IsAfter mid e → durable_of d ≤ durable_of e
+  opened o mid e is after =
+      let new : new_of d.mode ≡ Some is.n = elim is.mode as (λ _. new_of d.mode ≡ Some is.n) [
+        | inl one ↦ ap new_of one
+        | inr two ↦ ap new_of two
+      ] in
+      let lt = i.log.held.logged.newer is.n (inl new) in
+      let away = other_id d.head.start.id is.n.id (λ same. omega (arith, lt, same)) in
+      let took : with_taken d.took is.n.id is.b d.head.start.id ≡ d.took d.head.start.id = rw away refl in
+      after_op mid (same_count d works (with_taken d.took is.n.id is.b) d.mode d.shut d.next works took
+      ∙ ap durable_of (sym is.gives)) (ap (λ (x : FailData). x.history) is.gives) e after
+
+  closed : (o : Op) (mid e : FailData) → ClosesOld d o mid → IsAfter mid e → durable_of d ≤ durable_of e
+  closed o mid e is after =
+      after_op mid (ap durable_of (sym is.gives)) (ap (λ (x : FailData). x.history) is.gives) e after
+
+  -- a home of the head is a backup that there is
+  home_there : (b : ℕ) (o : Option ModelReplica) → p.holds b d.head.start.id ≡ o → IsSome o → b < d.config.backups
+  home_there b None none some = absurd (cc)
+  home_there b (Some r) is some = i.log.held.mirrored.bounded b d.head.start.id r is
+
+  extended : Knows d m p → (o : Op) (e : FailData) → Extends d o e → durable_of d ≤ durable_of e
+  extended knows o e is =
+      let fits = op_fits d e m m p o i knows (inl (inl is, refl)) in
+      let there : IsThere d.config o = subst (IsThere d.config) (sym is.op)
+      (home_there is.b (p.holds is.b d.head.start.id) refl (i.log.held.mirrored.head is.b is.home.0)) in
+      let was : ModelWorld = record { knows = d; shown = p; halted = false } in
+      let now : ModelWorld = record { knows = e; shown = fits.0; halted = false } in
+      durable_stays (TakesThere o) was now i.log ((there, i.log, inl is), fits.1, refl)
+
+  -- ---- a push
+
+  next_stays : Knows d m p → (c : MasterData) → log_of c ≡ d → (o : Op) (e : FailData) (answer : StepAnswer)
+      → IsNextOp c o answer e → durable_of d ≤ durable_of e
+  next_stays knows c same o e (Opened backup segment) is =
+      opened o is.0.0 e (subst (λ (x : FailData). OpensNew x o is.0.0) same is.0.1) is.0.2
+  next_stays knows c same o e (Extended backup segment) is =
+      extended knows o e (subst (λ (x : FailData). Extends x o e) same is.0.extends)
+  next_stays knows c same o e (Closed backup segment) is =
+      closed o is.0.0 e (subst (λ (x : FailData). ClosesOld x o is.0.0) same is.0.1) is.0.2
+  next_stays knows c same o e (Applied place reply) is = absurd is
+  next_stays knows c same o e (Rolling segment) is = absurd is
+  next_stays knows c same o e (Compacted segment len) is = absurd is
+  next_stays knows c same o e (Begun segment) is = absurd is
+  next_stays knows c same o e Moved is = absurd is
+  next_stays knows c same o e Carried is = absurd is
+  next_stays knows c same o e Dropped is = absurd is
+  next_stays knows c same o e (Sealed backup) is = absurd is
+  next_stays knows c same o e (Freed segment backup) is = absurd is
+
+-- ---- a step
 
 -- a replica that was freed leaves the log as it is
 log_freed : (d : MasterData)
@@ -165,8 +306,15 @@ log_freed d = go (suc d.freed == d.config.replicas) where
   go false = (refl, refl, refl)
 
 module _ (old new : World) (kept : IsWellKept old.knows old.fleet) where
-  log_kept : IsLogKept (log_of old.knows) kept.before
-  log_kept = kept.holds.log
+  abbrev d : MasterData
+  d = old.knows
+
+  intact : IsIntact (log_of d) (memory_of d) (read_of (log_of d) old.fleet)
+  intact = kept.kept.intact
+
+  -- the head's number was used
+  used : (log_of d).head.start.id < d.next
+  used = intact.log.held.logged.head.next
 
   -- a step that adds no record
   silent : new.knows.config ≡ old.knows.config → new.knows.origin ≡ old.knows.origin
@@ -185,6 +333,17 @@ module _ (old new : World) (kept : IsWellKept old.knows old.fleet) where
   unchanged : new ≡ old → Keeps 1 old new
   unchanged same = subst (Keeps 1 old) (sym same) (keeps_same 1 old)
 
+  -- what no test refused the log may apply
+  may_apply : (command : Command) → command_refusal d command ≡ None → (seat : ℕ)
+      → MayApply (log_of d) (dead_segment d command) (record_now d seat command)
+  may_apply command passed seat = record {
+    key = (is_admitted d command (passed_early d command passed)).key;
+    calm = calm (unit_now d command) refl;
+  } where
+    calm : (u : List Entry) → unit_now d command ≡ u → (unit_now d command ≡ []) ⊎ ((log_of d).mode ≡ Calm)
+    calm [] none = inl none
+    calm (e ∷ es) some = inr (open_calm d.head (unit_open d command passed (ap is_empty some)))
+
   applied : (seat : ℕ) (command : Command) (answer : StepAnswer) → Applies old.knows seat command answer new.knows
       → new.fleet ≡ old.fleet → Keeps 1 old new
   applied seat command answer a fleet =
@@ -196,10 +355,15 @@ module _ (old new : World) (kept : IsWellKept old.knows old.fleet) where
         takes = beside.takes;
         others = beside.others;
         least = beside.least;
-        durable = subst (λ (l : LogData). durable_of (log_of old.knows) ≤ durable_of l) (sym a.log)
-            (durable_stays_applied (log_of d) kept.before (dead_segment d command)
-            (record_now d seat command) log_kept);
-        history = (record_now d seat command ∷ [], ap (λ (l : LogData). l.history) a.log);
+        durable = subst (λ (l : FailData). durable_of (log_of old.knows) ≤ durable_of l) (sym a.log)
+            (durable_stays (AppliesThere (dead_segment d command) (record_now d seat command))
+            (record { knows = log_of d; shown = read_of (log_of d) old.fleet; halted = false })
+            (record {
+              knows = log_applied (log_of d) (dead_segment d command) (record_now d seat command);
+              shown = read_of (log_of d) old.fleet;
+              halted = false;
+            }) intact.log (may_apply command a.passed seat, refl));
+        history = (record_now d seat command ∷ [], ap (λ (l : FailData). l.history) a.log);
       }
 
   -- the fleet is as it was
@@ -209,15 +373,18 @@ module _ (old new : World) (kept : IsWellKept old.knows old.fleet) where
 
   -- the log is as it was
   same_log : log_of new.knows ≡ log_of old.knows → durable_of (log_of old.knows) ≤ durable_of (log_of new.knows)
-  same_log is = subst (λ (l : LogData). durable_of (log_of old.knows) ≤ durable_of l) (sym is) (omega arith)
+  same_log is = subst (λ (l : FailData). durable_of (log_of old.knows) ≤ durable_of l) (sym is) (omega arith)
 
   rolled : (answer : StepAnswer) → BeginsRoll old.knows answer new.knows → new.fleet ≡ old.fleet → Keeps 1 old new
   rolled answer b fleet =
-      let d = old.knows in
+      let same = same_count (log_of d) (never_fails d.head) (took_in (rolling_data d).ledger)
+      (mode_of (rolling_data d).head)
+      (shut_in d.ledger) (d.next + 1) (never_fails (rolling_data d).head)
+      (not_begun d kept.core (log_of d).head.start.id used) in
       silent (ap (λ (x : MasterData). x.config) b.rest) (ap (λ (x : MasterData). x.origin) b.rest)
       (ap (λ (x : MasterData). x.history) b.rest) (quiet fleet)
-      (subst (λ (l : LogData). durable_of (log_of old.knows) ≤ durable_of l) (sym b.log)
-      (durable_stays_rolling (log_of d) (next_now d)))
+      (subst (λ (x : MasterData). durable_of (log_of old.knows) ≤ durable_of (log_of x)) (sym b.rest)
+      (omega (arith, same)))
 
   compacted : (id : ℕ) (answer : StepAnswer) → Compacts old.knows id answer new.knows
       → new.fleet ≡ old.fleet → Keeps 1 old new
@@ -228,11 +395,14 @@ module _ (old new : World) (kept : IsWellKept old.knows old.fleet) where
   begun : (ids : List ℕ) (answer : StepAnswer) → BeginsPass old.knows ids answer new.knows
       → new.fleet ≡ old.fleet → Keeps 1 old new
   begun ids answer b fleet =
-      let later = ids_taken (survivors_for old.knows ids) (log_of old.knows) in
-      let same : durable_of later ≡ durable_of (log_of old.knows) = refl in
+      let count = survivors_for d ids in
+      let same = same_count (log_of d) (never_fails d.head) (forgotten d.next count (took_in d.ledger)) (mode_of d.head)
+      (shut_in d.ledger) (d.next + count) (never_fails d.head)
+      (forgotten_below d kept.core d.next count (took_in d.ledger) (log_of d).head.start.id used) in
       silent (ap (λ (x : MasterData). x.config) b.rest) (ap (λ (x : MasterData). x.origin) b.rest)
       (ap (λ (x : MasterData). x.history) b.rest) (quiet fleet)
-      (subst (λ (l : LogData). durable_of (log_of old.knows) ≤ durable_of l) (sym b.log) (omega arith))
+      (subst (λ (x : MasterData). durable_of (log_of old.knows) ≤ durable_of (log_of x)) (sym b.rest)
+      (omega (arith, same)))
 
   copied : (answer : StepAnswer) → Copies old.knows answer new.knows → new.fleet ≡ old.fleet → Keeps 1 old new
   copied answer c fleet =
@@ -244,31 +414,50 @@ module _ (old new : World) (kept : IsWellKept old.knows old.fleet) where
       let same = same_rest old.knows p.push in
       silent (ap (λ (d : MasterData). d.config) p.rest ∙ same.0) (ap (λ (d : MasterData). d.origin) p.rest ∙ same.3)
       (ap (λ (d : MasterData). d.history) p.rest ∙ same.1)
-      (taken_beside old.fleet p.op.backup (op_of old.knows.config.master p.op) new.fleet p.takes.1)
-      (durable_stays_next (log_of old.knows) (log_of new.knows) kept.before p.op log_kept
-      (is_next (log_of old.knows) (log_of new.knows) p.op answer p.next))
+      (op_beside d.config.master old.fleet new.fleet p.op (next_on d (log_of new.knows) p.op answer p.next) p.takes)
+      (next_stays (log_of d) (memory_of d) (read_of (log_of d) old.fleet) intact (never_fails d.head)
+      (kept.known p.running).knows d refl p.op (log_of new.knows) answer p.next)
+
+  -- a survivor is no head
+  sealed_away : (o : Option Pass) → d.pass ≡ o → (s j : ℕ) → option_and_then next_seal_of o ≡ Some (s, j)
+      → (log_of d).head.start.id ≡ s → ⊥
+  sealed_away None none s j is own = absurd (cc)
+  sealed_away (Some q) opened s j is own =
+      let among = subst (λ (x : Option (ℕ × ℕ)). IfSome x (λ (n : ℕ × ℕ). IsAmong n.0 (survivor_ids q.survivors))) is
+      (next_among q) in
+      let start = (log_of d).head.start in
+      intact.chosen.outside s (subst (λ (x : Option Pass). IsAmong s (survivors_of x)) (sym opened) among)
+      (subst (λ (z : ℕ). IsAmong z (ids_of start)) own (among_last start.others start.id))
 
   sealed : (answer : StepAnswer) → Seals old answer new → Keeps 1 old new
   sealed answer s =
+      let b = home d.config s.next.segment s.next.replica in
+      let away = other_id (log_of d).head.start.id s.next.segment
+      (sealed_away d.pass refl s.next.segment s.next.replica s.next.next) in
+      let took : with_taken (took_in d.ledger) s.next.segment b (log_of d).head.start.id
+      ≡ took_in d.ledger (log_of d).head.start.id = rw away refl in
+      let same = same_count (log_of d) (never_fails d.head) (with_taken (took_in d.ledger) s.next.segment b)
+      (mode_of d.head) (shut_in d.ledger) d.next (never_fails d.head) took in
       silent (ap (λ (d : MasterData). d.config) s.rest) (ap (λ (d : MasterData). d.origin) s.rest)
       (ap (λ (d : MasterData). d.history) s.rest)
-      (taken_beside old.fleet s.op.backup (op_of old.knows.config.master s.op) new.fleet s.takes.1)
-      (same_log (ap log_of s.rest))
+      (op_beside d.config.master old.fleet new.fleet s.op (seal_on d s.op s.next) s.takes)
+      (subst (λ (x : MasterData). durable_of (log_of old.knows) ≤ durable_of (log_of x)) (sym s.rest)
+      (omega (arith, same)))
 
   freed : (answer : StepAnswer) → Frees old answer new → Keeps 1 old new
   freed answer s =
       let same = log_freed old.knows in
       silent (ap (λ (d : MasterData). d.config) s.rest ∙ same.1) (ap (λ (d : MasterData). d.origin) s.rest ∙ same.2)
-      (ap (λ (d : MasterData). d.history) s.rest ∙ ap (λ (l : LogData). l.history) same.0)
-      (taken_beside old.fleet s.op.backup (op_of old.knows.config.master s.op) new.fleet s.takes.1)
+      (ap (λ (d : MasterData). d.history) s.rest ∙ ap (λ (l : FailData). l.history) same.0)
+      (op_beside d.config.master old.fleet new.fleet s.op (free_on d s.op s.next) s.takes)
       (same_log (ap log_of s.rest ∙ same.0))
 
-  module _ (IsOp : LogOp → Type 0) where
+  module _ (IsOp : Op → Type 0) (on : (o : Op) → IsOp o → IsOnBackup o) where
     halts : FailsTake IsOp old refusal.Halted new → Keeps 1 old new
     halts t =
         silent (ap (λ (d : MasterData). d.config) t.0) (ap (λ (d : MasterData). d.origin) t.0)
         (ap (λ (d : MasterData). d.history) t.0)
-        (fault_beside old.fleet t.1.0.backup (op_of old.knows.config.master t.1.0) new.fleet t.1.2)
+        (op_faulted old.knows.config.master old.fleet new.fleet t.1.0 (on t.1.0 t.1.1) t.1.2)
         (same_log (ap log_of t.0))
 
     failed : (r : Refusal) → FailsTake IsOp old r new → Keeps 1 old new
@@ -287,13 +476,13 @@ module _ (old new : World) (kept : IsWellKept old.knows old.fleet) where
   step_keeps Copy (Err r) t = unchanged t.0
   step_keeps Push (Ok answer) t = pushed answer t
   step_keeps Push (Err r) (inl t) = unchanged t.1
-  step_keeps Push (Err r) (inr t) = failed (IsPushOp old) r t.1
+  step_keeps Push (Err r) (inr t) = failed (IsPushOp old) (push_on old) r t.1
   step_keeps Seal (Ok answer) t = sealed answer t
   step_keeps Seal (Err r) (inl t) = unchanged t.1
-  step_keeps Seal (Err r) (inr t) = failed (IsSealOp old.knows) r t.1
+  step_keeps Seal (Err r) (inr t) = failed (IsSealOp old.knows) (seal_on old.knows) r t.1
   step_keeps Free (Ok answer) t = freed answer t
   step_keeps Free (Err r) (inl t) = unchanged t.1
-  step_keeps Free (Err r) (inr t) = failed (IsFreeOp old.knows) r t.1
+  step_keeps Free (Err r) (inr t) = failed (IsFreeOp old.knows) (free_on old.knows) r t.1
 
 pub steps_keep : (old new : World) (step : Step) (result : Result StepAnswer Refusal) → IsWellKept old.knows old.fleet
     → Steps old step result new

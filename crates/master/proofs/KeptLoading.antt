@@ -2,19 +2,19 @@
 use Rattle.std.proofs.Common.{◌≡◌, inl, inr, refl, sym, ap, subst, ◌∙◌}
 use Rattle.std.specs.Prelude.{Result, Ok, Err, IfOk, IfErr, OnErr}
 use Rattle.replica.specs.Picture.{FleetState}
-use Rattle.log_model.specs.Ops.{LogOp, op_of}
 use Rattle.master_state.specs.declared.step.Refusal.{Refusal}
 use Rattle.master_state.specs.declared.step.Refusal.TheVariants as refusal
 use Rattle.master_state.specs.declared.step.Step.TheVariants.{Push}
 use Rattle.master_state.specs.declared.step.StepAnswer.{StepAnswer}
 use Rattle.master_state.specs.Data.{MasterData}
+use Rattle.master_state.specs.Log.{log_of}
 use Rattle.master_state.specs.Steps.{BeginsRoll}
 use Rattle.master.specs.Loading.{KeepsLoading}
 use Rattle.master.specs.Pushes.{Pushes}
 use Rattle.master.specs.Steps.{FailsTake, IsPushOp, Accepts, Declines}
 use Rattle.master.specs.World.{World, world_of}
-use Rattle.master.proofs.Keeping.{IsBeside, beside_same, taken_beside, fault_beside, take_failed}
-use Rattle.master.proofs.Pushed.{same_rest}
+use Rattle.master.proofs.Keeping.{IsBeside, beside_same, op_beside, op_faulted, next_on, push_on, take_failed}
+use Rattle.master.proofs.PushedRest.{same_rest}
 
 module _ (old new : World) where
   beside : new.knows.config ≡ old.knows.config → new.knows.origin ≡ old.knows.origin
@@ -42,19 +42,20 @@ module _ (old new : World) where
   pushed answer p =
       let same = same_rest old.knows p.push in
       beside (ap (λ (d : MasterData). d.config) p.rest ∙ same.0) (ap (λ (d : MasterData). d.origin) p.rest ∙ same.3)
-      (taken_beside old.fleet p.op.backup (op_of old.knows.config.master p.op) new.fleet p.takes.1)
+      (op_beside old.knows.config.master old.fleet new.fleet p.op
+      (next_on old.knows (log_of new.knows) p.op answer p.next) p.takes)
 
-  halts : (IsOp : LogOp → Type 0) → FailsTake IsOp old refusal.Halted new → KeepsLoading old new
-  halts IsOp t =
+  halts : FailsTake (IsPushOp old) old refusal.Halted new → KeepsLoading old new
+  halts t =
       beside (ap (λ (d : MasterData). d.config) t.0) (ap (λ (d : MasterData). d.origin) t.0)
-      (fault_beside old.fleet t.1.0.backup (op_of old.knows.config.master t.1.0) new.fleet t.1.2)
+      (op_faulted old.knows.config.master old.fleet new.fleet t.1.0 (push_on old t.1.0 t.1.1) t.1.2)
 
   pub push_keeps : (result : Result StepAnswer Refusal) → IfOk result (λ a. Accepts old Push a new)
       → IfErr result (λ r. Declines old Push r new)
       → KeepsLoading old new
   push_keeps (Ok answer) accepted refused = pushed answer accepted
   push_keeps (Err r) accepted (inl t) = unchanged t.1
-  push_keeps (Err r) accepted (inr t) = take_failed (IsPushOp old) old new r t.1 unchanged (halts (IsPushOp old))
+  push_keeps (Err r) accepted (inr t) = take_failed (IsPushOp old) old new r t.1 unchanged halts
 
 pub roll_keeps : (d e : MasterData) (f : FleetState) (result : Result StepAnswer Refusal)
     → IfOk result (λ a. BeginsRoll d a e)

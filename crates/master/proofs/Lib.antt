@@ -1,5 +1,8 @@
 pub mod Placing
+pub mod InForce
 pub mod LogSets
+pub mod Counting
+pub mod HeadTexts
 pub mod KeptByEntries
 pub mod Victims
 pub mod Unraised
@@ -8,11 +11,13 @@ pub mod Agreeing
 pub mod OpenPasses
 pub mod Lasting
 pub mod Models
+pub mod Placements
 pub mod Starting
 pub mod Applied
 pub mod Compacted
 pub mod Rolled
 pub mod NextOps
+pub mod PushedPlaces
 pub mod Ended
 pub mod Pushed
 pub mod Served
@@ -23,6 +28,7 @@ pub mod Begun
 pub mod Copied
 pub mod Sealed
 pub mod Freed
+pub mod PushedRest
 pub mod Keeping
 pub mod KeptLoading
 pub mod Accepted

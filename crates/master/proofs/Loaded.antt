@@ -1,25 +1,28 @@
 -- One that is loading begins, loads an object, and becomes a master.
-use Rattle.std.proofs.Common.{◌≡◌, ℕ, ◌+◌, ◌<◌, ◌≤◌, inl, inr, Bool, true, false, List, [], ◌∷◌, ◌++◌, length, refl}
-use Rattle.std.proofs.Common.{sym, ap, subst, ◌∙◌, arith}
+use Rattle.std.proofs.Common.{◌≡◌, ℕ, ◌+◌, ◌<◌, ◌≤◌, Bool, true, false, List, [], ◌∷◌, ◌++◌, length, refl}
+use Rattle.std.proofs.Common.{sym, ap, subst, ◌∙◌, get_or, arith}
 use Rattle.std.specs.Prelude.{Option, None, ◌==◌}
 use Rattle.std.specs.List.{AllByRecursion}
 use Rattle.std.proofs.lemmas.Bool.{eqb-true}
 use Rattle.std.proofs.lemmas.List.{length-append}
+use Rattle.std.proofs.lemmas.Option.{slice_get-get_or}
 use Rattle.cleaner.specs.declared.pass.Pass.{Pass as OpenPass}
 use Rattle.entry.specs.declared.entry.Object.{Object}
 use Rattle.entry.specs.declared.entry.Entry.{Entry}
 use Rattle.entry.specs.Bag.{IsAmong}
 use Rattle.replica.specs.Picture.{FleetState}
 use Rattle.log_head.specs.Head.{HeadValue}
-use Rattle.log_head.specs.Log.{head_of}
 use Rattle.log_head.specs.Steps.{with_unit_end}
-use Rattle.log_model.specs.Adopt.{adopted}
-use Rattle.log_model.specs.Data.{LogData, start_entries, fewest}
-use Rattle.clean_model.specs.Intact.{IsIntact}
-use Rattle.clean_model.specs.Loading.{restored_start, restored, restored_memory, object_loaded, IsLoading}
-use Rattle.clean_model.specs.Memory.{Memory, log_ids}
-use Rattle.clean_model.proofs.LoadedObjects.{load_keeps}
-use Rattle.clean_model.proofs.Loading.{restored_is_loading, finish_is_intact}
+use Rattle.log_model.specs.Data.{fewest}
+use Rattle.log_model.specs.Ids.{has}
+use Rattle.failover_model.specs.Data.{Head as FailHead, front, FailData, HasTaken}
+use Rattle.failover_model.specs.Steps.{restored, adopted}
+use Rattle.failover_bytes.specs.Text.{IsWholeText}
+use Rattle.failover_clean.specs.Fleet.{HoldsAll, HoldsLoading}
+use Rattle.failover_clean.specs.Loading.{with_object, object_loaded}
+use Rattle.failover_clean.specs.Memory.{FailMemory}
+use Rattle.failover_clean.specs.Steps.{first_memory}
+use Rattle.failover_clean.proofs.LoadingFleets.{restored_holds_loading, load_holds_loading, finished_holds_all}
 use Rattle.master_state.specs.declared.config.Config.{Config}
 use Rattle.master_state.specs.Budget.{victims_of, is_committing}
 use Rattle.master_state.specs.Causes.{is_pushed}
@@ -28,66 +31,42 @@ use Rattle.master_state.specs.Data.{MasterData}
 use Rattle.master_state.specs.Images.{images_among}
 use Rattle.master_state.specs.Invariant.{AreApart, IsCore}
 use Rattle.master_state.specs.Loading.{restored_data, IsBare, loaded_unit, MayLoadNow, Loads, Settles}
-use Rattle.master_state.specs.Log.{log_config, opening_of, log_of, images_of, rest_now, memory_of}
+use Rattle.master_state.specs.Ledger.{took_in}
+use Rattle.master_state.specs.Log.{fail_config, opening_of, log_of, images_of, rest_now, memory_of}
 use Rattle.master_state.proofs.Imaging.{same_id, other_id, appended_own, appended_other}
-use Rattle.master_commands.proofs.LoadedCore.{pushed_open, pushed_ready, pushed_whole}
+use Rattle.master_commands.proofs.HeadsInForce.{open_opened}
+use Rattle.master_commands.proofs.LoadedCore.{pushed_open, pushed_calm, pushed_whole}
 use Rattle.master_state.proofs.Refusals.{has_homes, open_parts}
 use Rattle.master.specs.Invariant.{IsWellKept, IsWellLoaded}
+use Rattle.master.specs.Placed.{placed, IsPlaced}
 use Rattle.master.specs.Registry.{IsUnraised}
 use Rattle.master.proofs.Applied.{images_beside, images_at}
-use Rattle.master.proofs.Lasting.{loading_lasts}
+use Rattle.master.proofs.HeadTexts.{head_whole}
+use Rattle.master.proofs.InForce.{real_head, force_opened}
+use Rattle.master.proofs.Lasting.{loading_lasts, well_kept, well_loaded}
 use Rattle.master.proofs.Models.{IsModel, LeavesPass, is_model, own_holds}
-use Rattle.master.proofs.Placing.{placed}
+use Rattle.master.proofs.Placements.{placed_more, placed_restored, placed_settled}
+use Rattle.master.proofs.Placing.{placed_home}
+use Rattle.master.proofs.Starting.{first_heads, may_begin, first_model}
 
 -- ---- it begins
 
-module _ (c : Config) (safe : ℕ) (f : FleetState) (ok : config_fault c ≡ None) (core : IsCore (restored_data c safe))
-    (log : log_of (restored_data c safe) ≡ restored (log_config c) safe) (bare : IsBare (restored_data c safe)) where
-  abbrev first : Memory
-  first = restored_memory (log_config c) safe
-
-  image_at : (s : ℕ) → IsAmong s (log_ids (log_of (restored_data c safe)) (restored_memory (log_config c) safe))
-      → images_of (restored_data c safe) s ≡ start_entries c.master (restored_start c.format safe)
-  image_at s among =
-      elim (subst (λ (l : LogData). IsAmong s (log_ids l (restored_memory (log_config c) safe))) log among)
-      as (λ _. images_of (restored_data c safe) s ≡ start_entries c.master (restored_start c.format safe)) [
-        | inl is ↦ sym (ap (images_of (restored_data c safe)) is)
-        | inr none ↦ absurd none
-      ]
-
-  first_model : IsModel (restored_data c safe) (restored_memory (log_config c) safe)
-  first_model = record {
-    pass = refl;
-    images = image_at;
-    behind = λ k q r found indexed victim survivor. victim;
-    carried = λ p t victim stands named i. absurd victim;
-    done = λ none. refl;
-    sealed = λ s survivor. absurd survivor;
-    commits = refl;
-    waiting = λ s waits. waits;
-    freed = λ s waits. absurd waits;
-  }
-
-  pub restored_loaded : c.backups ≤ f.backups → ((b s : ℕ) → f.picture b c.master s ≡ None)
-      → IsUnraised c.master f → IsWellLoaded (restored_data c safe) f
-  restored_loaded backups nothing least = record {
-    core = core;
-    bare = bare;
-    before = f.picture;
-    loading = own_holds loading_lasts (restored_data c safe) core (restored_memory (log_config c) safe) f.picture
-        (subst (λ (l : LogData). IsLoading l (restored_memory (log_config c) safe) f.picture) (sym log)
-        (restored_is_loading (log_config c) safe f.picture
-        (record {
-          placed = placed c ok;
-          segment = core.head.segment;
-          limit = core.head.limit;
-          nothing = nothing;
-        }))) first_model;
-    backups = backups;
-    least = least;
-    running = λ going. refl;
-    halted = λ never. absurd (cc);
-  }
+pub restored_loaded : (c : Config) (safe : ℕ) (f : FleetState) → config_fault c ≡ None → IsCore (restored_data c safe)
+    → log_of (restored_data c safe) ≡ restored (fail_config c) safe → IsBare (restored_data c safe)
+    → c.backups ≤ f.backups → ((b s : ℕ) → f.picture b c.master s ≡ None) → IsUnraised c.master f
+    → IsWellLoaded (restored_data c safe) f
+restored_loaded c safe f ok core log bare backups nothing least =
+    well_loaded (restored_data c safe) f (record {
+      core = core;
+      placed = placed_restored c safe ok core;
+      holds = own_holds loading_lasts (restored_data c safe) core (first_memory (fail_config c) safe) f
+          (subst (λ (l : FailData). HoldsLoading l (first_memory (fail_config c) safe) f) (sym log)
+          (restored_holds_loading (fail_config c) safe f (may_begin c f ok nothing least) (first_heads c safe core)))
+          (first_model c safe log);
+      backups = backups;
+      least = least;
+      apart = tt;
+    }) bare refl
 
 -- ---- an object
 
@@ -118,20 +97,25 @@ unit_lags d core number unit = go (is_pushed (with_unit_end d.head number unit))
 module _ (d e : MasterData) (f : FleetState) (o : Object) (loaded : IsWellLoaded d f) (is : Loads d o e)
     (may : MayLoadNow d o)
     (core : IsCore e) (bare : IsBare e) where
-  abbrev m : Memory
+  abbrev m : FailMemory
   m = memory_of d
 
   abbrev head : ℕ
-  head = (head_of d.head).start.id
+  head = (log_of d).head.start.id
 
   abbrev unit : List Entry
   unit = loaded_unit o
 
-  abbrev then_memory : Memory
+  abbrev then_memory : FailMemory
   then_memory = object_loaded (log_of d) m o
 
   abbrev grown_head : HeadValue
   grown_head = with_unit_end d.head 0 unit
+
+  own : head ≡ d.head.id
+  own =
+      ap (λ (h : FailHead). h.start.id) (force_opened d.config.format d.head (open_opened d.head may.1.opened))
+      ∙ loaded.core.image.id
 
   images_then : (s : ℕ) → images_of e s ≡ images_among grown_head d.closed s
   images_then s = ap (λ (x : MasterData). images_of x s) is.rest
@@ -140,13 +124,13 @@ module _ (d e : MasterData) (f : FleetState) (o : Object) (loaded : IsWellLoaded
   same_images s = at_segment (d.head.id == s) refl where
     at_segment : (t : Bool) → (d.head.id == s) ≡ t → images_of e s ≡ then_memory.images s
     at_segment true here =
-        let same : head ≡ s = loaded.core.image.id ∙ eqb-true d.head.id s here in
+        let same : head ≡ s = own ∙ eqb-true d.head.id s here in
         images_then s ∙ appended_own d.head grown_head d.closed unit s refl refl here
         ∙ sym (ap (λ (z : ℕ). then_memory.images z) (sym same) ∙ images_at m.images head unit
         ∙ ap (λ (z : ℕ). m.images z ++ unit) same)
     at_segment false away =
         let beside : (s == head) ≡ false = other_id s head (λ x. (
-        let same : d.head.id ≡ s = sym loaded.core.image.id ∙ sym x in
+        let same : d.head.id ≡ s = sym own ∙ sym x in
         let yes : (d.head.id == s) ≡ true = ap (λ (z : ℕ). d.head.id == z) (sym same) ∙ same_id d.head.id in cc)) in
         images_then s ∙ appended_other d.head grown_head d.closed s refl refl away
         ∙ sym (images_beside m.images head s unit beside)
@@ -157,9 +141,7 @@ module _ (d e : MasterData) (f : FleetState) (o : Object) (loaded : IsWellLoaded
   leaves : LeavesPass d e
   leaves = record {
     pass = ap (λ (x : MasterData). (memory_of x).pass) is.rest;
-    sealed = λ s. ap (λ (x : MasterData). (memory_of x).sealed s) is.rest;
-    waiting = ap (λ (x : MasterData). x.waiting) is.rest;
-    freed = ap (λ (x : MasterData). x.freed) is.rest;
+    waiting = ap (λ (x : MasterData). (memory_of x).waiting) is.rest;
     rest = ap rest_now is.rest;
     victims = λ s victim. absurd (no_victims s victim);
   }
@@ -169,19 +151,28 @@ module _ (d e : MasterData) (f : FleetState) (o : Object) (loaded : IsWellLoaded
       (ap is_committing is.rest) (λ s counts. same_images s)
       (λ k q p found indexed victim survivor. no_victims q.segment victim)
 
-  then_loading : IsLoading (log_of e) then_memory loaded.before
-  then_loading = subst (λ (l : LogData). IsLoading l then_memory loaded.before) (sym is.log)
-      (load_keeps (log_of d) m loaded.before o loaded.loading may)
+  whole : IsWholeText d.config.master head
+      (front (with_object (log_of d) o).head (length (with_object (log_of d) o).head.units))
+  whole =
+      subst (λ (l : FailData). IsWholeText l.config.master l.head.start.id (front l.head (length l.head.units))) is.log
+      (head_whole e core)
+
+  then_loading : HoldsLoading (log_of d) m f → HoldsLoading (log_of e) (memory_of e) f
+  then_loading holds =
+      own_holds loading_lasts e core then_memory f
+      (subst (λ (l : FailData). HoldsLoading l then_memory f) (sym is.log)
+      (load_holds_loading (log_of d) m f o holds may.0 whole)) then_model
 
   pub object_is_loaded : IsWellLoaded e f
   object_is_loaded = record {
     core = core;
     bare = bare;
-    before = loaded.before;
-    loading = own_holds loading_lasts e core then_memory loaded.before then_loading then_model;
+    placed = placed_more d e loaded.core loaded.placed 0 unit (ap (λ (x : MasterData). x.config) is.rest)
+        (ap (λ (x : MasterData). x.ledger) is.rest) (ap (λ (x : MasterData). x.head) is.rest)
+        (ap (λ (x : MasterData). x.pass) is.rest);
+    loading = λ going. then_loading (loaded.loading (sym (ap (λ (x : MasterData). x.is_halted) is.rest) ∙ going));
     backups = subst (λ (x : MasterData). x.config.backups ≤ f.backups) (sym is.rest) loaded.backups;
     least = subst (λ (x : MasterData). IsUnraised x.config.master f) (sym is.rest) loaded.least;
-    running = λ going. loaded.running (sym (ap (λ (x : MasterData). x.is_halted) is.rest) ∙ going);
     halted = λ stopped. ap (λ (x : MasterData). is_pushed x.head) is.rest ∙ unit_lags d loaded.core 0 unit;
   }
 
@@ -196,22 +187,37 @@ module _ (d e : MasterData) (f : FleetState) (loaded : IsWellLoaded d f) (pushed
     go true stopped = absurd (let never = sym (loaded.halted stopped) ∙ pushed in cc)
     go false going = going
 
-  intact : IsIntact (log_of e) (memory_of e) loaded.before
-  intact =
-      subst (λ (l : LogData). IsIntact l (memory_of e) loaded.before) (sym is.log)
-      (subst (λ (x : MasterData). IsIntact (adopted (log_of d) (opening_of d))
-      (memory_of x) loaded.before) (sym is.rest)
-      (finish_is_intact (log_of d) (memory_of d) loaded.before loaded.loading (pushed_ready d loaded.core pushed)
-      (pushed_whole d loaded.core pushed)))
+  in_force : (log_of d).head ≡ real_head d.head
+  in_force = force_opened d.config.format d.head (open_opened d.head (pushed_open d.head pushed).0)
+
+  -- each home of the head has all units
+  whole_there : (b : ℕ) → HasTaken (log_of d) (log_of d).head.start.id b
+      → (log_of d).counts b ≡ length (log_of d).head.units
+  whole_there b took =
+      let there : has (placed d.config d.head.id (length d.head.taken)) b ≡ true =
+      sym (ap (λ (bs : List ℕ). has bs b)
+      (ap (λ (h : FailHead). took_in d.ledger h.start.id) in_force ∙ ap (took_in d.ledger) loaded.core.image.id
+      ∙ loaded.placed.head)) ∙ took in
+      let at = placed_home d.config d.head.id (length d.head.taken) b there in
+      let count = slice_get-get_or d.head.taken at.replica 0 at.within in
+      ap (log_of d).counts at.is
+      ∙ loaded.placed.counts at.replica (get_or d.head.taken at.replica 0) count
+      ∙ (pushed_whole d loaded.core pushed).all at.replica (get_or d.head.taken at.replica 0) count
+      ∙ sym (ap (λ (h : FailHead). length h.units) in_force)
+
+  holds : HoldsAll (log_of e) (memory_of e) f
+  holds =
+      subst (λ (l : FailData). HoldsAll l (memory_of e) f) (sym is.log)
+      (subst (λ (x : MasterData). HoldsAll (adopted (log_of d) (opening_of d)) (memory_of x) f) (sym is.rest)
+      (finished_holds_all (log_of d) (memory_of d) f (loaded.loading running) (pushed_calm d loaded.core pushed)
+      whole_there))
 
   pub finished_kept : IsWellKept e f
-  finished_kept = record {
+  finished_kept = well_kept e f (record {
     core = core;
-    before = loaded.before;
-    holds = intact;
+    placed = subst IsPlaced (sym is.rest) (placed_settled d loaded.placed);
+    holds = holds;
     backups = subst (λ (x : MasterData). x.config.backups ≤ f.backups) (sym is.rest) loaded.backups;
     least = subst (λ (x : MasterData). IsUnraised x.config.master f) (sym is.rest) loaded.least;
-    now = inl (loaded.running running);
-    running = λ going. loaded.running running;
     apart = subst AreApart (sym (ap (λ (x : MasterData). x.waiting) is.rest ∙ loaded.bare.waiting)) tt;
-  }
+  })

@@ -1,31 +1,34 @@
 -- Memory has an image of each segment of the log set, and of no other.
 use Rattle.std.proofs.Common.{◌≡◌, ℕ, ◌⊎◌, Bool, true, false, inl, inr, List, [], ◌∷◌, refl, sym, ap, subst, ◌∙◌}
 use Rattle.std.specs.Prelude.{Option, Some, None, IsSome, unwrap_or, ◌==◌, ◌||◌, ◌↔◌}
-use Rattle.std.specs.Option.{option_map, option_map_or, option_to_list}
+use Rattle.std.specs.Option.{option_map, option_to_list}
 use Rattle.std.proofs.lemmas.Bool.{eqb-true}
 use Rattle.entry.specs.declared.entry.Entry.{Entry}
 use Rattle.entry.specs.Bag.{IsAmong}
-use Rattle.entry.proofs.BagLemmas.{among_left, among_right, among_either, among_push}
+use Rattle.entry.proofs.BagLemmas.{among_left, among_right, among_either, among_push, among_last}
 use Rattle.images.specs.Image.{Image}
 use Rattle.images.specs.Sorted.{segment_of}
 use Rattle.compactor.specs.Kept.{has_id}
 use Rattle.compactor.specs.Places.{IsAtPlace}
 use Rattle.log_head.specs.declared.head.Roll.{Roll}
-use Rattle.log_head.specs.Log.{head_of, start_of, phase_in, phase_of}
-use Rattle.log_model.specs.Data.{Start, Ready, ids_of, new_of}
+use Rattle.log_head.specs.Log.{head_of, start_of}
+use Rattle.log_model.specs.Data.{Start, ids_of}
 use Rattle.log_model.specs.Ids.{has}
-use Rattle.clean_model.specs.Memory.{new_ids, log_ids}
+use Rattle.clean_model.specs.Memory.{new_ids}
 use Rattle.clean_model.proofs.CommitDigest.{all_in, all_out}
 use Rattle.clean_model.proofs.KeptEntries.{has_is, is_has}
-use Rattle.clean_model.proofs.LogSetIds.{ids_out, in_digest, in_survivors, in_others, head_in, new_in}
+use Rattle.failover_model.specs.Data.{new_of}
+use Rattle.failover_model.specs.Steps.{ids_now}
+use Rattle.failover_clean.specs.Memory.{log_ids}
+use Rattle.failover_clean.proofs.Ids.{ids_out, in_digest, in_survivors, new_in, new_one}
 use Rattle.places.specs.declared.place.Place.{Place}
 use Rattle.master_state.specs.Budget.{survivors_of}
 use Rattle.master_state.specs.Data.{MasterData}
 use Rattle.master_state.specs.Images.{new_image_or}
 use Rattle.master_state.specs.Invariant.{IsCore}
-use Rattle.master_state.specs.Log.{log_of, image_of, images_of, memory_of, log_set_ids}
-use Rattle.master_space.proofs.Digests.{id_is}
+use Rattle.master_state.specs.Log.{is_opened, log_of, image_of, images_of, memory_of, log_set_ids}
 use Rattle.master_state.proofs.Imaging.{same_id, ids_in}
+use Rattle.master.proofs.InForce.{open_or, now_opened, now_unopened, roll_id, new_opened, new_unopened, new_now}
 
 -- ---- lists
 
@@ -74,17 +77,6 @@ among_at_place d p e there =
     subst (λ (es : List Entry). IsAmong e es) (sym there.split)
     (among_right e there.before (e ∷ there.after) (inl refl))
 
--- the head that a roll is opening
-pub new_is : (replicas : ℕ) (r : Roll) → new_of (phase_in replicas r) ≡ Some (start_of r)
-new_is replicas r = go (r.opened == replicas) refl where
-  go : (t : Bool) → (r.opened == replicas) ≡ t → new_of (phase_in replicas r) ≡ Some (start_of r)
-  go true test = rw test refl
-  go false test = rw test refl
-
-pub new_now : (d : MasterData) (r : Roll) → d.head.roll ≡ Some r → new_of (phase_of d.head) ≡ Some (start_of r)
-new_now d r rolls =
-    ap (λ (o : Option Roll). new_of (option_map_or (phase_in d.head.replicas) o Ready)) rolls ∙ new_is d.head.replicas r
-
 module _ (d : MasterData) (core : IsCore d) (s : ℕ) where
   abbrev log_set : List ℕ
   log_set = log_ids (log_of d) (memory_of d)
@@ -98,45 +90,77 @@ module _ (d : MasterData) (core : IsCore d) (s : ℕ) where
   closed_in c = subst (λ (ids : List ℕ). IsAmong s ids) (sym core.closed)
       (all_in (survivors_of d.pass) (head_of d.head).start.others s c)
 
+  -- it lists the ids of the digest once the head is open, and else the first head alone
+  listed : is_opened d.head ≡ true → IsAmong s (ids_of (head_of d.head).start)
+      → IsAmong s (log_ids (log_of d) (memory_of d))
+  listed opened i =
+      in_digest (log_of d) (memory_of d) s (subst (λ (ids : List ℕ). IsAmong s ids) (sym (now_opened d core opened)) i)
+
   pub of_closed : IsAmong s (ids_in d.closed) → IsAmong s (log_ids (log_of d) (memory_of d))
   of_closed c = elim (closed_out c) as (λ _. IsAmong s log_set) [
-    | inl older ↦ in_digest (log_of d) (memory_of d) s (in_others (log_of d) s older)
+    | inl older ↦ elim (open_or d.head) as (λ _. IsAmong s log_set) [
+      | inl opened ↦ listed opened (among_left s (head_of d.head).start.others ((head_of d.head).start.id ∷ []) older)
+      | inr unopened ↦ absurd (subst (λ (ids : List ℕ). IsAmong s ids) (core.first unopened).others older)
+    ]
     | inr survivor ↦ in_survivors (log_of d) (memory_of d) s survivor
   ]
 
   pub of_head : s ≡ d.head.id → IsAmong s (log_ids (log_of d) (memory_of d))
   of_head own =
-      in_digest (log_of d) (memory_of d) s
-      (subst (λ (z : ℕ). IsAmong z (ids_of (head_of d.head).start)) (core.image.id ∙ sym own) (head_in (log_of d)))
+      let same : (head_of d.head).start.id ≡ s = core.image.id ∙ sym own in
+      elim (open_or d.head) as (λ _. IsAmong s log_set) [
+        | inl opened ↦ listed opened (subst (λ (z : ℕ). IsAmong z (ids_of (head_of d.head).start)) same
+            (among_last (head_of d.head).start.others (head_of d.head).start.id))
+        | inr unopened ↦ subst (λ (z : ℕ). IsAmong z log_set) same
+            (new_in (log_of d) (memory_of d) (head_of d.head).start (new_unopened d.head unopened))
+      ]
+
+  -- a segment of the digest of the head
+  pub of_digest : IsAmong s (ids_of (head_of d.head).start) → IsAmong s (log_ids (log_of d) (memory_of d))
+  of_digest i = elim (among_push s (head_of d.head).start.others (head_of d.head).start.id i)
+      as (λ _. IsAmong s log_set) [
+        | inl older ↦ of_closed (closed_in (inl older))
+        | inr own ↦ of_head (sym own ∙ core.image.id)
+      ]
 
   pub of_new : (r : Roll) → d.head.roll ≡ Some r → s ≡ r.id → IsAmong s (log_ids (log_of d) (memory_of d))
   of_new r rolls own =
-      subst (λ (z : ℕ). IsAmong z log_set) (id_is d core r rolls ∙ sym own)
-      (new_in (log_of d) (memory_of d) (start_of r) (new_now d r rolls))
+      subst (λ (z : ℕ). IsAmong z log_set) (roll_id r ∙ sym own)
+      (new_in (log_of d) (memory_of d) (start_of r) (new_now d core r rolls))
 
   -- which segment of the log set it is
-  out_new : (o : Option Roll) → d.head.roll ≡ o → IsAmong s (new_ids (new_of (phase_of d.head))) → (r : Roll)
+  out_roll : (o : Option Roll) → d.head.roll ≡ o → IsAmong s (new_ids (option_map start_of o)) → (r : Roll)
       × (d.head.roll ≡ Some r) × (s ≡ r.id)
-  out_new None none i = absurd (subst (λ (o : Option Roll). IsAmong s
-      (new_ids (new_of (option_map_or (phase_in d.head.replicas) o Ready)))) none i)
-  out_new (Some r) rolls i =
-      elim (subst (λ (o : Option Start). IsAmong s (new_ids o)) (new_now d r rolls) i)
-      as (λ _. (r : Roll) × (d.head.roll ≡ Some r) × (s ≡ r.id)) [
-        | inl same ↦ (r, rolls, sym same ∙ id_is d core r rolls)
-        | inr none ↦ absurd none
-      ]
+  out_roll None none i = absurd i
+  out_roll (Some r) rolls (inl same) = (r, rolls, sym same ∙ roll_id r)
+  out_roll (Some r) rolls (inr none) = absurd none
 
   abbrev Which : Type 0
   Which = IsAmong s (ids_in d.closed) ⊎ ((s ≡ d.head.id) ⊎ ((r : Roll) × (d.head.roll ≡ Some r) × (s ≡ r.id)))
 
+  which_listed : IsAmong s (ids_now (log_of d).head.start) → Which
+  which_listed i = elim (open_or d.head) as (λ _. Which) [
+    | inl opened ↦ elim (among_push s (head_of d.head).start.others (head_of d.head).start.id
+        (subst (λ (ids : List ℕ). IsAmong s ids) (now_opened d core opened) i)) as (λ _. Which) [
+          | inl older ↦ inl (closed_in (inl older))
+          | inr own ↦ inr (inl (sym own ∙ core.image.id))
+        ]
+    | inr unopened ↦ absurd (subst (λ (ids : List ℕ). IsAmong s ids) (now_unopened d core unopened) i)
+  ]
+
+  which_new : IsAmong s (new_ids (new_of (log_of d).mode)) → Which
+  which_new i = elim (open_or d.head) as (λ _. Which) [
+    | inl opened ↦ inr (inr (out_roll d.head.roll refl
+        (subst (λ (o : Option Start). IsAmong s (new_ids o)) (new_opened d.head opened) i)))
+    | inr unopened ↦ inr (inl (sym (new_one (new_of (log_of d).mode) (head_of d.head).start s
+        (new_unopened d.head unopened) i) ∙ core.image.id))
+  ]
+
   which : IsAmong s (log_ids (log_of d) (memory_of d)) → Which
   which i = elim (ids_out (log_of d) (memory_of d) s i) as (λ _. Which) [
-    | inl listed ↦ elim (among_push s (head_of d.head).start.others (head_of d.head).start.id listed) as (λ _. Which) [
-      | inl older ↦ inl (closed_in (inl older))
-      | inr own ↦ inr (inl (sym own ∙ core.image.id))
-    ]
+    | inl in_force ↦ which_listed in_force
     | inr other ↦ elim other as (λ _. Which) [
-      | inl new ↦ inr (inr (out_new d.head.roll refl new))
+      | inl new ↦ which_new new
       | inr survivor ↦ inl (closed_in (inr survivor))
     ]
   ]

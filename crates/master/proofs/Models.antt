@@ -15,26 +15,26 @@ use Rattle.entry.specs.Bag.{IsAmong}
 use Rattle.entry.specs.Meaning.{Versioned, object_at}
 use Rattle.places.specs.declared.place.Place.{Place}
 use Rattle.compactor.specs.Places.{IsAtPlace}
-use Rattle.log_head.specs.Log.{head_of, phase_of}
-use Rattle.log_model.specs.Data.{LogData, ids_of, new_of}
-use Rattle.log_model.specs.Log.{Texts}
-use Rattle.replica.specs.Picture.{Picture}
-use Rattle.clean_model.specs.Intact.{IsIntact}
-use Rattle.clean_model.specs.Memory.{Place as EntryPlace, Index, Images, Pass, Memory, IsAt, StandsAt, SegmentHas}
-use Rattle.clean_model.specs.Memory.{new_ids, log_ids, log_set_of}
-use Rattle.clean_model.specs.Covered.{map_of}
-use Rattle.clean_model.specs.Same.{IsFoundInBoth, IsSameMemory}
+use Rattle.replica.specs.Picture.{FleetState}
+use Rattle.clean_model.specs.Memory.{Place as EntryPlace, Index, Images, Pass, IsAt, StandsAt, SegmentHas}
+use Rattle.clean_model.specs.Memory.{new_ids}
 use Rattle.clean_model.specs.Tracked.{IsTracked}
+use Rattle.failover_model.specs.Data.{FailData, new_of}
+use Rattle.failover_model.specs.Log.{Texts}
+use Rattle.failover_model.specs.Steps.{ids_now}
+use Rattle.failover_clean.specs.Covered.{map_of}
+use Rattle.failover_clean.specs.Fleet.{HoldsAll}
+use Rattle.failover_clean.specs.Memory.{Spot, FailMemory, log_ids, log_set_of}
+use Rattle.failover_clean.specs.Same.{IsFoundInBoth, IsSameMemory}
 use Rattle.master_state.specs.Budget.{victims_of, survivors_of, is_committing}
 use Rattle.master_state.specs.Data.{MasterData}
 use Rattle.master_state.specs.Index.{LiesFound}
 use Rattle.master_state.specs.Invariant.{IsCore, IsOpenPass}
-use Rattle.master_state.specs.Log.{log_of, state_now, images_of, find, position_of, entry_place, rest_now, freed_of}
-use Rattle.master_state.specs.Log.{memory_of}
+use Rattle.master_state.specs.Log.{log_of, state_now, images_of, find, position_of, entry_place, rest_now, memory_of}
 use Rattle.master_state.proofs.Finding.{each_of, found_place}
 use Rattle.master_state.proofs.LogIds.{older_image}
 use Rattle.master.proofs.KeptByEntries.{stands_by_entries}
-use Rattle.master.proofs.Lasting.{Lasts, intact_lasts}
+use Rattle.master.proofs.Lasting.{Lasts, all_lasts}
 use Rattle.master.proofs.LogSets.{among_at_place, entry_counts}
 use Rattle.master.proofs.Victims.{victim_below}
 
@@ -58,7 +58,7 @@ nothing_mapped f (x ∷ xs) is = absurd (cc)
 -- ---- what a step shows
 
 -- The model's memory after a step is the master's, but for the places in it.
-pub record IsModel (e : MasterData) (m : Memory) : Type 0 where
+pub record IsModel (e : MasterData) (m : FailMemory) : Type 0 where
   pub pass : (memory_of e).pass ≡ m.pass
   pub images : (s : ℕ) → IsAmong s (log_ids (log_of e) m) → images_of e s ≡ m.images s
   -- what is found in a victim isn't found in a survivor by the model
@@ -68,10 +68,8 @@ pub record IsModel (e : MasterData) (m : Memory) : Type 0 where
       → StandsAt m.images p (entry.Tombstone t) → IsAmong t.segment (log_ids (log_of e) m) → IsAmong p m.rest
       → IsAmong p (memory_of e).rest
   pub done : m.rest ≡ [] → (memory_of e).rest ≡ []
-  pub sealed : (s : ℕ) → IsAmong s m.pass.survivors → (memory_of e).sealed s ≡ m.sealed s
   pub commits : is_committing e ≡ m.commits
-  pub waiting : (s : ℕ) → IsAmong s e.waiting → IsAmong s m.waiting
-  pub freed : (s : ℕ) → IsAmong s e.waiting → m.freed s ≤ freed_of e s
+  pub waiting : (w : Spot) → IsAmong w (memory_of e).waiting → IsAmong w m.waiting
 
 module _ (e : MasterData) (core : IsCore e) where
   -- what the index finds in a victim is to come
@@ -99,19 +97,25 @@ module _ (e : MasterData) (core : IsCore e) where
     go (Some q) None is none lies = absurd lies
     go (Some q) (Some x) is none lies = absurd (cc)
 
-module _ {Holds : LogData → Memory → Picture → Type 0} (lasts : Lasts Holds) (e : MasterData) (core : IsCore e)
-    (m : Memory) (p : Picture)
-    (i : Holds (log_of e) m p) (is : IsModel e m) where
+module _ {Holds : FailData → FailMemory → FleetState → Type 0} (lasts : Lasts Holds) (e : MasterData) (core : IsCore e)
+    (m : FailMemory) (f : FleetState)
+    (i : Holds (log_of e) m f) (is : IsModel e m) where
   texts : Texts
-  texts = (lasts.tracked (log_of e) m p i).0
+  texts = (lasts.tracked (log_of e) m f i).0
 
   tracked : IsTracked (log_set_of (log_of e) m texts) m.pass m.index (map_of (log_of e))
   unfolding texts
-  tracked = (lasts.tracked (log_of e) m p i).1
+  tracked = (lasts.tracked (log_of e) m f i).1
 
   ids_are : log_ids (log_of e) (memory_of e) ≡ log_ids (log_of e) m
-  ids_are = ap (λ (x : Pass). ids_of (head_of e.head).start ++
-      (new_ids (new_of (phase_of e.head)) ++ x.survivors)) is.pass
+  ids_are = ap (λ (x : Pass). ids_now (log_of e).head.start ++
+      (new_ids (new_of (log_of e).mode) ++ x.survivors)) is.pass
+
+  -- an image with an entry is one of the log set
+  fewer : (s : ℕ) (x : Entry) → IsAmong x (images_of e s) → IsAmong x (m.images s)
+  fewer s x among =
+      subst (λ (es : List Entry). IsAmong x es)
+      (is.images s (subst (λ (ids : List ℕ). IsAmong s ids) ids_are (entry_counts e core s x among))) among
 
   module _ (k : Key) (x : Versioned) (has : (state_now e).contents k ≡ Some x) where
     abbrev object : Object
@@ -162,34 +166,31 @@ module _ {Holds : LogData → Memory → Picture → Type 0} (lasts : Lasts Hold
   same = record {
     pass = is.pass;
     images = is.images;
+    fewer = fewer;
     found = found;
     unindexed = unindexed e core;
     live = λ k r named victim.
         live e core k r named (subst (λ (x : Pass). IsAmong r.segment x.victims) (sym is.pass) victim);
     carried = is.carried;
     done = is.done;
-    sealed = is.sealed;
     commits = is.commits;
     waiting = is.waiting;
-    freed = is.freed;
   }
 
   -- it holds of the master's own memory
-  pub own_holds : Holds (log_of e) (memory_of e) p
-  own_holds = lasts.same (log_of e) m (memory_of e) p i same
+  pub own_holds : Holds (log_of e) (memory_of e) f
+  own_holds = lasts.same (log_of e) m (memory_of e) f i same
 
-pub own_intact : (e : MasterData) → IsCore e → (m : Memory) (p : Picture) → IsIntact (log_of e) m p → IsModel e m
-    → IsIntact (log_of e) (memory_of e) p
-own_intact e core m p i is = own_holds intact_lasts e core m p i is
+pub own_holds_all : (e : MasterData) → IsCore e → (m : FailMemory) (f : FleetState) → HoldsAll (log_of e) m f
+    → IsModel e m → HoldsAll (log_of e) (memory_of e) f
+own_holds_all e core m f i is = own_holds all_lasts e core m f i is
 
 -- ---- a pass that goes on
 
 -- What a step leaves of an open pass and of what waits.
 pub record LeavesPass (d e : MasterData) : Type 0 where
   pub pass : (memory_of e).pass ≡ (memory_of d).pass
-  pub sealed : (s : ℕ) → (memory_of e).sealed s ≡ (memory_of d).sealed s
-  pub waiting : e.waiting ≡ d.waiting
-  pub freed : e.freed ≡ d.freed
+  pub waiting : (memory_of e).waiting ≡ (memory_of d).waiting
   pub rest : rest_now e ≡ rest_now d
   pub victims : (s : ℕ) → IsAmong s (victims_of d.pass) → images_of e s ≡ images_of d s
 
@@ -222,14 +223,9 @@ module _ (d e : MasterData) (leaves : LeavesPass d e) where
   still_done : (memory_of d).rest ≡ [] → (memory_of e).rest ≡ []
   still_done none = ap (map (entry_place e)) (leaves.rest ∙ nothing_mapped (entry_place d) (rest_now d) none)
 
-  still_freed : (s : ℕ) → freed_of d s ≡ freed_of e s
-  still_freed s i = freed_at (sym leaves.waiting i) (sym leaves.freed i) where
-    freed_at : List ℕ → ℕ → ℕ
-    freed_at waiting freed = freed_of (record d { waiting = waiting; freed = freed }) s
-
   -- the model's memory after a step that changes images and the index, and says whether a commit is under way
   module _ (images : Images) (index : Index) (committing : Bool) where
-    abbrev then_memory : Memory
+    abbrev then_memory : FailMemory
     then_memory = record (memory_of d) { images = images; index = index; commits = committing }
 
     pub is_model : is_committing e ≡ committing
@@ -243,8 +239,6 @@ module _ (d e : MasterData) (leaves : LeavesPass d e) where
       behind = behind;
       carried = λ p t victim stands named i. still_carried p victim i;
       done = still_done;
-      sealed = λ s survivor. leaves.sealed s;
       commits = commits;
-      waiting = λ s waits. subst (λ (ids : List ℕ). IsAmong s ids) leaves.waiting waits;
-      freed = λ s waits. let same = still_freed s in omega arith;
+      waiting = λ w waits. subst (λ (ws : List Spot). IsAmong w ws) leaves.waiting waits;
     }

@@ -1,259 +1,362 @@
 -- The op that comes next, taken or not, keeps what holds of a master.
-use Rattle.std.proofs.Common.{◌≡◌, ℕ, ◌<◌, inl, inr, suc, Bool, true, false, List, [], ◌∷◌, ◌++◌, refl, sym, ap}
-use Rattle.std.proofs.Common.{length, subst, ◌∙◌, arith}
-use Rattle.std.specs.Prelude.{Option, Some, None, ◌==◌, slice_set, if◌then◌else◌}
+use Rattle.std.proofs.Common.{◌≡◌, ℕ, suc, ◌⊎◌, ◌<◌, inl, inr, Bool, true, false, List, ◌∷◌, refl, sym}
+use Rattle.std.proofs.Common.{ap, subst, ◌∙◌, arith}
+use Rattle.std.specs.Prelude.{Option, Some, None, IfSome, IsSome, ◌==◌, if◌then◌else◌}
 use Rattle.std.specs.Option.{option_map_or}
+use Rattle.std.proofs.lemmas.Bool.{eqb-true}
 use Rattle.cleaner.specs.declared.pass.Pass.{Pass as OpenPass}
-use Rattle.replica.specs.Picture.{Picture, FleetState}
-use Rattle.replica.specs.Take.{Refuses, taken as fleet_taken}
+use Rattle.entry.specs.Bag.{IsAmong}
+use Rattle.replica.specs.Op.{OpValue}
+use Rattle.replica.specs.Picture.{FleetState}
+use Rattle.replica.specs.Take.{Takes, Refuses}
 use Rattle.replica.specs.declared.op.TakeFault.{TakeFault}
 use Rattle.replica.specs.declared.op.TakeFault.TheVariants as take_fault
 use Rattle.log_head.specs.declared.head.Roll.{Roll}
 use Rattle.log_head.specs.declared.next.Next.{Next}
 use Rattle.log_head.specs.declared.next.Next.TheVariants as next
-use Rattle.log_head.specs.Log.{phase_of}
+use Rattle.log_head.specs.Log.{start_of}
 use Rattle.log_head.specs.Next.{IsNextPush, replica_of, segment_of}
-use Rattle.log_head.specs.Steps.{in_force, with_new_replica, with_closed_replica, old_image}
-use Rattle.log_model.specs.Data.{Start, LogData, new_of}
-use Rattle.log_model.specs.Ops.{LogOp, op_of, taken}
-use Rattle.log_model.specs.Steps.{IsNext}
-use Rattle.clean_model.specs.Intact.{IsIntact}
-use Rattle.clean_model.specs.Memory.{Memory}
-use Rattle.clean_model.specs.Steps.{finished, ended, after_take, IsOp}
+use Rattle.log_head.specs.Steps.{with_new_replica}
+use Rattle.log_head.proofs.Rolls.{rolls}
+use Rattle.log_model.specs.Data.{Start}
+use Rattle.log_model.specs.Ids.{has}
+use Rattle.log_model.specs.Ops.{op_of}
+use Rattle.failover_model.specs.Data.{Calm, FailData, HasTaken, IsNew}
+use Rattle.failover_model.specs.Text.{Replica}
+use Rattle.failover_model.specs.Steps.{ended, EndsRoll}
+use Rattle.failover_bytes.specs.Ops.{log_op_for}
+use Rattle.failover_clean.specs.Memory.{Spot, FailMemory}
+use Rattle.failover_clean.specs.Ops.{IsHeadOp}
+use Rattle.failover_clean.specs.Steps.{finished}
+use Rattle.master_state.specs.declared.ledger.Posting.{Posting}
+use Rattle.master_state.specs.declared.ledger.Posting.TheVariants as posting
 use Rattle.master_state.specs.declared.step.Step.TheVariants.{Push}
-use Rattle.master_state.specs.Budget.{is_committing}
+use Rattle.master_state.specs.Budget.{victims_of, is_committing}
 use Rattle.master_state.specs.Data.{MasterData}
-use Rattle.master_state.specs.Images.{with_closed}
-use Rattle.master_state.specs.Invariant.{AreApart, IsCore}
-use Rattle.master_state.specs.Log.{log_of, memory_of}
-use Rattle.master_state.specs.Steps.{pass_ended, roll_ended, closed_data, taken_data, refusal_of, failed_data}
+use Rattle.master_state.specs.Invariant.{AreApart, IsOpenPass, IsCore}
+use Rattle.master_state.specs.Ledger.{ended_with}
+use Rattle.master_state.specs.Log.{home, log_of, memory_of}
+use Rattle.master_state.specs.Steps.{pass_ended, roll_ended, backup_of, pushed_data}
+use Rattle.master_state.specs.Steps.{refusal_of, failed_data}
 use Rattle.master_state.proofs.Imaging.{same_roll}
 use Rattle.master_state.proofs.Refusals.{push_passed}
-use Rattle.master.specs.Invariant.{IsKeptAs}
-use Rattle.master.specs.Pushes.{answer_of}
+use Rattle.master.specs.Placed.{IsPlaced}
+use Rattle.master.specs.Pushes.{IsNextOp, answer_of}
 use Rattle.master.specs.Steps.{IsPushOp, Declines}
 use Rattle.master.specs.World.{World}
 use Rattle.master.proofs.Ended.{same_model, rolled_model, apart_then, ended_model}
-use Rattle.master.proofs.Handed.{not_wrong, handed_kept, failed_kept, failed_tells}
-use Rattle.master.proofs.Lasting.{Lasts}
-use Rattle.master.proofs.LogSets.{new_is, new_now}
+use Rattle.master.proofs.Handed.{taken_size, handed_kept, failed_tells}
+use Rattle.master.proofs.InForce.{new_now}
+use Rattle.master.proofs.Lasting.{Lasts, IsKeptAs}
 use Rattle.master.proofs.Models.{IsModel, own_holds}
-use Rattle.master.proofs.NextOps.{log_op, next_told, next_is}
-use Rattle.master.proofs.Placing.{home_within}
-
--- ---- what a push leaves
-
--- the configuration, the history and what was loaded are the same, and so is whether a backup failed
-abbrev pub SameRest : MasterData → MasterData → Type 0
-SameRest e d = (e.config ≡ d.config) × (e.history ≡ d.history) × (e.is_halted ≡ d.is_halted)
-    × (e.origin ≡ d.origin)
-
--- the end of a roll leaves them so
-ended_rest : (o : Option OpenPass) (e : MasterData) → SameRest (roll_ended o e) e
-ended_rest None e = (refl, refl, refl, refl)
-ended_rest (Some p) e = go p.is_committing where
-  gives : Bool → MasterData
-  gives t = if t then pass_ended p e else e
-
-  go : (t : Bool) → SameRest (gives t) e
-  go true = (refl, refl, refl, refl)
-  go false = (refl, refl, refl, refl)
-
-closed_rest : (d : MasterData) (r : Roll) → SameRest (closed_data d r) d
-closed_rest d r = go (suc r.closed == d.head.replicas) where
-  closed_one : MasterData
-  closed_one = record d {
-    head = with_closed_replica d.head r;
-    closed = with_closed d.closed d.head.id (old_image d.head r);
-  }
-
-  gives : Bool → MasterData
-  gives t = if t then roll_ended d.pass closed_one else closed_one
-
-  go : (t : Bool) → SameRest (gives t) d
-  go true = ended_rest d.pass closed_one
-  go false = (refl, refl, refl, refl)
-
--- nor does a push
-pub same_rest : (d : MasterData) (push : Next) → SameRest (taken_data d push) d
-same_rest d (next.OpenFirst j) = (refl, refl, refl, refl)
-same_rest d (next.Extend j) = (refl, refl, refl, refl)
-same_rest d (next.OpenNew j) = go d.head.roll where
-  gives : Option Roll → MasterData
-  gives o = option_map_or (λ (r : Roll). record d { head = with_new_replica d.head r }) o d
-
-  go : (o : Option Roll) → SameRest (gives o) d
-  go None = (refl, refl, refl, refl)
-  go (Some r) = (refl, refl, refl, refl)
-same_rest d (next.CloseOld j) = go d.head.roll where
-  gives : Option Roll → MasterData
-  gives o = option_map_or (closed_data d) o d
-
-  go : (o : Option Roll) → SameRest (gives o) d
-  go None = (refl, refl, refl, refl)
-  go (Some r) = closed_rest d r
+use Rattle.master.proofs.NextOps.{act_now, push_op, WholeOnceOpening, first_told, extends, next_told}
+use Rattle.master.proofs.NextOps.{new_mid, opens_new, new_after, took_new, head_push}
+use Rattle.master.proofs.NextOps.{no_roll, old_mid, old_posts, closed_one, closed_at, closes, ends, old_more, old_last}
+use Rattle.master.proofs.NextOps.{old_is}
+use Rattle.master.proofs.Placing.{home_within, home_placed}
+use Rattle.master.proofs.PushedPlaces.{pushed_placed}
+use Rattle.master.proofs.PushedRest.{same_rest}
 
 -- ---- what is shown of the data after a push
 
--- The model's memory after the op is the master's, and nothing waits twice.
-pub record IsTaken (d e : MasterData) : Type 0 where
-  pub model : IsModel e (after_take (log_of d) (log_of e) (memory_of d))
-  pub apart : AreApart e.waiting
+-- The log is what the op led to, or with the last op of a roll that has ended; memory is the model's, and nothing waits
+-- twice.
+pub record IsCounted (d e : MasterData) (mid : FailData) : Type 0 where
+  pub log : log_of e ≡ mid
+  pub model : IsModel e (memory_of d)
+  pub waiting : e.waiting ≡ d.waiting
 
--- if the head that a roll is opening is the same, so is memory
-goes_on : (x y : Option Start) (m : Memory) → y ≡ x → ended x y m ≡ m
-goes_on x y m is = ap (λ (z : Option Start). ended x z m) is ∙ same x where
-  same : (z : Option Start) → ended z z m ≡ m
-  same None = refl
-  same (Some n) = refl
+pub record IsRolled (d e : MasterData) (mid : FailData) : Type 0 where
+  pub n : Start
+  pub ends : EndsRoll mid n Calm
+  pub log : log_of e ≡ ended mid n Calm
+  pub ordinary : is_committing d ≡ false
+  pub model : IsModel e (memory_of d)
+  pub waiting : e.waiting ≡ d.waiting
 
--- only a master of which all is intact has an open pass
-abbrev pub IsIntactInPass : MasterData → Picture → Type 0
-IsIntactInPass d p = (pass : OpenPass) → d.pass ≡ Some pass → IsIntact (log_of d) (memory_of d) p
+pub record IsCommitted (d e : MasterData) (mid : FailData) : Type 0 where
+  pub n : Start
+  pub ends : EndsRoll mid n Calm
+  pub log : log_of e ≡ ended mid n Calm
+  pub pass : OpenPass
+  pub opened : d.pass ≡ Some pass
+  pub commits : is_committing d ≡ true
+  pub model : IsModel e (finished mid (memory_of d))
+  pub apart : AreApart d.waiting
+      → ((w : Spot) → IsAmong w (memory_of d).waiting → IsAmong w.segment (victims_of d.pass) → ⊥)
+      → AreApart e.waiting
 
-module _ {Holds : LogData → Memory → Picture → Type 0} (d : MasterData) (f : FleetState) (kept : IsKeptAs Holds d f)
-    (intact : IsIntactInPass d kept.before) where
-  abbrev m : Memory
-  m = memory_of d
+pub record IsPushed (d : MasterData) (push : Next) : Type 0 where
+  pub mid : FailData
+  pub op : IsHeadOp (log_of d) (push_op d push) mid
+  pub after : IsCounted d (pushed_data d push) mid
+      ⊎ (IsRolled d (pushed_data d push) mid ⊎ IsCommitted d (pushed_data d push) mid)
 
-  -- ---- the head takes more
+module _ (d : MasterData) (core : IsCore d) (placed_now : IsPlaced d) where
+  -- a commit is a roll
+  no_commit : d.head.roll ≡ None → is_committing d ≡ false
+  no_commit none = go d.pass core.pass where
+    go : (o : Option OpenPass) → IfSome o (IsOpenPass d)
+        → option_map_or (λ (p : OpenPass). p.is_committing) o false ≡ false
+    go None all = refl
+    go (Some p) all = by_commit p.is_committing refl where
+      by_commit : (t : Bool) → p.is_committing ≡ t → p.is_committing ≡ false
+      by_commit true is = absurd (let some = subst (λ (o : Option Roll). IsSome o) none (all.commits is).0 in cc)
+      by_commit false is = is
 
-  counted : (e : MasterData) → IsModel e m → new_of (phase_of e.head) ≡ new_of (phase_of d.head)
-      → e.waiting ≡ d.waiting → IsTaken d e
-  counted e model new waiting = record {
-    model = subst (IsModel e) (sym (goes_on (new_of (phase_of d.head)) (new_of (phase_of e.head)) m new)) model;
-    apart = subst AreApart (sym waiting) kept.apart;
-  }
+  -- ---- a first head
 
-  head_taken : (ks : List ℕ) → IsCore (record d { head = record d.head { taken = ks } })
-      → IsTaken d (record d { head = record d.head { taken = ks } })
-  head_taken ks core =
-      let e : MasterData = record d { head = record d.head { taken = ks } } in
-      counted e (same_model d e kept.core core refl (λ s. refl) refl refl refl refl (omega arith)) refl refl
+  first_pushed : (j : ℕ) → IsNextPush d.head (Some (next.OpenFirst j)) → IsCore (pushed_data d (next.OpenFirst j))
+      → IsPushed d (next.OpenFirst j)
+  first_pushed j waits later =
+      let e = pushed_data d (next.OpenFirst j) in
+      let told = first_told d core placed_now j waits in
+      let model = same_model d e core later refl (λ s. refl) refl refl refl refl (omega arith) in
+      record {
+        mid = told.0;
+        op = inr (inl told.1);
+        after = elim told.2 as (λ _. IsCounted d e told.0 ⊎ (IsRolled d e told.0 ⊎ IsCommitted d e told.0)) [
+          | inl log ↦ inl (record { log = log; model = model; waiting = refl })
+          | inr last ↦ inr (inl (record {
+            n = last.0;
+            ends = last.1;
+            log = last.2;
+            ordinary = no_commit (no_roll d core placed_now j waits);
+            model = model;
+            waiting = refl;
+          }))
+        ];
+      }
+
+  extend_pushed : WholeOnceOpening d → (j : ℕ) → IsNextPush d.head (Some (next.Extend j))
+      → IsCore (pushed_data d (next.Extend j)) → IsPushed d (next.Extend j)
+  extend_pushed whole j waits later =
+      let e = pushed_data d (next.Extend j) in
+      record {
+        mid = log_of e;
+        op = inl (extends d core placed_now waits.0 whole j waits).extends;
+        after = inl (record {
+          log = refl;
+          model = same_model d e core later refl (λ s. refl) refl refl refl refl (omega arith);
+          waiting = refl;
+        });
+      }
 
   -- ---- a roll goes on
 
-  module _ (r : Roll) (rolls : d.head.roll ≡ Some r) where
-    roll_taken : (opened closed : ℕ) → IsCore (record d {
-      head = record d.head
-          { roll = Some (record r { opened = opened; closed = closed }) };
-    })
-        → IsTaken d (record d { head = record d.head { roll = Some (record r { opened = opened; closed = closed }) } })
-    roll_taken opened closed core =
-        let q : Roll = record r { opened = opened; closed = closed } in
-        let e : MasterData = record d {
-          head = record d.head
-              { roll = Some (record r { opened = opened; closed = closed }) };
-        } in
-        counted e (same_model d e kept.core core refl (same_roll d.head d.closed r q rolls refl refl) refl refl refl
-        refl (omega arith))
-        (new_is d.head.replicas q ∙ sym (new_now d r rolls)) refl
+  -- what a roll has opened or closed changes no image
+  roll_model : (r : Roll) → d.head.roll ≡ Some r → (opened closed : ℕ) (ps : List Posting)
+      → IsCore (record d {
+        head = record d.head { roll = Some (record r { opened = opened; closed = closed }) };
+        ledger = ps;
+      })
+      → IsModel (record d {
+        head = record d.head { roll = Some (record r { opened = opened; closed = closed }) };
+        ledger = ps;
+      }) (memory_of d)
+  roll_model r rolls opened closed ps later =
+      let q : Roll = record r { opened = opened; closed = closed } in
+      let e : MasterData = record d { head = record d.head { roll = Some q }; ledger = ps } in
+      same_model d e core later refl (same_roll d.head d.closed r q rolls refl refl) refl refl refl refl (omega arith)
 
-    -- ---- and ends
+  new_pushed : (j : ℕ) → IsNextPush d.head (Some (next.OpenNew j)) → IsCore (pushed_data d (next.OpenNew j))
+      → IsPushed d (next.OpenNew j)
+  new_pushed j waits later =
+      let r = waits.1 in
+      let ps = posting.Took (segment_of d.head (next.OpenNew j)) (backup_of d (next.OpenNew j)) ∷ d.ledger in
+      let mid = new_mid d core placed_now waits.0.opened j waits in
+      let e : MasterData = record d { head = with_new_replica d.head r; ledger = ps } in
+      let is : pushed_data d (next.OpenNew j) ≡ e =
+      ap (λ (o : Option Roll). option_map_or
+      (λ (q : Roll). record d { head = with_new_replica d.head q; ledger = ps }) o (record d { ledger = ps }))
+      waits.2 in
+      record {
+        mid = mid;
+        op = inr (inl (opens_new d core placed_now waits.0.opened j waits));
+        after = inl (subst (λ (x : MasterData). IsCounted d x mid) (sym is) (record {
+          log = ap log_of (sym is) ∙ new_after d core placed_now waits.0.opened j waits;
+          model = roll_model r waits.2 (suc r.opened) r.closed ps (subst IsCore is later);
+          waiting = refl;
+        }));
+      }
+
+  -- ---- and ends
+
+  module _ (j : ℕ) (waits : IsNextPush d.head (Some (next.CloseOld j))) where
+    abbrev r : Roll
+    r = waits.1
+
+    abbrev mid : FailData
+    mid = old_mid d core placed_now waits.0.opened j waits
+
+    abbrev posts : List Posting
+    posts = old_posts d core placed_now waits.0.opened j waits
+
+    abbrev one : List Posting → Bool → MasterData
+    one = closed_one d core placed_now waits.0.opened j waits
+
+    abbrev at : List Posting → Bool → MasterData
+    at = closed_at d core placed_now waits.0.opened j waits
 
     abbrev rolled : MasterData
-    rolled = record d { head = in_force d.head r; closed = with_closed d.closed d.head.id (Some d.head.image) }
+    rolled = one (posting.Ended ∷ posts) true
 
-    -- what memory is once it has
-    after_end : (committing : Bool) → is_committing d ≡ committing
-        → ended (new_of (phase_of d.head)) None m ≡ (if committing then finished m else m)
-    after_end committing is =
-        ap (λ (x : Option Start). ended x None m) (new_now d r rolls)
-        ∙ ap (λ (b : Bool). if b then finished m else m) is
+    abbrev After : MasterData → Type 0
+    After e = IsCounted d e mid ⊎ (IsRolled d e mid ⊎ IsCommitted d e mid)
 
-    ordinary : is_committing d ≡ false → IsCore rolled → IsTaken d rolled
-    ordinary plain core = record {
-      model = subst (IsModel rolled) (sym (after_end false plain)) (rolled_model d f kept r rolls core);
-      apart = kept.apart;
-    }
+    ordinary_end : suc j ≡ d.config.replicas → log_of rolled ≡ ended mid (start_of r) Calm → is_committing d ≡ false
+        → IsCore rolled → After rolled
+    ordinary_end last log plain later = inr (inl (record {
+      n = start_of waits.1;
+      ends = ends d core placed_now waits.0.opened j waits last;
+      log = log;
+      ordinary = plain;
+      model = rolled_model d core waits.1 waits.2 (posting.Ended ∷ posts) later;
+      waiting = refl;
+    }))
 
-    pass_taken : (p : OpenPass) → d.pass ≡ Some p → (t : Bool) → p.is_committing ≡ t
-        → IsCore (if t then pass_ended p rolled else rolled) → IsTaken d (if t then pass_ended p rolled else rolled)
-    pass_taken p opened true is core = record {
-      model = subst (IsModel (pass_ended p rolled))
-          (sym (after_end true (ap (λ (o : Option OpenPass). option_map_or
-          (λ (q : OpenPass). q.is_committing) o false) opened ∙ is)))
-          (ended_model d f kept r rolls p opened is (intact p opened));
-      apart = apart_then d f kept r rolls p opened is (intact p opened);
-    }
-    pass_taken p opened false is core =
-        ordinary (ap (λ (o : Option OpenPass). option_map_or
-        (λ (q : OpenPass). q.is_committing) o false) opened ∙ is) core
+    commits_as : (p : OpenPass) → d.pass ≡ Some p → is_committing d ≡ p.is_committing
+    commits_as p opened = ap (λ (o : Option OpenPass). option_map_or (λ (q : OpenPass). q.is_committing) o false) opened
 
-    end_taken : (o : Option OpenPass) → d.pass ≡ o → IsCore (roll_ended o rolled) → IsTaken d (roll_ended o rolled)
-    end_taken None none core = ordinary (ap (λ (o : Option OpenPass). option_map_or
-        (λ (q : OpenPass). q.is_committing) o false) none) core
-    end_taken (Some p) opened core = pass_taken p opened p.is_committing refl core
+    pass_end : suc j ≡ d.config.replicas → (p : OpenPass) → d.pass ≡ Some p → (t : Bool) → p.is_committing ≡ t
+        → log_of (if t then pass_ended p rolled else rolled) ≡ ended mid (start_of r) Calm
+        → IsCore (if t then pass_ended p rolled else rolled) → After (if t then pass_ended p rolled else rolled)
+    pass_end last p opened true is log later = inr (inr (record {
+      n = start_of waits.1;
+      ends = ends d core placed_now waits.0.opened j waits last;
+      log = log;
+      pass = p;
+      opened = opened;
+      commits = commits_as p opened ∙ is;
+      model = ended_model d core waits.1 waits.2 (posting.Ended ∷ posts) placed_now p opened is mid refl refl log;
+      apart = apart_then d core waits.1 waits.2 (posting.Ended ∷ posts) placed_now p opened is mid refl refl log;
+    }))
+    pass_end last p opened false is log later = ordinary_end last log (commits_as p opened ∙ is) later
 
-    close_taken : (t : Bool) → (suc r.closed == d.head.replicas) ≡ t → IsCore (closed_data d r)
-        → IsTaken d (closed_data d r)
-    close_taken true test core = rw test (end_taken d.pass refl (rw test at core))
-    close_taken false test core = rw test (roll_taken r.opened (suc r.closed) (rw test at core))
+    roll_end : suc j ≡ d.config.replicas → (o : Option OpenPass) → d.pass ≡ o
+        → log_of (roll_ended o rolled) ≡ ended mid (start_of r) Calm
+        → IsCore (roll_ended o rolled) → After (roll_ended o rolled)
+    roll_end last None none log later =
+        ordinary_end last log
+        (ap (λ (o : Option OpenPass). option_map_or (λ (q : OpenPass). q.is_committing) o false) none) later
+    roll_end last (Some p) opened log later = pass_end last p opened p.is_committing refl log later
+
+    close_end : (t : Bool) → (suc j == d.config.replicas) ≡ t → IsCore (at (ended_with t posts) t)
+        → After (at (ended_with t posts) t)
+    close_end true is later =
+        roll_end (eqb-true (suc j) d.config.replicas is) d.pass refl
+        (old_last d core placed_now waits.0.opened j waits) later
+    close_end false is later = inl (record {
+      log = old_more d core placed_now waits.0.opened j waits;
+      model = roll_model waits.1 waits.2 waits.1.opened (suc waits.1.closed) posts later;
+      waiting = refl;
+    })
+
+    old_pushed : IsCore (pushed_data d (next.CloseOld j)) → IsPushed d (next.CloseOld j)
+    old_pushed later =
+        let is = old_is d core placed_now waits.0.opened j waits in
+        record {
+          mid = mid;
+          op = inr (inr (inr (inr (closes d core placed_now waits.0.opened j waits))));
+          after = subst After (sym is) (close_end (suc j == d.config.replicas) refl (subst IsCore is later));
+        }
 
   -- ---- each push
 
-  is_taken : (push : Next) → IsNextPush d.head (Some push) → IsCore (taken_data d push) → IsTaken d (taken_data d push)
-  is_taken (next.OpenFirst j) waits core = head_taken (d.head.taken ++ 0 ∷ []) core
-  is_taken (next.Extend j) waits core = head_taken (slice_set d.head.taken j (length d.head.units)) core
-  is_taken (next.OpenNew j) waits core =
-      let r = waits.1 in
-      let is = ap (λ (o : Option Roll). option_map_or (λ (q : Roll). record d
-      { head = with_new_replica d.head q }) o d) waits.2 in
-      subst (IsTaken d) (sym is) (roll_taken r waits.2 (suc r.opened) r.closed (subst IsCore is core))
-  is_taken (next.CloseOld j) waits core =
-      let r = waits.1 in
-      let is = ap (λ (o : Option Roll). option_map_or (closed_data d) o d) waits.2 in
-      subst (IsTaken d) (sym is) (close_taken r waits.2 (suc r.closed == d.head.replicas) refl (subst IsCore is core))
+  pub is_pushed : WholeOnceOpening d → (push : Next) → IsNextPush d.head (Some push) → IsCore (pushed_data d push)
+      → IsPushed d push
+  is_pushed whole (next.OpenFirst j) waits later = first_pushed j waits later
+  is_pushed whole (next.Extend j) waits later = extend_pushed whole j waits later
+  is_pushed whole (next.OpenNew j) waits later = new_pushed j waits later
+  is_pushed whole (next.CloseOld j) waits later = old_pushed j waits later
 
 -- ---- the op
 
-module _ {Holds : LogData → Memory → Picture → Type 0} (lasts : Lasts Holds) (d : MasterData)
-    (push : Next) (f : FleetState)
-    (kept : IsKeptAs Holds d f) (running : d.is_halted ≡ false) (waits : IsNextPush d.head (Some push)) where
-  abbrev o : LogOp
-  o = log_op d push
+-- What ends with a commit, of a master that has an open pass.
+pub record EndsPass (Holds : FailData → FailMemory → FleetState → Type 0) (d : MasterData) : Type 0 where
+  pub finish : (p : OpenPass) → d.pass ≡ Some p → (l : FailData) (m : FailMemory) (g : FleetState) (n : Start)
+      → Holds l m g → EndsRoll l n Calm → m.commits ≡ true → Holds (ended l n Calm) (finished l m) g
+  -- no victim waits already
+  pub gone : (p : OpenPass) → d.pass ≡ Some p → (w : Spot) → IsAmong w (memory_of d).waiting
+      → IsAmong w.segment (victims_of d.pass) → ⊥
 
-  coming : IsNext (log_of d) (log_op d push) (log_of (taken_data d push))
-  coming = next_is d kept.core push waits
+module _ {Holds : FailData → FailMemory → FleetState → Type 0} (lasts : Lasts Holds) (d : MasterData)
+    (push : Next) (f : FleetState) (kept : IsKeptAs Holds d f) (waits : IsNextPush d.head (Some push)) where
+  abbrev backup : ℕ
+  backup = backup_of d push
 
-  pub push_is : IsOp (log_of d) (memory_of d) (log_op d push)
-  push_is = inl (log_of (taken_data d push), coming)
+  abbrev bytes : OpValue
+  bytes = op_of d.config.master (log_op_for d.config.master backup (segment_of d.head push) (act_now d push))
 
-  pub push_within : (log_op d push).backup < d.config.backups
-  push_within = home_within d.config kept.core.config (segment_of d.head push) (replica_of push)
+  pub whole_once : WholeOnceOpening d
+  whole_once r rolling some b took =
+      let all = (rolls d.head r kept.core.head rolling).whole in
+      let p = lasts.held (log_of d) (memory_of d) f kept.holds in
+      let first = home d.config r.id 0 in
+      let is_new : IsNew (log_of d) (start_of r) = inl (new_now d kept.core r rolling) in
+      let there : HasTaken (log_of d) (start_of r).id first =
+      ap (λ (bs : List ℕ). has bs first) (took_new d kept.core kept.placed all r rolling)
+      ∙ home_placed d.config r.id r.opened 0 some in
+      let held = p.1.mirrored.new (start_of r) first is_new there in
+      p.1.mirrored.whole (start_of r) first b is_new
+      (subst (λ (x : Option Replica). IsSome x) (sym held) refl) (took, refl)
 
-  pub push_then : (q : Picture) × (taken kept.before d.config.master o ≡ Some q)
-      × Holds (log_of (taken_data d push)) (after_take (log_of d) (log_of (taken_data d push)) (memory_of d)) q
-  push_then = lasts.take (log_of d) (log_of (taken_data d push)) (memory_of d) kept.before o kept.holds coming
+  pub told : IsNextOp d (push_op d push) (answer_of push backup (segment_of d.head push)) (log_of (pushed_data d push))
+  told = next_told d kept.core kept.placed whole_once push waits
 
-  pub push_not_wrong : (g : FleetState) (x : TakeFault) → Refuses f o.backup (op_of d.config.master o) x g
-      → x ≡ take_fault.Wrong → ⊥
-  push_not_wrong = not_wrong d f kept running o push_within push_then.0 push_then.1
+  within : backup < d.config.backups
+  within = home_within d.config kept.core.config (segment_of d.head push) (replica_of push)
 
-  pub push_failed : (g : FleetState) (x : TakeFault) → Refuses f o.backup (op_of d.config.master o) x g
-      → IsKeptAs Holds (failed_data d x) g
-  push_failed = failed_kept d f kept running o push_within push_then.0 push_then.1 push_is
+  pub push_not_wrong : (g : FleetState) (x : TakeFault) → Refuses f backup bytes x g → x ≡ take_fault.Wrong → ⊥
+  push_not_wrong g x refused is =
+      let op = head_push d push (answer_of push backup (segment_of d.head push)) told in
+      lasts.right (log_of d) op.mid (memory_of d) f g (push_op d push) kept.holds op.op
+      (let le = kept.backups in let lt = within in omega arith)
+      (subst (λ (y : TakeFault). Refuses f backup bytes y g) is refused)
 
-  pub push_declines : (g : FleetState) (x : TakeFault) → Refuses f o.backup (op_of d.config.master o) x g
+  pub push_declines : d.is_halted ≡ false → (g : FleetState) (x : TakeFault) → Refuses f backup bytes x g
       → Declines (record { knows = d; fleet = f }) Push (refusal_of x) (record { knows = failed_data d x; fleet = g })
-  push_declines g x refused =
+  push_declines running g x refused =
       let old : World = record { knows = d; fleet = f } in
       inr (
         push_passed d push running waits,
-        failed_tells d f kept running o push_within push_then.0 push_then.1 (IsPushOp old)
-            (answer_of push o.backup o.segment, taken_data d push, next_told d kept.core push waits) g x refused,
+        failed_tells d f backup (segment_of d.head push) (act_now d push) (IsPushOp old)
+            (answer_of push backup (segment_of d.head push), log_of (pushed_data d push), told) g x refused
+            (push_not_wrong g x refused),
       )
 
-  module _ (intact : IsIntactInPass d kept.before) (core : IsCore (taken_data d push)) where
+  module _ (passing : EndsPass Holds d) (core : IsCore (pushed_data d push)) (g : FleetState)
+      (takes : Takes f backup bytes g) where
     abbrev e : MasterData
-    e = taken_data d push
+    e = pushed_data d push
 
-    then_is : IsTaken d e
-    then_is = is_taken d f kept intact push waits core
+    is : IsPushed d push
+    is = is_pushed d kept.core kept.placed whole_once push waits core
 
-    pub taken_kept : (g : FleetState) → fleet_taken f o.backup (op_of d.config.master o) ≡ Some g
-        → IsKeptAs Holds (taken_data d push) g
-    taken_kept g took =
-        handed_kept d f kept running o push_within push_then.0 push_then.1 e g core (same_rest d push).0 then_is.apart
-        (own_holds lasts e core (after_take (log_of d) (log_of e) (memory_of d)) push_then.0 push_then.2
-        then_is.model) took
+    -- what holds once the op is taken
+    then_holds : Holds is.mid (memory_of d) g
+    then_holds = lasts.take (log_of d) is.mid (memory_of d) f g (push_op d push) kept.holds is.op within takes
+
+    own : (m : FailMemory) (l : FailData) → log_of e ≡ l → Holds l m g → IsModel e m → Holds (log_of e) (memory_of e) g
+    own m l same there model =
+        own_holds lasts e core m g (subst (λ (x : FailData). Holds x m g) (sym same) there) model
+
+    after : Holds (log_of e) (memory_of e) g × AreApart e.waiting
+    after = elim is.after as (λ _. Holds (log_of e) (memory_of e) g × AreApart e.waiting) [
+      | inl a ↦ (own (memory_of d) is.mid a.log then_holds a.model, subst AreApart (sym a.waiting) kept.apart)
+      | inr (inl a) ↦ (
+        own (memory_of d) (ended is.mid a.n Calm) a.log
+            (lasts.ends is.mid (memory_of d) g a.n Calm then_holds a.ends a.ordinary) a.model,
+        subst AreApart (sym a.waiting) kept.apart,
+      )
+      | inr (inr a) ↦ (
+        own (finished is.mid (memory_of d)) (ended is.mid a.n Calm) a.log
+            (passing.finish a.pass a.opened is.mid (memory_of d) g a.n then_holds a.ends a.commits) a.model,
+        a.apart kept.apart (passing.gone a.pass a.opened),
+      )
+    ]
+
+    pub taken_kept : IsKeptAs Holds (pushed_data d push) g
+    taken_kept =
+        handed_kept d (pushed_data d push) f g kept (taken_size f backup bytes g takes.1) core
+        (pushed_placed d kept.core kept.placed push waits core) (same_rest d push).0 after.1 after.0

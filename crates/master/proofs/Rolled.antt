@@ -1,46 +1,60 @@
 -- A roll that begins keeps what holds of a master, be it an ordinary one or a commit.
-use Rattle.std.proofs.Common.{◌≡◌, ℕ, Bool, true, false, List, [], refl, sym, ap, subst, ◌∙◌, arith}
-use Rattle.std.specs.Prelude.{Option, Some, None, ◌==◌, if◌then◌else◌}
+use Rattle.std.proofs.Common.{◌≡◌, ℕ, ◌-◌, inl, Bool, true, false, List, [], map, length, refl, sym, ap, subst, ◌∙◌}
+use Rattle.std.proofs.Common.{arith}
+use Rattle.std.specs.Prelude.{Option, Some, None, ◌==◌, nat_lt, if◌then◌else◌}
 use Rattle.std.specs.List.{AllByRecursion}
 use Rattle.std.specs.Option.{option_map, option_map_or}
-use Rattle.std.proofs.lemmas.Bool.{eqb-true}
+use Rattle.std.proofs.lemmas.Bool.{and_parts, eqb-true, lt-ltb}
 use Rattle.std.proofs.lemmas.Option.{same_Some}
 use Rattle.cleaner.specs.declared.pass.Pass.{Pass as OpenPass}
-use Rattle.cleaner.specs.Passes.{images_in, rest_of, is_ready as is_ready_pass}
+use Rattle.cleaner.specs.Passes.{images_in, rest_of, is_at_end, is_ready as is_ready_pass}
 use Rattle.cleaner.specs.Seals.{sealed_of}
+use Rattle.cleaner.proofs.SurvivorIds.{among_ids}
 use Rattle.entry.specs.declared.key.Key.{Key}
 use Rattle.entry.specs.declared.entry.Entry.{Entry}
 use Rattle.entry.specs.Bag.{IsAmong}
 use Rattle.entry.specs.Format.{IsEntry}
-use Rattle.replica.specs.Picture.{Picture, FleetState}
+use Rattle.replica.specs.Picture.{FleetState}
 use Rattle.places.specs.declared.place.Place.{Place}
 use Rattle.images.specs.Sorted.{segment_of}
 use Rattle.log_head.specs.declared.head.Roll.{Roll}
-use Rattle.log_head.specs.Log.{phase_of}
 use Rattle.log_head.specs.Steps.{start_after, fresh_roll}
-use Rattle.log_head.proofs.RollLog.{start_is}
-use Rattle.log_model.specs.Data.{Start, LogData, new_of, start_entries}
-use Rattle.log_model.specs.Steps.{next_start, rolling}
-use Rattle.clean_model.specs.Memory.{Place as EntryPlace, Memory}
-use Rattle.clean_model.specs.Steps.{MayCommit, commit_start, rolled}
-use Rattle.clean_model.proofs.Rolling.{commit_keeps}
+use Rattle.log_head.proofs.Digests.{without_none}
+use Rattle.log_model.specs.Data.{Start, start_entries}
+use Rattle.clean_model.specs.Intact.{IsCommit}
+use Rattle.clean_model.specs.Memory.{Place as EntryPlace}
+use Rattle.failover_model.specs.Data.{Head as FailHead, bare, Rolls, FailData}
+use Rattle.failover_model.specs.Steps.{next_start, rolling}
+use Rattle.failover_bytes.specs.Text.{IsWholeText}
+use Rattle.failover_clean.specs.Intact.{IsReady}
+use Rattle.failover_clean.specs.Memory.{FailMemory}
+use Rattle.failover_clean.specs.Steps.{MayCommit, commit_start, rolled}
+use Rattle.failover_clean.proofs.FleetSteps.{commit_holds_all}
 use Rattle.master_state.specs.declared.step.StepAnswer.{StepAnswer}
 use Rattle.master_state.specs.Budget.{victims_of, survivors_of, is_ready, is_committing}
 use Rattle.master_state.specs.Data.{MasterData}
 use Rattle.master_state.specs.Invariant.{IsCore}
-use Rattle.master_state.specs.Log.{log_of, state_now, images_of, find, entry_place, rest_now, memory_of}
+use Rattle.master_state.specs.Ledger.{took_in}
+use Rattle.master_state.specs.Loading.{IsBare}
+use Rattle.master_state.specs.Log.{is_opened, log_of, state_now, images_of, find, entry_place, rest_now, memory_of}
 use Rattle.master_state.specs.Steps.{listed_in, start_now, rolling_data, next_now, BeginsRoll, MayRollNow}
-use Rattle.master_space.proofs.RollStarts.{start_has}
+use Rattle.master_commands.proofs.HeadsInForce.{open_opened, open_calm}
+use Rattle.master_commands.proofs.LoadedCore.{rolling_bare}
+use Rattle.master_space.proofs.RollLaws.{next_is}
 use Rattle.master_state.proofs.Finding.{each_of, index_of}
 use Rattle.master_state.proofs.Imaging.{same_id, rolled_own, rolled_other, rolled_grow}
 use Rattle.master_state.proofs.Indexing.{Grow, found_grown}
 use Rattle.master_state.proofs.LogIds.{no_segment, no_next}
 use Rattle.master_state.proofs.Refusals.{may_begin, open_parts}
-use Rattle.master.specs.Invariant.{IsKeptAs, IsWellKept}
-use Rattle.master.proofs.LogSets.{new_now}
-use Rattle.master.proofs.Handed.{unhanded_kept}
-use Rattle.master.proofs.Lasting.{Lasts, intact_lasts}
+use Rattle.master.specs.Invariant.{IsWellKept, IsWellLoaded}
+use Rattle.master.specs.Placed.{sealed_now, IsPlaced}
+use Rattle.master.proofs.InForce.{force_opened, start_real}
+use Rattle.master.proofs.Lasting.{Lasts, all_lasts, loading_lasts, IsKeptAs, kept_as, well_kept, loaded_as, well_loaded}
+use Rattle.master.proofs.Lasting.{unhanded_kept}
 use Rattle.master.proofs.Models.{IsModel, LeavesPass, is_model, own_holds}
+use Rattle.master.proofs.OpenPasses.{none_left}
+use Rattle.master.proofs.Placements.{placed_rolling}
+use Rattle.master.proofs.Placing.{placed_length}
 use Rattle.master.proofs.Victims.{victim_below, never_both}
 
 -- ---- the open pass, once it says whether its commit is under way
@@ -56,12 +70,6 @@ same_survivors : (o : Option OpenPass) → survivors_of (told o) ≡ survivors_o
 same_survivors None = refl
 same_survivors (Some p) = refl
 
-same_sealed : (replicas s : ℕ) (o : Option OpenPass)
-    → option_map_or (λ (p : OpenPass). sealed_of replicas p.sealed p.survivors.first s) (told o) 0
-    ≡ option_map_or (λ (p : OpenPass). sealed_of replicas p.sealed p.survivors.first s) o 0
-same_sealed replicas s None = refl
-same_sealed replicas s (Some p) = refl
-
 same_rest : (images : ℕ → List Entry) (o : Option OpenPass)
     → option_map_or (rest_of images) (told o) [] ≡ option_map_or (rest_of images) o []
 same_rest images None = refl
@@ -72,17 +80,54 @@ committing : (o : Option OpenPass) → option_map_or (λ (p : OpenPass). p.is_co
 committing None = refl
 committing (Some p) = refl
 
--- the commit of a pass that is ready keeps what holds
-abbrev pub CommitKeeps : (LogData → Memory → Picture → Type 0) → MasterData → Picture → Type 0
-CommitKeeps Holds d p =
-    is_ready d ≡ true → MayCommit (log_of d) (memory_of d) (commit_start (log_of d) (memory_of d))
-    → Holds (rolling (log_of d) (commit_start (log_of d) (memory_of d)))
-    (rolled (log_of d) (memory_of d) (commit_start (log_of d) (memory_of d)) true) p
+-- ---- a pass that is ready
 
-module _ {Holds : LogData → Memory → Picture → Type 0} (lasts : Lasts Holds) (d e : MasterData) (f : FleetState)
-    (answer : StepAnswer) (kept : IsKeptAs Holds d f) (commit : CommitKeeps Holds d kept.before)
+module _ (d : MasterData) (core : IsCore d) (p : IsPlaced d) where
+  -- it is at its end
+  done_by : (o : Option OpenPass) → d.pass ≡ o → option_map_or is_ready_pass o false ≡ true → rest_now d ≡ []
+  done_by None none ready = absurd (cc)
+  done_by (Some q) opened ready =
+      ap (λ (o : Option OpenPass). option_map_or (rest_of (images_in d.closed)) o []) opened
+      ∙ none_left d core q opened (and_parts (is_at_end q) _ ready).0
+
+  -- each survivor is sealed whole
+  sealed_by : (o : Option OpenPass) → d.pass ≡ o → option_map_or is_ready_pass o false ≡ true → (s : ℕ)
+      → IsAmong s (survivors_of o)
+      → option_map_or (λ (q : OpenPass). sealed_of d.config.replicas q.sealed q.survivors.first s) o 0
+      ≡ d.config.replicas
+  sealed_by None none ready s among = absurd (cc)
+  sealed_by (Some q) opened ready s among =
+      let all = eqb-true q.sealed.survivors q.survivors.count (and_parts (is_at_end q) _ ready).1 in
+      let within = among_ids q.survivors.first q.survivors.count s among in
+      let test : nat_lt (s - q.survivors.first) q.sealed.survivors ≡ true =
+      lt-ltb (s - q.survivors.first) q.sealed.survivors (omega (arith, all, within.0, within.1)) in
+      rw test refl
+
+  pub ready_pass : is_ready d ≡ true → IsReady (log_of d) (memory_of d)
+  ready_pass ready = record {
+    done = ap (map (entry_place d)) (done_by d.pass refl ready);
+    sealed = λ s among.
+        let whole = sealed_by d.pass refl ready s among in
+        let count = ap length (without_none (took_in d.ledger s) ∙ p.survivors s among)
+        ∙ placed_length d.config s (sealed_now d s) in
+        omega (arith, whole, count);
+  }
+
+-- the commit of a pass that is ready keeps what holds
+abbrev pub CommitKeeps : (FailData → FailMemory → FleetState → Type 0) → MasterData → FleetState → Type 0
+CommitKeeps Holds d f =
+    is_ready d ≡ true
+    → MayCommit (log_of d) (memory_of d) (commit_start (log_of d) (memory_of d))
+    (Rolls (commit_start (log_of d) (memory_of d)))
+    → IsWholeText d.config.master d.next (bare (commit_start (log_of d) (memory_of d)))
+    → Holds (rolling (log_of d) (commit_start (log_of d) (memory_of d))
+    (Rolls (commit_start (log_of d) (memory_of d))))
+    (rolled (log_of d) (memory_of d) (commit_start (log_of d) (memory_of d)) true) f
+
+module _ {Holds : FailData → FailMemory → FleetState → Type 0} (lasts : Lasts Holds) (d e : MasterData) (f : FleetState)
+    (answer : StepAnswer) (kept : IsKeptAs Holds d f) (commit : CommitKeeps Holds d f)
     (is : BeginsRoll d answer e) (may : MayRollNow d) (core : IsCore e) where
-  abbrev m : Memory
+  abbrev m : FailMemory
   m = memory_of d
 
   -- ---- the next head
@@ -112,33 +157,52 @@ module _ {Holds : LogData → Memory → Picture → Type 0} (lasts : Lasts Hold
   roll_id : roll.id ≡ d.next
   roll_id = start_id (is_ready d)
 
+  opened : is_opened d.head ≡ true
+  opened = open_opened d.head may.opened
+
   -- it begins with what the log says
   start_same : start_now d ≡ n
-  start_same =
-      same_Some (start_now d) n
-      (ap Some (sym (start_is d.config.master (start_now d) (start_has d))) ∙ sym (new_now (rolling_data d) roll refl)
-      ∙ ap (λ (x : MasterData). new_of (phase_of x.head)) (sym is.rest) ∙ ap (λ (l : LogData). new_of l.phase) is.log)
-
-  running : d.is_halted ≡ false
-  running = (may_begin d is.passed).running
+  start_same = next_is d kept.core opened
 
   none : d.head.roll ≡ None
-  none = (open_parts d.head (may_begin d is.passed).opened).1
+  none = (open_parts d.head may.opened).1
+
+  -- there is a head
+  real : (log_of d).head.start.id ≡ 0 → ⊥
+  real none = start_real d kept.core
+      (sym (ap (λ (h : FailHead). h.start.id) (force_opened d.config.format d.head opened)) ∙ none)
 
   -- ---- the model
 
-  abbrev then_memory : Memory
+  abbrev then_memory : FailMemory
   then_memory = rolled (log_of d) m n (is_ready d)
 
-  rolled_by : (t : Bool) → is_ready d ≡ t → Holds (rolling (log_of d) (next_of t))
-      (rolled (log_of d) m (next_of t) t) kept.before
-  rolled_by true ready =
-      commit ready
-      (subst (λ (t : Bool). MayCommit (log_of d) m (next_of t)) ready (may.0 ready))
-  rolled_by false unready = lasts.roll (log_of d) m kept.before kept.holds (may.1 unready)
+  abbrev IsHead : Bool → Type 0
+  IsHead t = IsWholeText d.config.master (next_of t).id (bare (next_of t))
 
-  rolled_holds : Holds (log_of e) then_memory kept.before
-  rolled_holds = subst (λ (l : LogData). Holds l then_memory kept.before) (sym is.log) (rolled_by (is_ready d) refl)
+  whole : IsHead (is_ready d)
+  whole = record { segment_is = may.opening.segment; limit = may.opening.limit }
+
+  rolled_by : (t : Bool) → is_ready d ≡ t → Holds (rolling (log_of d) (next_of t) (Rolls (next_of t)))
+      (rolled (log_of d) m (next_of t) t) f
+  rolled_by true ready =
+      commit ready (record {
+        may = inl (open_calm d.head may.opened, refl);
+        real = real;
+        ready = ready_pass d kept.core kept.placed ready;
+        commit = subst (λ (t : Bool). IsCommit (log_of d).head.start m.pass (next_of t)) ready (may.commit ready);
+        next = refl;
+        lens = refl;
+        safe = refl;
+      }) (subst IsHead ready whole)
+  rolled_by false unready =
+      lasts.roll (log_of d) m f (Rolls (next_start (log_of d))) kept.holds (record {
+        may = inl (open_calm d.head may.opened, refl);
+        some = λ none. absurd (real none);
+      }) (subst IsHead unready whole)
+
+  rolled_holds : Holds (log_of e) then_memory f
+  rolled_holds = subst (λ (l : FailData). Holds l then_memory f) (sym is.log) (rolled_by (is_ready d) refl)
 
   -- ---- images
 
@@ -170,9 +234,7 @@ module _ {Holds : LogData → Memory → Picture → Type 0} (lasts : Lasts Hold
           victims = same_victims d.pass i;
           survivors = same_survivors d.pass i;
         });
-    sealed = λ s. ap (λ (x : MasterData). (memory_of x).sealed s) is.rest ∙ same_sealed d.config.replicas s d.pass;
-    waiting = ap (λ (x : MasterData). x.waiting) is.rest;
-    freed = ap (λ (x : MasterData). x.freed) is.rest;
+    waiting = ap (λ (x : MasterData). (memory_of x).waiting) is.rest;
     rest = ap rest_now is.rest ∙ same_rest (images_in d.closed) d.pass;
     victims = λ s victim.
         others_same s (λ own. (let lt = victim_below d kept.core s victim in let used = kept.core.used in omega arith));
@@ -209,13 +271,34 @@ module _ {Holds : LogData → Memory → Picture → Type 0} (lasts : Lasts Hold
 
   pub rolled_kept_as : IsKeptAs Holds e f
   rolled_kept_as =
-      unhanded_kept d e f kept running core (ap (λ (x : MasterData). x.config) is.rest)
-      leaves.waiting (own_holds lasts e core then_memory kept.before rolled_holds model)
+      unhanded_kept d e f kept core
+      (subst IsPlaced (sym is.rest) (placed_rolling d kept.core kept.placed none (start_id (is_ready d))))
+      (ap (λ (x : MasterData). x.config) is.rest) (ap (λ (x : MasterData). x.waiting) is.rest)
+      (own_holds lasts e core then_memory f rolled_holds model)
 
-pub rolled_kept : (d e : MasterData) (f : FleetState) (answer : StepAnswer) → IsWellKept d f → BeginsRoll d answer e
-    → MayRollNow d → IsCore e
-    → IsWellKept e f
-rolled_kept d e f answer kept is may core =
-    rolled_kept_as intact_lasts d e f answer kept
-    (λ ready now. commit_keeps (log_of d) (memory_of d) kept.before
-    (commit_start (log_of d) (memory_of d)) kept.holds now) is may core
+-- ---- of a master, and of one that is loading
+
+module _ (d e : MasterData) (f : FleetState) (answer : StepAnswer) (is : BeginsRoll d answer e) (may : MayRollNow d)
+    (core : IsCore e) where
+  running : d.is_halted ≡ false
+  running = (may_begin d is.passed).running
+
+  pub rolled_kept : IsWellKept d f → IsWellKept e f
+  rolled_kept kept =
+      well_kept e f (rolled_kept_as all_lasts d e f answer (kept_as d f kept running)
+      (λ ready now whole. commit_holds_all (log_of d) (memory_of d) f (commit_start (log_of d) (memory_of d))
+      (Rolls (commit_start (log_of d) (memory_of d))) (kept.known running) now whole) is may core)
+
+  -- one that is loading has no pass to commit
+  unready : IsBare d → is_ready d ≡ true → ⊥
+  unready bare ready =
+      let never : false ≡ true = sym (ap (λ (o : Option OpenPass). option_map_or is_ready_pass o false) bare.pass)
+      ∙ ready in
+      cc
+
+  pub rolled_loaded : IsWellLoaded d f → IsWellLoaded e f
+  rolled_loaded loaded =
+      well_loaded e f (rolled_kept_as loading_lasts d e f answer (loaded_as d f loaded running)
+      (λ ready now whole. absurd (unready loaded.bare ready)) is may core)
+      (subst IsBare (sym is.rest) (rolling_bare d loaded.bare))
+      (ap (λ (x : MasterData). x.is_halted) is.rest ∙ running)

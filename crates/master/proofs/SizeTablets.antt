@@ -1,7 +1,6 @@
 -- The sizes of a master's live objects lie in its tablets.
-use Rattle.std.proofs.Common.{◌≡◌, ℕ, true, List, [], ◌∷◌, length, map, refl, sym, ap, subst, ◌∙◌, ◌⊎◌, inl, inr, Bool}
-use Rattle.std.proofs.Common.{arith}
-use Rattle.std.specs.Prelude.{Some, None, Result, Ok, Err, IfOk, filter}
+use Rattle.std.proofs.Common.{◌≡◌, ℕ, true, false, List, [], ◌∷◌, map, refl, sym, ap, subst, ◌∙◌, ◌⊎◌, inl, inr, Bool}
+use Rattle.std.specs.Prelude.{Some, None, Result, Ok, Err, IfOk}
 use Rattle.std.specs.List.{list_all}
 use Rattle.std.proofs.lemmas.Bool.{and_from}
 use Rattle.std.proofs.lemmas.List.Sorted.{IsPermutation-sym}
@@ -10,59 +9,56 @@ use Rattle.entry.specs.declared.key.Key.{Key}
 use Rattle.entry.specs.declared.tablet.Size.{Size}
 use Rattle.entry.specs.declared.tablet.Tablet.{Tablet}
 use Rattle.entry.specs.Bag.{IsAmong}
-use Rattle.entry.specs.Meaning.{Versioned, Contents, versioned, object_at, contents_of}
+use Rattle.entry.specs.declared.entry.Entry.{Entry}
+use Rattle.entry.specs.Meaning.{IsOfKey, Versioned, Contents, versioned, object_at, contents_of}
 use Rattle.entry.specs.Tablet.{have_key}
-use Rattle.entry.specs.Text.{is_data}
-use Rattle.entry.proofs.BagLemmas.{among_permutation, among_images, among_left}
-use Rattle.replica.specs.Picture.{Picture, FleetState}
+use Rattle.entry.proofs.BagLemmas.{among_permutation, among_images}
+use Rattle.replica.specs.Picture.{FleetState}
 use Rattle.tablet_will.specs.Parts.{is_in_one}
 use Rattle.tablet_will.specs.Sizes.{are_in_order, are_sizes}
-use Rattle.log_model.specs.Data.{LogData, ids_of, state_of, state_after, front_entries}
-use Rattle.log_model.specs.Kept.{IsKept}
-use Rattle.log_model.specs.Log.{AreOfTablets, base_of}
-use Rattle.log_model.proofs.Counts.{before_end}
-use Rattle.log_model.proofs.Fronts.{after_all}
-use Rattle.log_model.proofs.Lists.{among_data}
-use Rattle.log_model.proofs.Replicas.{digest_is_whole, head_segment}
-use Rattle.log_model.proofs.Segments.{both_of_tablets, front_data}
+use Rattle.log_model.specs.Ids.{has}
+use Rattle.clean_model.proofs.KeptEntries.{is_has, has_is}
+use Rattle.clean_model.proofs.Lists.{among_at}
+use Rattle.failover_model.specs.Data.{FailData, state_of}
+use Rattle.failover_clean.specs.Fleet.{read_of, KeepsAll}
+use Rattle.failover_clean.specs.Intact.{IsIntact}
+use Rattle.failover_clean.specs.Memory.{FailMemory, log_ids}
 use Rattle.master_state.specs.Data.{MasterData}
-use Rattle.master_state.specs.Log.{log_of, state_now}
+use Rattle.master_state.specs.Log.{log_of, memory_of, state_now}
 use Rattle.master_state.specs.Sizes.{size_of, AreSizesOf}
 use Rattle.master_space.proofs.LiveObjects.{IsAway, key_among}
 use Rattle.master.specs.Invariant.{IsWellKept}
 
 -- ---- the keys of the map
 
-module _ (d : LogData) (p : Picture) (kept : IsKept d p) where
-  base_keys : (ids : List ℕ) → ((s : ℕ) → IsAmong s ids → IsAmong s (ids_of d.head.start))
-      → AreOfTablets d.config (base_of kept.texts ids)
-  base_keys [] listed = λ e k m at. absurd m
-  base_keys (s ∷ ids) listed =
-      both_of_tablets d.config (filter is_data (kept.texts s)) (base_of kept.texts ids)
-      (λ e k m at. (digest_is_whole d kept.texts p s kept.held (listed s (inl refl))).keys e k
-      (among_data e (kept.texts s) m) at)
-      (base_keys ids (λ t m. listed t (inr m)))
+module _ (d : FailData) (m : FailMemory) (f : FleetState) (keeps : KeepsAll d m f) where
+  abbrev i : IsIntact d m (read_of d f)
+  i = keeps.intact
 
-  abbrev units : ℕ
-  units = length d.head.units
+  -- what an image has of a key its text has, which has keys of the tablets alone; a survivor's is a victim's
+  image_key : (s : ℕ) (e : Entry) (k : Key) → IsAmong s (log_ids d m) → (IsAmong s m.pass.survivors → ⊥) → IsOfKey k e
+      → IsAmong e (m.images s) → have_key d.config.tablets k ≡ true
+  image_key s e k counts no_survivor at among =
+      i.log.held.logged.keys s (i.log.texts.text s).entries (inl refl) e k
+      (i.around.texted s e k counts no_survivor at among) at
 
-  head_keys : AreOfTablets d.config (front_entries d.head units)
-  head_keys =
-      subst (AreOfTablets d.config)
-      (ap (filter is_data) kept.held.logged.head.text
-      ∙ front_data d.config d.head units (head_segment d kept.texts p kept.held units))
-      (λ e k m at. kept.held.logged.head.segment.keys e k (among_data e (kept.texts d.head.start.id) m) at)
+  any_key : (s : ℕ) (e : Entry) (k : Key) → IsAmong s (log_ids d m) → IsOfKey k e → IsAmong e (m.images s)
+      → have_key d.config.tablets k ≡ true
+  any_key s e k counts at among = go (has m.pass.survivors s) refl where
+    go : (t : Bool) → has m.pass.survivors s ≡ t → have_key d.config.tablets k ≡ true
+    go true is =
+        let there = i.passing.copies s e k (is_has m.pass.survivors s is) among at in
+        image_key there.0 e k (i.passing.victims_count there.0 there.1.counts)
+        (λ survivor. i.passing.disjoint there.0 survivor there.1.counts) at there.1.among
+    go false is = image_key s e k counts
+        (λ survivor. (let never = sym (has_is m.pass.survivors s survivor) ∙ is in cc)) at among
 
   -- each key of the map is of the master's tablets
   pub map_keys : (k : Key) (x : Versioned) → (state_of d).contents k ≡ Some x → have_key d.config.tablets k ≡ true
   map_keys k x has =
-      let count = before_end d.head.units (length d.history) units (omega arith) in
-      let now : state_after d (length d.history) ≡ state_of d = after_all d in
-      let stands = kept.standing.fronts units (omega arith) in
-      let there = (ap (λ (n : ℕ). (state_after d n).contents k) count ∙ ap (λ st. st.contents k) now) ∙ has in
-      both_of_tablets d.config (base_of kept.texts d.head.start.others) (front_entries d.head units)
-      (base_keys d.head.start.others (λ s m. among_left s d.head.start.others (d.head.start.id ∷ []) m)) head_keys
-      (object_at k x) k ((stands.meaning k x).0 there).held refl
+      let there = i.tracked.found k x has in
+      any_key there.place.segment (object_at k x) k there.counts refl
+      (among_at (m.images there.place.segment) there.place.position (object_at k x) there.stands)
 
 -- ---- sizes
 
@@ -103,5 +99,5 @@ pub in_tablets : {V E : Type 0} (items : V → List Size) (d : MasterData) (f : 
     → IfOk r (λ (v : V). AreSizesOf (state_now d).contents (items v))
     → IfOk r (λ (v : V). are_sizes d.config.tablets (items v) ≡ true)
 in_tablets items d f kept (Ok v) are =
-    sizes_are d.config.tablets (state_now d).contents (map_keys (log_of d) kept.before kept.holds.log) (items v) are
+    sizes_are d.config.tablets (state_now d).contents (map_keys (log_of d) (memory_of d) f kept.kept) (items v) are
 in_tablets items d f kept (Err e) are = tt

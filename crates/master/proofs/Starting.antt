@@ -1,80 +1,101 @@
 -- A new master is kept.
-use Rattle.std.proofs.Common.{◌≡◌, ℕ, ◌≤◌, inl, inr, [], refl, sym, ap, subst}
+use Rattle.std.proofs.Common.{◌≡◌, ℕ, ◌≤◌, inl, inr, refl}
+use Rattle.std.proofs.Common.{sym, ap, subst}
 use Rattle.std.specs.Prelude.{None}
+use Rattle.std.specs.Option.{option_map}
+use Rattle.std.proofs.lemmas.Option.{same_Some}
 use Rattle.entry.specs.Bag.{IsAmong}
 use Rattle.replica.specs.Picture.{FleetState}
-use Rattle.log_head.proofs.HeadLog.{head_is, image_fresh}
-use Rattle.log_head.specs.Steps.{fresh_head}
-use Rattle.log_model.specs.Data.{Ready, LogData, start_entries}
-use Rattle.log_model.specs.Steps.{first_start, fresh}
-use Rattle.clean_model.specs.Intact.{IsIntact}
-use Rattle.clean_model.specs.Memory.{log_ids}
-use Rattle.clean_model.specs.Steps.{first_memory}
-use Rattle.clean_model.proofs.NewMaster.{fresh_is_intact}
+use Rattle.log_model.specs.Data.{Start, start_entries}
+use Rattle.failover_model.specs.Data.{bare, FailData, IsNew}
+use Rattle.failover_model.specs.Steps.{restored, restored_start, MayBegin}
+use Rattle.failover_bytes.specs.Runs.{read_fleet}
+use Rattle.failover_bytes.specs.Segments.{HeadsAreSegments}
+use Rattle.failover_bytes.specs.Spelled.{read_replica}
+use Rattle.failover_bytes.specs.Text.{IsWholeText}
+use Rattle.failover_clean.specs.Fleet.{HoldsAll}
+use Rattle.failover_clean.specs.Memory.{log_ids}
+use Rattle.failover_clean.specs.Steps.{first_memory}
+use Rattle.failover_clean.proofs.FleetSteps.{fresh_holds_all}
 use Rattle.master_state.specs.declared.config.Config.{Config}
 use Rattle.master_state.specs.Config.{config_fault}
 use Rattle.master_state.specs.Data.{fresh_data}
 use Rattle.master_state.specs.Invariant.{IsCore}
-use Rattle.master_state.specs.Log.{log_config, opening_of, log_of, images_of}
-use Rattle.master_state.proofs.Beginning.{lone_has}
+use Rattle.master_state.specs.Loading.{restored_data}
+use Rattle.master_state.specs.Log.{fail_config, log_of, images_of}
+use Rattle.master_state.proofs.Beginning.{restored_log}
+use Rattle.master_state.proofs.Refusals.{has_homes}
 use Rattle.master.specs.Invariant.{IsWellKept}
 use Rattle.master.specs.Registry.{IsUnraised}
-use Rattle.master.proofs.Models.{IsModel, own_intact}
-use Rattle.master.proofs.Placing.{placed}
+use Rattle.master.proofs.HeadTexts.{none_whole}
+use Rattle.master.proofs.Lasting.{well_kept}
+use Rattle.master.proofs.Models.{IsModel, own_holds_all}
+use Rattle.master.proofs.Placements.{placed_restored}
 
-module _ (c : Config) (f : FleetState) (ok : config_fault c ≡ None) (core : IsCore (fresh_data c)) where
-  log_fresh : log_of (fresh_data c) ≡ fresh (log_config c)
-  log_fresh =
-      let same = head_is c.master (fresh_head c.master c.replicas (first_start c.format)) _
-      (image_fresh c.master c.replicas (first_start c.format) (lone_has c.format 1)) core.head.segment in
-      λ i. record {
-        config = log_config c;
-        opening = opening_of (fresh_data c);
-        history = [];
-        head = same i;
-        phase = Ready;
-        next = 2;
-      }
+-- ---- its heads are segments
 
-  image_at : (s : ℕ) → IsAmong s (log_ids (log_of (fresh_data c)) (first_memory (log_config c)))
-      → images_of (fresh_data c) s ≡ start_entries c.master (first_start c.format)
+module _ (c : Config) (safe : ℕ) (core : IsCore (restored_data c safe)) where
+  first_whole : IsWholeText c.master 1 (bare (restored_start c.format safe))
+  first_whole = record { segment_is = core.head.segment; limit = core.head.limit }
+
+  pub first_heads : HeadsAreSegments c.master (restored (fail_config c) safe)
+  first_heads = record {
+    head = none_whole c.master c.format core.head.segment.each.0.master;
+    new = new;
+  } where
+    new : (n : Start) → IsNew (restored (fail_config c) safe) n → IsWholeText c.master n.id (bare n)
+    new n (inl is) = subst (λ (m : Start). IsWholeText c.master m.id (bare m))
+        (same_Some (restored_start c.format safe) n is) first_whole
+    new n (inr never) = absurd never
+
+-- ---- nothing is held of it
+
+pub may_begin : (c : Config) (f : FleetState) → config_fault c ≡ None → ((b s : ℕ) → f.picture b c.master s ≡ None)
+    → IsUnraised c.master f → MayBegin (fail_config c) (read_fleet c.master f)
+may_begin c f ok nothing least = record {
+  some = (has_homes c ok).some;
+  nothing = λ b s. ap (option_map read_replica) (nothing b s);
+  least = least;
+}
+
+-- ---- its memory is the model's
+
+module _ (c : Config) (safe : ℕ) (log : log_of (restored_data c safe) ≡ restored (fail_config c) safe) where
+  image_at : (s : ℕ) → IsAmong s (log_ids (log_of (restored_data c safe)) (first_memory (fail_config c) safe))
+      → images_of (restored_data c safe) s ≡ start_entries c.master (restored_start c.format safe)
   image_at s among =
-      elim (subst (λ (l : LogData). IsAmong s (log_ids l (first_memory (log_config c)))) log_fresh among)
-      as (λ _. images_of (fresh_data c) s ≡ start_entries c.master (first_start c.format)) [
-        | inl is ↦ sym (ap (images_of (fresh_data c)) is)
+      elim (subst (λ (l : FailData). IsAmong s (log_ids l (first_memory (fail_config c) safe))) log among)
+      as (λ _. images_of (restored_data c safe) s ≡ start_entries c.master (restored_start c.format safe)) [
+        | inl is ↦ sym (ap (images_of (restored_data c safe)) is)
         | inr none ↦ absurd none
       ]
 
-  model : IsModel (fresh_data c) (first_memory (log_config c))
-  model = record {
+  pub first_model : IsModel (restored_data c safe) (first_memory (fail_config c) safe)
+  first_model = record {
     pass = refl;
     images = image_at;
     behind = λ k q r found indexed victim survivor. victim;
     carried = λ p t victim stands named i. absurd victim;
     done = λ none. refl;
-    sealed = λ s survivor. absurd survivor;
     commits = refl;
-    waiting = λ s waits. waits;
-    freed = λ s waits. absurd waits;
+    waiting = λ w waits. absurd waits;
   }
 
-  pub fresh_kept : c.backups ≤ f.backups → ((b s : ℕ) → f.picture b c.master s ≡ None) → IsUnraised c.master f
-      → IsWellKept (fresh_data c) f
-  fresh_kept backups nothing least = record {
-    core = core;
-    before = f.picture;
-    holds = own_intact (fresh_data c) core (first_memory (log_config c)) f.picture
-        (subst (λ (l : LogData). IsIntact l (first_memory (log_config c)) f.picture) (sym log_fresh)
-        (fresh_is_intact (log_config c) f.picture
-        (record {
-          placed = placed c ok;
-          segment = core.head.segment;
-          limit = core.head.limit;
-          nothing = nothing;
-        }))) model;
-    backups = backups;
-    least = least;
-    now = inl refl;
-    running = λ going. refl;
-    apart = tt;
-  }
+-- ---- it is kept
+
+pub fresh_kept : (c : Config) (f : FleetState) → config_fault c ≡ None → IsCore (fresh_data c)
+    → c.backups ≤ f.backups → ((b s : ℕ) → f.picture b c.master s ≡ None) → IsUnraised c.master f
+    → IsWellKept (fresh_data c) f
+fresh_kept c f ok core backups nothing least =
+    let log = restored_log c 1 core.head ok in
+    well_kept (fresh_data c) f (record {
+      core = core;
+      placed = placed_restored c 1 ok core;
+      holds = own_holds_all (fresh_data c) core (first_memory (fail_config c) 1) f
+          (subst (λ (l : FailData). HoldsAll l (first_memory (fail_config c) 1) f) (sym log)
+          (fresh_holds_all (fail_config c) f (may_begin c f ok nothing least) (first_heads c 1 core)))
+          (first_model c 1 log);
+      backups = backups;
+      least = least;
+      apart = tt;
+    })

@@ -3,17 +3,15 @@ use Rattle.std.proofs.Common.{◌≡◌, ℕ, ◌<◌, true, [], ◌∷◌, sym,
 use Rattle.std.specs.Prelude.{Option, Some, None, IfSome}
 use Rattle.cleaner.specs.declared.pass.Pass.{Pass as OpenPass}
 use Rattle.entry.specs.Bag.{IsAmong}
-use Rattle.entry.proofs.BagLemmas.{among_left}
+use Rattle.entry.proofs.BagLemmas.{among_left, among_last}
 use Rattle.entry.proofs.ListLemmas.{all_among}
 use Rattle.log_head.specs.Log.{head_of}
 use Rattle.log_model.specs.Data.{ids_of}
 use Rattle.log_model.specs.Ids.{has}
 use Rattle.clean_model.proofs.KeptEntries.{has_is, is_has}
-use Rattle.clean_model.proofs.LogSetIds.{head_in}
 use Rattle.master_state.specs.Budget.{victims_of, survivors_of}
 use Rattle.master_state.specs.Data.{MasterData}
 use Rattle.master_state.specs.Invariant.{IsCore, IsOpenPass}
-use Rattle.master_state.specs.Log.{log_of}
 
 module _ (d : MasterData) (core : IsCore d) (s : ℕ) where
   in_others : (o : Option OpenPass) → IfSome o (IsOpenPass d) → IsAmong s (victims_of o)
@@ -48,7 +46,8 @@ module _ (d : MasterData) (core : IsCore d) (s : ℕ) where
   pub survivor_no_head : IsAmong s (survivors_of d.pass) → s ≡ d.head.id → ⊥
   survivor_no_head survivor own =
       survivor_outside survivor
-      (subst (λ (z : ℕ). IsAmong z (ids_of (head_of d.head).start)) (core.image.id ∙ sym own) (head_in (log_of d)))
+      (subst (λ (z : ℕ). IsAmong z (ids_of (head_of d.head).start)) (core.image.id ∙ sym own)
+      (among_last (head_of d.head).start.others (head_of d.head).start.id))
 
 -- no victim is a survivor
 pub never_both : (d : MasterData) (core : IsCore d) (s : ℕ) → IsAmong s (victims_of d.pass)

@@ -1,6 +1,6 @@
 -- What steps keep, whatever they answer. They make at most so many takes.
 use Rattle.std.specs.Prelude.{◌≡◌, ℕ, ◌+◌, ◌≤◌, List, ◌++◌}
-use Rattle.log_model.specs.Data.{durable_of}
+use Rattle.failover_model.specs.Data.{durable_of}
 use Rattle.versioned_map.specs.declared.command.Record.{Record}
 use Rattle.master_state.specs.Log.{log_of}
 use Rattle.master.specs.World.{World}

@@ -6,5 +6,6 @@ pub mod Valid
 pub mod Steps
 pub mod Loading
 pub mod Registry
+pub mod Placed
 pub mod Invariant
 pub mod Shown

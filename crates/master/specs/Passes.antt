@@ -1,46 +1,51 @@
 -- The op that a seal or a free hands to a backup.
 use Rattle.std.specs.Prelude.{◌≡◌, ℕ, None, Some, slice_get}
-use Rattle.clean_model.specs.Steps.{seal_op, free_op}
-use Rattle.log_model.specs.Data.{IsHomeAt}
-use Rattle.log_model.specs.Ops.{LogOp, op_of}
-use Rattle.replica.specs.Take.{Takes}
+use Rattle.failover_model.specs.Shown.{Op}
+use Rattle.failover_bytes.specs.Ops.{TakesOp}
+use Rattle.failover_bytes.specs.Text.{entries_for}
+use Rattle.failover_clean.specs.Memory.{text_in}
+use Rattle.failover_clean.specs.Steps.{seal_op, free_op}
+use Rattle.master_state.specs.declared.ledger.Posting.TheVariants as posting
 use Rattle.master_state.specs.declared.step.StepAnswer.{StepAnswer}
 use Rattle.master_state.specs.declared.step.StepAnswer.TheVariants.{Sealed, Freed}
 use Rattle.master_state.specs.Causes.{seal_refusal, free_refusal}
 use Rattle.master_state.specs.Data.{MasterData}
-use Rattle.master_state.specs.Log.{log_of, memory_of}
+use Rattle.master_state.specs.Ledger.{posted}
+use Rattle.master_state.specs.Log.{home, images_of, memory_of}
 use Rattle.master_state.specs.Steps.{sealed_data, freed_data}
 use Rattle.master_state.specs.Waits.{next_seal}
 use Rattle.master.specs.World.{World}
 
 -- The op seals the next replica of the survivors of the open pass, which go one after the other: the survivor's image
 -- is written whole to the replica's home.
-pub record IsSealOp (d : MasterData) (o : LogOp) : Type 0 where
+pub record IsSealOp (d : MasterData) (o : Op) : Type 0 where
+  pub segment : ℕ
   pub replica : ℕ
-  pub next : next_seal d ≡ Some (o.segment, replica)
-  pub home : IsHomeAt (log_of d) o.segment replica o.backup
-  pub is : o ≡ seal_op (memory_of d) o.segment o.backup
+  pub next : next_seal d ≡ Some (segment, replica)
+  pub is : o ≡ seal_op (memory_of d) segment (home d.config segment replica)
+  pub whole : entries_for d.config.master segment (text_in (memory_of d) segment) ≡ images_of d segment
 
 -- A seal that is accepted: one op, which the fleet took.
 pub record Seals (old : World) (answer : StepAnswer) (new : World) : Type 0 where
-  pub op : LogOp
+  pub op : Op
   pub passed : seal_refusal old.knows ≡ None
   pub next : IsSealOp old.knows op
-  pub told : answer ≡ Sealed op.backup
-  pub rest : new.knows ≡ sealed_data old.knows
-  pub takes : Takes old.fleet op.backup (op_of old.knows.config.master op) new.fleet
+  pub told : answer ≡ Sealed (home old.knows.config next.segment next.replica)
+  pub rest : new.knows ≡ sealed_data (posted old.knows
+      (posting.Took next.segment (home old.knows.config next.segment next.replica)))
+  pub takes : TakesOp old.knows.config.master old.fleet op new.fleet
 
 -- The op frees the next replica of the first segment that waits.
-pub record IsFreeOp (d : MasterData) (o : LogOp) : Type 0 where
-  pub first : slice_get d.waiting 0 ≡ Some o.segment
-  pub home : IsHomeAt (log_of d) o.segment d.freed o.backup
-  pub is : o ≡ free_op o.segment o.backup
+pub record IsFreeOp (d : MasterData) (o : Op) : Type 0 where
+  pub segment : ℕ
+  pub first : slice_get d.waiting 0 ≡ Some segment
+  pub is : o ≡ free_op segment (home d.config segment d.freed)
 
 -- A free that is accepted: one op, which the fleet took.
 pub record Frees (old : World) (answer : StepAnswer) (new : World) : Type 0 where
-  pub op : LogOp
+  pub op : Op
   pub passed : free_refusal old.knows ≡ None
   pub next : IsFreeOp old.knows op
-  pub told : answer ≡ Freed op.segment op.backup
+  pub told : answer ≡ Freed next.segment (home old.knows.config next.segment old.knows.freed)
   pub rest : new.knows ≡ freed_data old.knows
-  pub takes : Takes old.fleet op.backup (op_of old.knows.config.master op) new.fleet
+  pub takes : TakesOp old.knows.config.master old.fleet op new.fleet

@@ -1,8 +1,8 @@
 -- What a step makes of a master and its fleet, and what many steps do.
 use Rattle.std.specs.Prelude.{◌≡◌, ◌⊎◌, ℕ, ◌<◌, ◌≤◌, Bool, true, false, List, [], ◌∷◌, Result, Ok, Err, Some, None}
-use Rattle.log_model.specs.Data.{durable_of}
-use Rattle.log_model.specs.Ops.{LogOp, op_of}
-use Rattle.replica.specs.Take.{Refuses}
+use Rattle.failover_model.specs.Data.{FailData, durable_of}
+use Rattle.failover_model.specs.Shown.{Op}
+use Rattle.failover_bytes.specs.Ops.{RefusesOp}
 use Rattle.replica.specs.declared.op.TakeFault.TheVariants as take_fault
 use Rattle.master_state.specs.declared.step.Refusal.{Refusal}
 use Rattle.master_state.specs.declared.step.Refusal.TheVariants as refusal
@@ -13,7 +13,6 @@ use Rattle.master_state.specs.declared.step.StepAnswer.{StepAnswer}
 use Rattle.master_state.specs.Causes.{command_refusal, roll_refusal, compact_refusal, push_refusal, clean_refusal}
 use Rattle.master_state.specs.Causes.{copy_refusal}
 use Rattle.master_state.specs.Causes.{seal_refusal, free_refusal}
-use Rattle.master_state.specs.Data.{MasterData}
 use Rattle.master_state.specs.Log.{log_of}
 use Rattle.master_state.specs.Steps.{Applies, BeginsRoll, Compacts, BeginsPass, Copies, halted}
 use Rattle.master.specs.Keeps.{Keeps}
@@ -39,17 +38,16 @@ Accepts old Free answer new = Frees old answer new
 -- ---- refused
 
 -- the take of an op like this failed; after a fault its op may have been taken, and the master stays halted
-abbrev pub FailsTake : (LogOp → Type 0) → World → Refusal → World → Type 0
+abbrev pub FailsTake : (Op → Type 0) → World → Refusal → World → Type 0
 FailsTake IsOp old refusal.NoMemory new = new ≡ old
 FailsTake IsOp old refusal.Spent new = (old.fleet.takes ≡ old.fleet.end) × (new ≡ old)
 FailsTake IsOp old refusal.Halted new = (new.knows ≡ halted old.knows)
-    × ((op : LogOp) × IsOp op
-    × Refuses old.fleet op.backup (op_of old.knows.config.master op) take_fault.Fault new.fleet)
+    × ((op : Op) × IsOp op × RefusesOp old.knows.config.master old.fleet op take_fault.Fault new.fleet)
 FailsTake IsOp old _ new = ⊥
 
 -- the op is the next one of a push
-abbrev pub IsPushOp : World → LogOp → Type 0
-IsPushOp old op = (answer : StepAnswer) × (e : MasterData) × IsNextOp (log_of old.knows) op answer (log_of e)
+abbrev pub IsPushOp : World → Op → Type 0
+IsPushOp old op = (answer : StepAnswer) × (e : FailData) × IsNextOp old.knows op answer e
 
 -- A refusal is the one of the first test that fails. If no test fails, it comes from memory or from the fleet. It
 -- changes nothing, except after a fault: then the master stays halted.

@@ -10,7 +10,7 @@ ghost use Rattle.master.specs.World.{world};
 
 use crate::master::Master;
 use entry::{NoMemory, Row, Size};
-use master_core::{Chooses, Cleans, Measures, Refusal, Step, StepAnswer};
+use master_core::{Chooses, Cleans, Measures, Posting, Refusal, Step, StepAnswer};
 use replica::{Act, Fleet, Op};
 
 impl<F: Fleet> Master<F> {
@@ -75,6 +75,7 @@ impl<F: Fleet> Master<F> {
         let backup = self.core.home(survivor, replica);
         match self.fleet.take(backup, &op) {
             Ok(()) => {
+                self.core.post(&Posting::Took(survivor, backup));
                 self.core.sealed();
                 Ok(StepAnswer::Sealed(backup))
             }

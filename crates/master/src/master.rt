@@ -4,7 +4,7 @@ ghost use Rattle.std.specs.Prelude.{List, ◌⊎◌, ◌≡◌, ◌≤◌, ◌<�
 ghost use Rattle.std.specs.Prelude.{OnOk, OnErr};
 ghost use Rattle.std.specs.Result.{result_err};
 ghost use Rattle.history.specs.View.{shown_command};
-ghost use Rattle.log_model.specs.Data.{durable_of};
+ghost use Rattle.failover_model.specs.Data.{durable_of};
 ghost use Rattle.master_state.specs.Causes.{command_refusal};
 ghost use Rattle.master_state.specs.Steps.{IsFound, reply_now};
 ghost use Rattle.master_state.specs.Config.{config_fault};

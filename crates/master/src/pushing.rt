@@ -70,6 +70,7 @@ fn hand<F: Fleet>(core: &mut Core, fleet: &mut F, next: Next) -> Result<StepAnsw
     let backup = core.home(segment, next.replica());
     match fleet.take(backup, &op) {
         Ok(()) => {
+            core.post_push(next, segment, backup);
             core.took(next);
             Ok(answer(next, backup, segment))
         }

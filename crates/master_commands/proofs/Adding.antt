@@ -1,7 +1,7 @@
 -- A command that no test refuses is added to a core.
 use Rattle.std.proofs.Common.{◌≡◌, ◌⊎◌, ℕ, ◌+◌, ◌≤◌, inl, inr, Bool, true, false, ◌==◌, List, [], ◌∷◌, ◌++◌, length}
 use Rattle.std.proofs.Common.{refl, sym, ap, subst, ◌∙◌, arith}
-use Rattle.std.specs.Prelude.{Option, Some, None, IfSome, IsSome, ◌<◌, sum_by, if◌then◌else◌}
+use Rattle.std.specs.Prelude.{Option, Some, None, IfSome, IsSome, ◌<◌, nat_le, sum_by, if◌then◌else◌}
 use Rattle.std.specs.Option.{option_map, option_map_or}
 use Rattle.std.proofs.lemmas.Bool.{eqb-true}
 use Rattle.versioned_map.specs.Represents.{unit_of}
@@ -11,7 +11,7 @@ use Rattle.entry.specs.declared.key.Key.{Key}
 use Rattle.entry.specs.declared.entry.Entry.{Entry}
 use Rattle.entry.specs.declared.entry.Entry.TheVariants as entry
 use Rattle.entry.specs.Bag.{IsAmong}
-use Rattle.entry.specs.Text.{text_of, IsSegment}
+use Rattle.entry.specs.Text.{text_of}
 use Rattle.entry.proofs.BagLemmas.{among_either}
 use Rattle.places.specs.declared.place.Held.{Held}
 use Rattle.places.specs.declared.place.Place.{Place}
@@ -29,13 +29,15 @@ use Rattle.versioned_map.specs.Versioned.{State, with_contents, replies, after, 
 use Rattle.versioned_map.proofs.Units.{states_pushed}
 use Rattle.log_head.specs.declared.head.Roll.{Roll}
 use Rattle.log_head.specs.Head.{HeadValue, IsHeadValue, is_open, digest_of}
-use Rattle.log_head.specs.Log.{head_of, phase_in, phase_of, IsImageOf}
+use Rattle.log_head.specs.Log.{head_of, IsImageOf}
 use Rattle.log_head.proofs.HeadLog.{head_is, image_with_unit}
 use Rattle.log_head.proofs.RollLog.{digest_is}
-use Rattle.log_model.specs.Data.{Head, Ready, ids_of}
+use Rattle.log_model.specs.Data.{Head, ids_of}
 use Rattle.log_model.specs.Ids.{all_inserted, without}
 use Rattle.log_model.specs.Log.{AreBelow}
-use Rattle.log_model.specs.Steps.{with_unit, applied, Fits, MayApply}
+use Rattle.log_model.specs.Steps.{with_unit}
+use Rattle.failover_model.specs.Data.{Calm}
+use Rattle.failover_model.specs.Steps.{applied}
 use Rattle.master_commands.specs.declared.change.Change.{Change}
 use Rattle.master_state.specs.declared.step.StepAnswer.TheVariants.{Applied}
 use Rattle.images.specs.Images.{count_of}
@@ -44,17 +46,20 @@ use Rattle.master_state.specs.Budget.{whole_seglets, seglets_of, head_seglets, u
 use Rattle.master_state.specs.Budget.{victims_of, survivors_of, is_committing}
 use Rattle.master_state.specs.Causes.{command_refusal, dead_segment, unit_now, is_empty}
 use Rattle.master_commands.specs.Change.{unit_of_change, safe_of_change, IsJudged, IsSought}
-use Rattle.master_state.specs.Steps.{appended, reply_now, record_now, Applies}
+use Rattle.master_state.specs.Steps.{appended, reply_now, record_now, Applies, Fits, MayApplyNow}
+use Rattle.master_state.specs.Ledger.{counts_in, shut_in, took_in}
 use Rattle.master_state.specs.Data.{MasterData}
 use Rattle.master_state.specs.Images.{images_among}
 use Rattle.compactor.specs.Places.{keys_in}
 use Rattle.master_state.specs.Index.{LiesFound}
-use Rattle.master_state.specs.Invariant.{IsIndex, IsRollOf, IsOpenPass, NameBelow, IsCore}
-use Rattle.master_state.specs.Log.{log_config, opening_of, log_of, state_now, held_now, images_of, find, log_set_ids}
+use Rattle.master_state.specs.Invariant.{IsIndex, IsFirst, IsRollOf, IsOpenPass, NameBelow, IsCore}
+use Rattle.master_state.specs.Log.{fail_config, opening_of, is_opened, in_force, mode_of, log_of, state_now, held_now}
+use Rattle.master_state.specs.Log.{images_of, find, log_set_ids}
 use Rattle.master_state.proofs.Finding.{each_among, index_of}
 use Rattle.master_state.proofs.Imaging.{same_id, head_images, appended_grow, appended_own, appended_other}
 use Rattle.master_state.proofs.Indexing.{Grow, Indexes}
 use Rattle.master_commands.proofs.Changes.{unit_names}
+use Rattle.master_commands.proofs.HeadsInForce.{open_opened, open_calm, mode_same, force_unit}
 use Rattle.master_commands.proofs.Indexed.{IsMovedBy, WasFound, was_found, given, command_at, goes_on, KeepsOthers}
 use Rattle.master_commands.proofs.Indexed.{keeps_others}
 use Rattle.master_state.proofs.Holding.{kept_again}
@@ -70,7 +75,7 @@ pub same_appended : (h : HeadValue) (n : ℕ) (u : List Entry)
 same_appended h n [] = (refl, refl, refl)
 same_appended h n (e ∷ es) = (refl, refl, refl)
 
-pub taken_appended : (h : HeadValue) (n : ℕ) (u : List Entry) → phase_of (appended h n u) ≡ phase_of h
+pub taken_appended : (h : HeadValue) (n : ℕ) (u : List Entry) → (appended h n u).taken ≡ h.taken
 taken_appended h n [] = refl
 taken_appended h n (e ∷ es) = refl
 
@@ -90,18 +95,12 @@ head_appended master h n (e ∷ es) is head =
     (head_of h) { units = with_unit (head_of h).units n (e ∷ es) }) more head.segment in
     (same, subst (λ (l : Head). IsImageOf master (appended h n (e ∷ es)) l) (sym same) more)
 
-pub ready_open : (h : HeadValue) → is_open h ≡ true → phase_of h ≡ Ready
-ready_open h opened = ap (λ (o : Option Roll). option_map_or (phase_in h.replicas) o Ready) (open_parts h opened).1
-
 -- it fits
-pub fits_then : (d : MasterData) (n : ℕ) (u : List Entry) → IsCore d → (is_empty u ≡ false → is_open d.head ≡ true)
-    → IsHeadValue (appended d.head n u) → (u ≡ []) ⊎ Fits (log_of d) u
-fits_then d n [] core opened head = inl refl
-fits_then d n (e ∷ es) core opened head = inr (record {
-  ready = ready_open d.head (opened refl);
-  segment = subst (λ (image : List Entry). IsSegment (image ++ (e ∷ es))) core.image.image head.segment;
-  limit = subst (λ (image : List Entry). length (text_of (image ++ (e ∷ es))) ≤ 8388608) core.image.image head.limit;
-})
+pub fits_then : (d : MasterData) (n : ℕ) (u : List Entry) → (is_empty u ≡ false → is_open d.head ≡ true)
+    → IsHeadValue (appended d.head n u) → (u ≡ []) ⊎ Fits d u
+fits_then d n [] opened head = inl refl
+fits_then d n (e ∷ es) opened head =
+    inr (record { opened = opened refl; segment = head.segment; limit = head.limit })
 
 -- a head with a unit that fits is within the segment
 pub within_then : (h : HeadValue) (n most : ℕ) (u : List Entry) → length (text_of h.image) ≤ most
@@ -182,6 +181,7 @@ module _ (d : MasterData) (core : IsCore d) (command : Command) (change : Change
       freed = d.freed;
       is_halted = d.is_halted;
       origin = d.origin;
+      ledger = d.ledger;
     }
 
     admitted : IsAdmitted d command
@@ -198,23 +198,57 @@ module _ (d : MasterData) (core : IsCore d) (command : Command) (change : Change
               (length d.history) u;
         }) unit_is
 
+    fits_now : (unit_now d command ≡ []) ⊎ Fits d (unit_now d command)
+    fits_now =
+        subst (λ (u : List Entry). (u ≡ []) ⊎ Fits d u) unit_is
+        (fits_then d (length d.history) unit
+        (λ some. unit_open d command passed (ap is_empty (sym unit_is) ∙ some)) head)
+
+    opened_then : is_opened added.head ≡ is_opened d.head
+    opened_then =
+        let same = (same_appended d.head (length d.history) unit).1 in
+        let taken = taken_appended d.head (length d.history) unit in
+        λ i. nat_le (same i) (length (taken i))
+
+    force_then : in_force d.config.format added.head ≡ record (in_force d.config.format d.head)
+        { units = with_unit (in_force d.config.format d.head).units (length d.history) (unit_now d command) }
+    force_then =
+        force_unit d.config.format (length d.history) (unit_now d command) d.head added.head opened_then head_then
+        (elim fits_now as (λ _. (unit_now d command ≡ []) ⊎ (is_opened d.head ≡ true)) [
+          | inl none ↦ inl none
+          | inr fits ↦ inr (open_opened d.head fits.opened)
+        ])
+
+    mode_then : mode_of added.head ≡ mode_of d.head
+    mode_then =
+        let same = same_appended d.head (length d.history) unit in
+        mode_same d.head added.head same.1 (taken_appended d.head (length d.history) unit) same.2
+        (ap (λ (l : Head). l.start) head_then)
+
     log_then : log_of added ≡ applied (log_of d) (dead_segment d command) (record_now d seat command)
     log_then = λ i. record {
-      config = log_config d.config;
+      config = fail_config d.config;
       opening = opening_of d;
       history = d.history ++ record_now d seat command ∷ [];
-      head = head_then i;
-      phase = taken_appended d.head (length d.history) unit i;
+      head = force_then i;
+      counts = counts_in d.ledger;
+      shut = shut_in d.ledger;
+      mode = mode_then i;
+      abandoned = [];
+      took = took_in d.ledger;
+      failed = [];
+      frozen = 0;
       next = d.next;
     }
 
-    pub may : MayApply (log_of d) (dead_segment d command) (record_now d seat command)
-    may = record {
-      key = admitted.key;
-      fits = subst (λ (u : List Entry). (u ≡ []) ⊎ Fits (log_of d) u) unit_is
-          (fits_then d (length d.history) unit core (λ some. unit_open d command passed
-          (ap is_empty (sym unit_is) ∙ some)) head);
-    }
+    calm_now : (unit_now d command ≡ []) ⊎ (mode_of d.head ≡ Calm)
+    calm_now = elim fits_now as (λ _. (unit_now d command ≡ []) ⊎ (mode_of d.head ≡ Calm)) [
+      | inl none ↦ inl none
+      | inr fits ↦ inr (open_calm d.head fits.opened)
+    ]
+
+    pub may : MayApplyNow d seat command
+    may = (record { key = admitted.key; calm = calm_now }, fits_now)
 
     -- ---- the history
 
@@ -407,6 +441,17 @@ module _ (d : MasterData) (core : IsCore d) (command : Command) (change : Change
           used = is.used;
         }
 
+    -- a head that is not opened takes no unit
+    first_then : is_opened added.head ≡ false → IsFirst added.head
+    first_then not =
+        let was = core.first (sym opened_then ∙ not) in
+        elim fits_now as (λ _. IsFirst added.head) [
+          | inl none ↦ subst (λ (u : List Entry). IsFirst (appended d.head (length d.history) u))
+              (sym (unit_is ∙ none)) was
+          | inr fits ↦ (let never : false ≡ true = sym not ∙ opened_then ∙ open_opened d.head fits.opened in
+              absurd (cc))
+        ]
+
     pub added_core : IsCore added
     added_core = record {
       config = core.config;
@@ -419,6 +464,8 @@ module _ (d : MasterData) (core : IsCore d) (command : Command) (change : Change
       closed = core.closed ∙ sym (ap (λ (l : Head). all_inserted (survivors_of d.pass) l.start.others) head_then);
       segments = core.segments;
       below = subst (λ (l : Head). AreBelow l.start) (sym head_then) core.below;
+      real = subst (λ (id : ℕ). 0 < id) (sym (same_appended d.head (length d.history) unit).0) core.real;
+      first = first_then;
       used = subst (λ (id : ℕ). id < d.next) (sym (same_appended d.head (length d.history) unit).0) core.used;
       next = core.next;
       roll = roll_then;

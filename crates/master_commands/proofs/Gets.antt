@@ -6,15 +6,14 @@ use Rattle.entry.specs.Meaning.{Versioned}
 use Rattle.versioned_map.specs.declared.command.Command.TheVariants.{Get}
 use Rattle.versioned_map.specs.declared.command.Record.{Record}
 use Rattle.versioned_map.specs.Versioned.{found}
-use Rattle.log_model.specs.Steps.{MayApply}
 use Rattle.master_commands.specs.declared.change.Change.TheVariants as change
 use Rattle.master_commands.specs.Change.{IsJudged}
 use Rattle.master_state.specs.declared.step.StepAnswer.TheVariants.{Applied}
 use Rattle.master_state.specs.Causes.{command_refusal, dead_segment}
 use Rattle.master_state.specs.Data.{MasterData}
 use Rattle.master_state.specs.Invariant.{IsCore}
-use Rattle.master_state.specs.Log.{log_of, held_now}
-use Rattle.master_state.specs.Steps.{reply_now, record_now, Applies}
+use Rattle.master_state.specs.Log.{held_now}
+use Rattle.master_state.specs.Steps.{reply_now, record_now, Applies, MayApplyNow}
 use Rattle.master_commands.proofs.Changes.{front_of_none}
 use Rattle.master_commands.proofs.Adding.{IsPlaced, may, added_core, added_applies}
 
@@ -53,6 +52,6 @@ module _ (d : MasterData) (core : IsCore d) (k : Key) (seat : ℕ) (passed : com
         (added_applies d core (Get k) change.Nothing (dead_segment d (Get k)) judged seat 0 d.index passed nowhere refl
         core.head)
 
-  pub read_may : MayApply (log_of d) (dead_segment d (Get k)) (record_now d seat (Get k))
+  pub read_may : MayApplyNow d seat (Get k)
   read_may =
       may d core (Get k) change.Nothing (dead_segment d (Get k)) judged seat 0 d.index passed nowhere refl core.head

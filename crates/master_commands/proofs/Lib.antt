@@ -1,6 +1,6 @@
 pub mod Changes
 pub mod Indexed
-pub mod AllPushed
+pub mod HeadsInForce
 pub mod Adding
 pub mod LoadedCore
 pub mod Found

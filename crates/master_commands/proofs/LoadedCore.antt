@@ -2,7 +2,7 @@
 use Rattle.std.proofs.Common.{◌≡◌, ◌⊎◌, ℕ, zero, suc, ◌+◌, ◌<◌, ◌≤◌, inl, inr, Bool, true, false, ◌==◌, List, [], ◌∷◌}
 use Rattle.std.proofs.Common.{◌++◌, length}
 use Rattle.std.proofs.Common.{refl, sym, ap, subst, ◌∙◌, arith}
-use Rattle.std.specs.Prelude.{◌&&◌, Option, Some, None, IfSome, not, sum_by, slice_get, if◌then◌else◌}
+use Rattle.std.specs.Prelude.{◌&&◌, Option, Some, None, IfSome, not, nat_le, sum_by, slice_get, if◌then◌else◌}
 use Rattle.std.specs.Option.{option_map, option_map_or}
 use Rattle.std.specs.List.{AllByRecursion}
 use Rattle.std.proofs.lemmas.Bool.{and_parts, not-false, eqb-true, leb-true}
@@ -10,7 +10,6 @@ use Rattle.std.proofs.lemmas.List.{append-nil}
 use Rattle.std.proofs.lemmas.Option.{same_Some}
 use Rattle.cleaner.specs.declared.pass.Pass.{Pass as OpenPass}
 use Rattle.cleaner.specs.Passes.{is_ready as is_ready_pass}
-use Rattle.clean_model.specs.Loading.{with_object, MayLoad}
 use Rattle.compactor.specs.Places.{IsAtPlace, keys_in}
 use Rattle.entry.specs.declared.key.Key.{Key}
 use Rattle.entry.specs.declared.entry.Object.{Object}
@@ -26,17 +25,20 @@ use Rattle.places.specs.declared.place.Place.{Place}
 use Rattle.places.specs.Map.{Places, found}
 use Rattle.images.specs.Images.{count_of}
 use Rattle.log_head.specs.declared.head.Roll.{Roll}
+use Rattle.log_head.specs.declared.head.UnitEnd.{UnitEnd}
 use Rattle.log_head.specs.Head.{HeadValue, IsHeadValue, is_open}
-use Rattle.log_head.specs.Log.{head_of, settled_head, phase_of, IsImageOf}
+use Rattle.log_head.specs.Log.{head_of, start_of, settled_head, units_from, IsImageOf}
 use Rattle.log_head.specs.declared.next.Next.{Next}
 use Rattle.log_head.specs.declared.next.Next.TheVariants as next
 use Rattle.log_head.specs.Steps.{with_unit_end, settled, with_new_replica, with_closed_replica, old_image}
+use Rattle.log_head.proofs.Rolls.{zeros_length}
 use Rattle.log_head.proofs.SettledLog.{settled_is, image_settled}
-use Rattle.log_model.specs.Adopt.{adopted}
-use Rattle.log_model.specs.Data.{Head, Ready, fewest}
+use Rattle.failover_model.specs.Data.{Calm, Rolls}
+use Rattle.failover_model.specs.Steps.{adopted}
+use Rattle.failover_clean.specs.Loading.{with_object}
+use Rattle.log_model.specs.Data.{Head, fewest}
 use Rattle.log_model.specs.Ids.{all_inserted}
 use Rattle.log_model.specs.Log.{AreBelow, IsWhole}
-use Rattle.log_model.specs.Steps.{Fits}
 use Rattle.log_model.proofs.Counts.{fewest_below}
 use Rattle.versioned_map.specs.declared.command.Record.{Record}
 use Rattle.versioned_map.specs.History.{commands_of, IsLegal}
@@ -48,13 +50,14 @@ use Rattle.master_state.specs.Causes.{has_room, is_pushed}
 use Rattle.master_state.specs.Data.{MasterData}
 use Rattle.master_state.specs.Images.{images_among, with_closed}
 use Rattle.master_state.specs.Index.{LiesFound}
-use Rattle.master_state.specs.Invariant.{IsIndex, IsRollOf, IsOpenPass, NameBelow, IsCore}
+use Rattle.master_state.specs.Invariant.{IsIndex, IsFirst, IsRollOf, IsOpenPass, NameBelow, IsCore}
 use Rattle.master_state.specs.Loading.{IsBare, loaded_unit, is_object_too_big, load_refusal, IsNewObject, origin_with}
-use Rattle.master_state.specs.Loading.{Loads, settled_data}
-use Rattle.master_state.specs.Steps.{rolling_data, closed_data, roll_ended, taken_data}
-use Rattle.master_state.specs.Log.{log_config, opening_of, log_of, state_now, images_of, find}
-use Rattle.master_commands.proofs.Adding.{head_appended, ready_open, fits_then, within_then, counts_then}
-use Rattle.master_commands.proofs.AllPushed.{unit_count}
+use Rattle.master_state.specs.Loading.{Loads, MayLoadNow, settled_data}
+use Rattle.master_state.specs.Ledger.{counts_in, shut_in, took_in}
+use Rattle.master_state.specs.Steps.{rolling_data, closed_data, roll_ended, taken_data, ledger_after, pushed_data}
+use Rattle.master_state.specs.Log.{fail_config, opening_of, is_opened, mode_of, log_of, state_now, images_of, find}
+use Rattle.master_commands.proofs.Adding.{head_appended, within_then, counts_then}
+use Rattle.master_commands.proofs.HeadsInForce.{open_opened, open_calm, mode_same, force_unit, force_settled}
 use Rattle.master_state.proofs.Finding.{each_among, index_of}
 use Rattle.master_state.proofs.Imaging.{same_id, head_images, appended_grow, appended_own, appended_other}
 use Rattle.master_state.proofs.Indexing.{Grow, Indexes}
@@ -121,26 +124,41 @@ module _ (d : MasterData) (core : IsCore d) (bare : IsBare d) (o : Object) (is_n
       × IsImageOf d.config.master loaded.head (head_of loaded.head)
   head_then = head_appended d.config.master d.head 0 unit core.image head
 
-  log_then : log_of loaded ≡ with_object (log_of d) o
-  log_then = λ i. record {
-    config = log_config d.config;
-    opening = opening_of loaded;
-    history = d.history;
-    head = head_then.0 i;
-    phase = phase_of d.head;
-    next = d.next;
-  }
+  opened : is_opened d.head ≡ true
+  opened = open_opened d.head admitted.opened
 
-  pub may_load : MayLoad (log_of d) o
-  may_load = record {
-    fits = fits_only (fits_then d 0 unit core (λ some. admitted.opened) head);
-    key = admitted.key;
-    absent = is_new.absent;
-    low = is_new.low;
-  } where
-    fits_only : (unit ≡ []) ⊎ Fits (log_of d) unit → Fits (log_of d) unit
-    fits_only (inl never) = absurd (cc)
-    fits_only (inr fits) = fits
+  log_then : log_of loaded ≡ with_object (log_of d) o
+  log_then =
+      let force = force_unit d.config.format 0 unit d.head loaded.head refl head_then.0 (inr opened) in
+      let mode = mode_same d.head loaded.head refl refl refl (ap (λ (l : Head). l.start) head_then.0) in
+      λ i. record {
+        config = fail_config d.config;
+        opening = opening_of loaded;
+        history = d.history;
+        head = force i;
+        counts = counts_in d.ledger;
+        shut = shut_in d.ledger;
+        mode = mode i;
+        abandoned = [];
+        took = took_in d.ledger;
+        failed = [];
+        frozen = 0;
+        next = d.next;
+      }
+
+  pub may_load : MayLoadNow d o
+  may_load = (
+    record {
+      calm = open_calm d.head admitted.opened;
+      key = admitted.key;
+      absent = is_new.absent;
+      low = is_new.low;
+    },
+    record { opened = admitted.opened; segment = head.segment; limit = head.limit },
+  )
+
+  first_then : is_opened loaded.head ≡ false → IsFirst loaded.head
+  first_then not = (let never : false ≡ true = sym not ∙ opened in absurd (cc))
 
   -- ---- the index
 
@@ -230,7 +248,9 @@ module _ (d : MasterData) (core : IsCore d) (bare : IsBare d) (o : Object) (is_n
     closed = core.closed ∙ sym (ap (λ (l : Head). all_inserted (survivors_of d.pass) l.start.others) head_then.0);
     segments = core.segments;
     below = subst (λ (l : Head). AreBelow l.start) (sym head_then.0) core.below;
+    real = core.real;
     used = core.used;
+    first = first_then;
     next = core.next;
     roll = subst (λ (r : Option Roll). IfSome r (IsRollOf loaded)) (sym none) tt;
     pass = subst (λ (p : Option OpenPass). IfSome p (IsOpenPass loaded)) (sym bare.pass) tt;
@@ -256,6 +276,11 @@ pushed_open h pushed =
     let both = and_parts (is_open h) (fewest (length h.units) h.taken == length h.units) pushed in
     (both.0, eqb-true (fewest (length h.units) h.taken) (length h.units) both.1)
 
+-- a unit for each end
+unit_count : (bytes : List ℕ) (from : ℕ) (ends : List UnitEnd) → length (units_from bytes from ends) ≡ length ends
+unit_count bytes from [] = refl
+unit_count bytes from (e ∷ es) = ap suc (unit_count bytes e.end es)
+
 -- each count is at most this one
 all_at : (units j n : ℕ) (ns : List ℕ) → AllByRecursion (λ m. m ≤ units) ns → slice_get ns j ≡ Some n → n ≤ units
 all_at units j n [] all is = absurd (cc)
@@ -277,11 +302,19 @@ module _ (d : MasterData) (core : IsCore d) (pushed : is_pushed d.head ≡ true)
         omega arith;
   }
 
-  pub pushed_ready : phase_of d.head ≡ Ready
-  pushed_ready = ready_open d.head (pushed_open d.head pushed).0
+  pub pushed_calm : mode_of d.head ≡ Calm
+  pushed_calm = open_calm d.head (pushed_open d.head pushed).0
+
+  -- it is as open as it was
+  opened_same : is_opened (settled d.head) ≡ is_opened d.head
+  opened_same = ap (nat_le d.head.replicas) (zeros_length (length d.head.taken))
 
   module _ (bare : IsBare d) (head : IsHeadValue (settled d.head)) where
-    pub settled_core : IsCore (settled_data d)
+    -- before that is posted
+    abbrev ended : MasterData
+    ended = record d { head = settled d.head }
+
+    pub settled_core : IsCore (record d { head = settled d.head })
     settled_core = record {
       config = core.config;
       replicas = core.replicas;
@@ -292,10 +325,13 @@ module _ (d : MasterData) (core : IsCore d) (pushed : is_pushed d.head ≡ true)
       closed = core.closed;
       segments = core.segments;
       below = core.below;
+      real = core.real;
       used = core.used;
+      first = λ not. let never : false ≡ true = sym not ∙ opened_same
+          ∙ open_opened d.head (pushed_open d.head pushed).0 in absurd (cc);
       next = core.next;
-      roll = subst (λ (r : Option Roll). IfSome r (IsRollOf (settled_data d))) (sym open_then.1) tt;
-      pass = subst (λ (p : Option OpenPass). IfSome p (IsOpenPass (settled_data d))) (sym bare.pass) tt;
+      roll = subst (λ (r : Option Roll). IfSome r (IsRollOf ended)) (sym open_then.1) tt;
+      pass = subst (λ (p : Option OpenPass). IfSome p (IsOpenPass ended)) (sym bare.pass) tt;
       named = core.named;
       freed = core.freed;
       budget = core.budget;
@@ -308,15 +344,30 @@ module _ (d : MasterData) (core : IsCore d) (pushed : is_pushed d.head ≡ true)
         settled_is d.config.master d.head (head_of d.head) core.image core.head.segment open_then.0
         ∙ ap (λ (n : ℕ). settled_head n (head_of d.head)) core.replicas
 
+    mode_settled : mode_of (settled d.head) ≡ mode_of d.head
+    mode_settled = λ i.
+        if opened_same i then option_map_or (λ (r : Roll). Rolls (start_of r)) d.head.roll Calm
+        else Rolls (head_of d.head).start
+
     pub settled_log : log_of (settled_data d) ≡ adopted (log_of d) (opening_of d)
-    settled_log = λ i. record {
-      config = log_config d.config;
-      opening = opening_of d;
-      history = bare.history i;
-      head = head_settled i;
-      phase = phase_of d.head;
-      next = d.next;
-    }
+    settled_log =
+        let force = force_settled d.config.format d.config.replicas d.head (settled d.head) opened_same
+        head_settled in
+        let mode = mode_settled in
+        λ i. record {
+          config = fail_config d.config;
+          opening = opening_of d;
+          history = bare.history i;
+          head = force i;
+          counts = λ b. 0;
+          shut = shut_in d.ledger;
+          mode = mode i;
+          abandoned = [];
+          took = took_in d.ledger;
+          failed = [];
+          frozen = 0;
+          next = d.next;
+        }
 
 -- ---- what goes on
 
@@ -328,7 +379,7 @@ rolling_bare d is = record {
   waiting = is.waiting;
 }
 
-pub taken_bare : (d : MasterData) → IsBare d → (push : Next) → IsBare (taken_data d push)
+taken_bare : (d : MasterData) → IsBare d → (push : Next) → IsBare (taken_data d push)
 taken_bare d is (next.OpenFirst j) = record { history = is.history; pass = is.pass; waiting = is.waiting }
 taken_bare d is (next.Extend j) = record { history = is.history; pass = is.pass; waiting = is.waiting }
 taken_bare d is (next.OpenNew j) = go d.head.roll where
@@ -348,3 +399,9 @@ taken_bare d is (next.CloseOld j) = go d.head.roll where
       closing (suc r.closed == d.head.replicas) d.pass
       (record d { head = with_closed_replica d.head r; closed = with_closed d.closed d.head.id (old_image d.head r) })
       is.pass (record { history = is.history; pass = is.pass; waiting = is.waiting })
+
+-- the op of a push is posted before it is counted
+pub pushed_bare : (d : MasterData) → IsBare d → (push : Next) → IsBare (pushed_data d push)
+pushed_bare d is push =
+    taken_bare (record d { ledger = ledger_after d push })
+    (record { history = is.history; pass = is.pass; waiting = is.waiting }) push

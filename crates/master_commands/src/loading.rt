@@ -17,7 +17,7 @@ ghost use Rattle.master_state.specs.Loading.{loaded_unit, is_object_too_big, loa
 use entry::{EntryRef, NoMemory, OBJECT_LEN, ObjectRef, TOMBSTONE_LEN};
 use hash_index::{Held, Index, Place};
 use log_head::Head;
-use master_state::{Core, Loaded, Refusal};
+use master_state::{Core, Loaded, Posting, Refusal};
 use segment::AppendFault;
 
 /// How a core is loaded before its history begins.
@@ -92,6 +92,7 @@ impl Loads for Core {
         ensures valid { IsCore self.new }
     {
         self.head.begin_history();
+        self.post(&Posting::Settled);
     }
 }
 

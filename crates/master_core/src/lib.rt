@@ -7,4 +7,6 @@ pub use cleaner::{PassFault, Survivors};
 pub use hash_index::Place;
 pub use master_commands::{Commands, Loads, loading_goes_on};
 pub use master_space::{Chooses, Cleans, Compacts, Measures, Rolls};
-pub use master_state::{Config, ConfigFault, Core, KeyHasher, Refusal, Secret, Step, StepAnswer};
+pub use master_state::{
+    Config, ConfigFault, Core, KeyHasher, Posting, Refusal, Secret, Step, StepAnswer,
+};

@@ -5,10 +5,8 @@ use Rattle.std.specs.Option.{option_map, option_map_or}
 use Rattle.std.proofs.lemmas.Bool.Decides.{leb_tells, nat_tests}
 use Rattle.log_head.specs.declared.head.UnitEnd.{UnitEnd}
 use Rattle.log_head.specs.Head.{everywhere, is_up_to, lacks_to}
-use Rattle.log_model.specs.Data.{durable_of}
 use Rattle.master_state.specs.Data.{MasterData}
-use Rattle.master_state.specs.Invariant.{IsCore}
-use Rattle.master_state.specs.Log.{log_of}
+use Rattle.master_state.specs.Log.{durable_now}
 use Rattle.master_state.proofs.Counted.{durable_is}
 
 none_not : {A : Type 0} (o : Option A) → is_none o ≡ not (is_some o)
@@ -29,10 +27,10 @@ before_first : (o : Option UnitEnd) (place all : ℕ) → place < all
 before_first None place all within = let test : nat_lt place all ≡ true = grind (within, arith, nat_tests) in sym test
 before_first (Some u) place all within = not_up_to u.number place
 
-pub none_durable : {A : Type 0} (d : MasterData) (core : IsCore d) (place : ℕ) (o : Option A)
+pub none_durable : {A : Type 0} (d : MasterData) (place : ℕ) (o : Option A)
     → place < length d.history → is_some o ≡ lacks_to d.head place
-    → is_none o ≡ nat_lt place (durable_of (log_of d))
-none_durable d core place o within lacks =
+    → is_none o ≡ nat_lt place (durable_now d)
+none_durable d place o within lacks =
     none_not o ∙ ap not lacks
     ∙ before_first (slice_get d.head.units (everywhere d.head)) place (length d.history) within
-    ∙ ap (nat_lt place) (durable_is d core)
+    ∙ ap (nat_lt place) (durable_is d)

@@ -176,7 +176,9 @@ module _ (d : MasterData) (core : IsCore d) (ids : List ℕ) (lens : Option (Lis
     closed = core.closed ∙ (λ i. all_inserted (sym same i) (head_of d.head).start.others);
     segments = core.segments;
     below = core.below;
+    real = core.real;
     used = (let lt = core.used in omega arith);
+    first = λ is. (let was = core.first is in record { others = was.others; loaded = was.loaded; units = was.units });
     next = omega arith;
     roll = record {
       image = opening_is d.config.master (next_with d ids lens) has;

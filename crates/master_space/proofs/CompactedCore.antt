@@ -274,7 +274,9 @@ module _ (d : MasterData) (core : IsCore d) (id : ℕ) (is : IsAdmitted d id) wh
     closed = closed_then;
     segments = segments_then;
     below = core.below;
+    real = core.real;
     used = core.used;
+    first = core.first;
     next = core.next;
     roll = go d.head.roll core.roll;
     pass = pass;

@@ -70,7 +70,9 @@ module _ (d : MasterData) (core : IsCore d) (waits : List ℕ) (count : ℕ) (fe
     closed = core.closed;
     segments = core.segments;
     below = core.below;
+    real = core.real;
     used = core.used;
+    first = core.first;
     next = core.next;
     roll = roll_then d.head.roll core.roll;
     pass = pass_then d.pass core.pass;

@@ -1,5 +1,5 @@
 -- What holds of a core whose pass has begun.
-use Rattle.std.proofs.Common.{◌≡◌, ℕ, zero, suc, ◌+◌, ◌*◌, ◌-◌, ◌<◌, ◌≤◌, true, false, List, [], ◌∷◌, ◌++◌, map}
+use Rattle.std.proofs.Common.{◌≡◌, ℕ, zero, suc, ◌+◌, ◌*◌, ◌-◌, ◌<◌, ◌≤◌, Bool, true, false, List, [], ◌∷◌, ◌++◌, map}
 use Rattle.std.proofs.Common.{drop, length, refl, sym, ap, subst, ◌∙◌, inl, inr, arith}
 use Rattle.std.specs.Prelude.{Option, Some, None, IfSome, nat_lt, ◌⊎◌, ◌^◌}
 use Rattle.std.specs.List.{AllByRecursion, range_with_len}
@@ -19,7 +19,6 @@ use Rattle.entry.specs.Text.{text_of, IsSegment}
 use Rattle.entry.proofs.ListLemmas.{all_among, all_weaker}
 use Rattle.segment.proofs.UnitLemmas.{length-survivor}
 use Rattle.clean_model.specs.Intact.{survivor_entries}
-use Rattle.clean_model.specs.Steps.{MayBeginClean}
 use Rattle.clean_model.proofs.KeptEntries.{has_is}
 use Rattle.cleaner.specs.declared.pass.Cursor.{Cursor}
 use Rattle.cleaner.specs.declared.pass.Pass.{Pass}
@@ -28,10 +27,14 @@ use Rattle.compactor.specs.Places.{LiesAt}
 use Rattle.places.specs.declared.place.Place.{Place}
 use Rattle.images.specs.Image.{Image}
 use Rattle.images.specs.Images.{ImagesValue, AreWithin, count_of, free_seglets as free_images}
+use Rattle.failover_model.specs.Data.{FailData}
+use Rattle.failover_model.specs.Steps.{id_taken}
+use Rattle.failover_clean.specs.Steps.{ids_taken, MayBeginClean}
 use Rattle.log_head.specs.declared.head.Roll.{Roll}
 use Rattle.log_head.specs.Log.{head_of}
 use Rattle.log_model.specs.Data.{ids_of}
 use Rattle.log_model.specs.Ids.{has, inserted, all_inserted}
+use Rattle.master_state.specs.declared.ledger.Posting.TheVariants.{Survivors}
 use Rattle.master_state.specs.declared.step.StepAnswer.TheVariants.{Begun}
 use Rattle.master_state.specs.Budget.{newest_digest, most_segments, whole_seglets, used_seglets, free_seglets}
 use Rattle.master_state.specs.Budget.{victims_of, survivors_of, is_committing}
@@ -40,7 +43,8 @@ use Rattle.master_state.specs.Data.{MasterData}
 use Rattle.master_state.specs.Images.{survivor_images}
 use Rattle.master_state.specs.Invariant.{IsCore, IsRollOf, IsOpenPass, IsSpare, IsSurvivor, IsIndex, NameBelow}
 use Rattle.master_state.specs.Invariant.{AreImagesOf, listed_now}
-use Rattle.master_state.specs.Log.{log_of, memory_of, images_of, find, state_now}
+use Rattle.master_state.specs.Ledger.{forgotten, posted}
+use Rattle.master_state.specs.Log.{is_opened, log_of, memory_of, images_of, find, state_now}
 use Rattle.master_state.specs.Steps.{fresh_pass, next_survivors, BeginsPass}
 use Rattle.master_state.proofs.Finding.{index_again}
 use Rattle.master_state.proofs.Indexing.{found_lies}
@@ -93,6 +97,19 @@ rules_of d victims may =
   where
     more : (m w : ℕ) → (m + 1) * w ≤ free_seglets d → m * w + w ≤ free_seglets d
     more m w le = omega arith
+
+-- ids that are taken are the next ones, and nobody took them
+ids_are_taken : (n : ℕ) (l : FailData)
+    → ids_taken n l ≡ record l { next = l.next + n; took = forgotten l.next n l.took }
+ids_are_taken zero l = λ i. record l { next = same i } where
+  same : l.next ≡ l.next + 0
+  same = omega arith
+ids_are_taken (suc n) l = ap id_taken (ids_are_taken n l) ∙ (λ i. record l {
+  next = more i;
+  took = forgotten l.next (suc n) l.took;
+}) where
+  more : suc (l.next + n) ≡ l.next + suc n
+  more = omega arith
 
 module _ (d : MasterData) (core : IsCore d) (victims : List ℕ) (may : MayBegin d victims) (cursor : Cursor)
     (begins : rest_of (images_in (closed_then d core victims may))
@@ -265,7 +282,9 @@ module _ (d : MasterData) (core : IsCore d) (victims : List ℕ) (may : MayBegin
     closed = ids_then;
     segments = segments_then;
     below = core.below;
+    real = core.real;
     used = (let lt = core.used in omega arith);
+    first = core.first;
     next = (let le = may.next in omega arith);
     roll = roll_then d.head.roll core.roll;
     pass = pass_then;
@@ -276,13 +295,15 @@ module _ (d : MasterData) (core : IsCore d) (victims : List ℕ) (may : MayBegin
     index = index_then;
   }
 
-  pub begins_pass : clean_refusal d victims ≡ None → BeginsPass d victims (Begun (next_survivors d victims)) after
+  -- with the pass posted
+  pub begins_pass : clean_refusal d victims ≡ None → BeginsPass d victims (Begun (next_survivors d victims))
+      (posted after (Survivors d.next (survivors_for d victims)))
   begins_pass passed = record {
     passed = passed;
     told = refl;
     cursor = cursor;
     begins = rest_before d core victims may cursor begins within at;
-    log = refl;
+    log = sym (ids_are_taken (survivors_for d victims) (log_of d));
     rest = refl;
   }
 
@@ -293,9 +314,15 @@ may_clean_now d core victims may = record {
   none = ap (λ (o : Option Pass). record { victims = victims_of o; survivors = survivors_of o }) may.victims.none;
   no_commit = ap (λ (o : Option Pass). option_map_or (λ (p : Pass). p.is_committing) o false) may.victims.none;
   some = λ none. (let some = may.victims.some in let zero = ap length none in omega arith);
-  older = λ s m. all_among (λ (z : ℕ). IsAmong z (others d core)) victims s
-      (victims_listed d core victims may.victims) m;
-}
+  older = λ s m. in_force_lists s (all_among (λ (z : ℕ). IsAmong z (others d core)) victims s
+      (victims_listed d core victims may.victims) m);
+} where
+  -- a head that lists other segments was opened
+  in_force_lists : (s : ℕ) → IsAmong s (others d core) → IsAmong s (log_of d).head.start.others
+  in_force_lists s m = go (is_opened d.head) refl where
+    go : (t : Bool) → is_opened d.head ≡ t → IsAmong s (log_of d).head.start.others
+    go true opened = rw opened m
+    go false not = absurd (subst (λ (ids : List ℕ). IsAmong s ids) (core.first not).others m)
 
 -- the survivors' seglets are free
 pub survivors_free : (d : MasterData) → IsCore d → (victims : List ℕ) → MayBegin d victims → (v w : ImagesValue)

@@ -2,7 +2,8 @@
 use Rattle.std.proofs.Common.{◌≡◌, ℕ, ◌+◌, ◌≤◌, Bool, true, false, List, [], ◌∷◌, ◌++◌, length, refl, sym, ap, subst}
 use Rattle.std.proofs.Common.{◌∙◌, append_assoc, arith}
 use Rattle.std.specs.Prelude.{Option, Some, None, IfSome, IsSome, IsSomeAnd, ◌==◌, ◌||◌, unwrap_or, sum_by, nat_lt}
-use Rattle.std.specs.Prelude.{if◌then◌else◌}
+use Rattle.std.specs.Prelude.{nat_le, if◌then◌else◌}
+use Rattle.std.proofs.lemmas.Bool.{le-leb}
 use Rattle.std.specs.List.{AllByRecursion}
 use Rattle.std.specs.Option.{option_map, option_map_or, option_to_list}
 use Rattle.cleaner.specs.declared.pass.Pass.{Pass}
@@ -34,7 +35,8 @@ use Rattle.log_head.proofs.Rolls.{rolls}
 use Rattle.log_model.specs.Data.{Start, Head, ids_of}
 use Rattle.log_model.specs.Ids.{has, inserted, all_inserted}
 use Rattle.log_model.specs.Log.{AreBelow}
-use Rattle.log_model.specs.Steps.{new_head}
+use Rattle.log_model.specs.Steps.{new_head, no_units}
+use Rattle.log_model.proofs.Lists.{no_units_length}
 use Rattle.master_state.specs.Budget.{newest_digest, whole_seglets, seglets_of, used_seglets, survivors_of}
 use Rattle.master_state.specs.Budget.{is_committing}
 use Rattle.master_state.specs.Data.{MasterData}
@@ -137,7 +139,9 @@ module _ (d : MasterData) (core : IsCore d) (r : Roll) (is : d.head.roll ≡ Som
       closed = core.closed;
       segments = core.segments;
       below = core.below;
+      real = core.real;
       used = core.used;
+      first = λ is. (let was = core.first is in record { others = was.others; loaded = was.loaded; units = was.units });
       next = core.next;
       roll = record {
         image = rolls_of.image;
@@ -226,6 +230,10 @@ module _ (d : MasterData) (core : IsCore d) (r : Roll) (is : d.head.roll ≡ Som
     abbrev f : MasterData
     f = record d { head = in_force d.head r; closed = cs; pass = o; waiting = waits }
 
+    -- its replicas are all opened
+    all_opened : nat_le d.head.replicas (length (no_units d.head.replicas)) ≡ true
+    all_opened = (let same = no_units_length d.head.replicas in le-leb _ _ (omega arith))
+
     pub ended : IsHeadValue (in_force d.head r) → ids_in cs ≡ all_inserted (survivors_of o) (start_of r).others
         → AllByRecursion (λ (c : Image). IsSegment c.segment) cs → used_seglets f ≤ d.config.seglets
         → IfSome o (IsOpenPass f)
@@ -240,7 +248,9 @@ module _ (d : MasterData) (core : IsCore d) (r : Roll) (is : d.head.roll ≡ Som
       closed = ids ∙ (λ i. all_inserted (survivors_of o) (sym head_then i).start.others);
       segments = segments;
       below = subst (λ (l : Head). AreBelow l.start) (sym head_then) below_then;
+      real = (let newer = rolls_of.newer in omega arith);
       used = rolls_of.used;
+      first = λ is. absurd (let opened = all_opened in cc);
       next = core.next;
       roll = tt;
       pass = pass;

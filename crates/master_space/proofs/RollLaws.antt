@@ -1,61 +1,95 @@
 -- What a roll that begins is to the log.
-use Rattle.std.proofs.Common.{◌≡◌, ℕ, suc, ◌+◌, ◌<◌, ◌≤◌, Bool, true, false, List, [], length, refl, sym, ap, subst}
-use Rattle.std.proofs.Common.{◌∙◌, add-one, arith}
-use Rattle.std.specs.Prelude.{Option, Some, None, IfSome, map, unwrap_or, ◌-◌, ◌==◌, if◌then◌else◌}
-use Rattle.std.specs.Option.{option_map_or}
-use Rattle.std.proofs.lemmas.Bool.{and_parts, eqb-true}
-use Rattle.cleaner.specs.declared.pass.Pass.{Pass}
-use Rattle.cleaner.specs.Passes.{images_in, rest_of, is_at_end, is_ready as is_ready_pass}
-use Rattle.cleaner.specs.Seals.{sealed_of}
-use Rattle.cleaner.proofs.Ends.{end_none}
-use Rattle.cleaner.proofs.SealOrder.{sealed_is_all}
-use Rattle.cleaner.proofs.SurvivorIds.{among_ids}
-use Rattle.clean_model.specs.Intact.{IsCommit, IsReady}
-use Rattle.clean_model.specs.Steps.{commit_len, commit_lens, commit_start, MayCommit}
-use Rattle.clean_model.proofs.CommitDigest.{commit_digest}
+use Rattle.std.proofs.Common.{◌≡◌, ℕ, suc, ◌+◌, ◌≤◌, Bool, true, false, List, [], length, refl, sym, ap, subst}
+use Rattle.std.proofs.Common.{◌∙◌, add-one, arith, inl, inr}
+use Rattle.std.specs.Prelude.{Option, Some, None, unwrap_or, ◌==◌, if◌then◌else◌}
+use Rattle.std.proofs.lemmas.Bool.{le-leb}
+use Rattle.std.proofs.lemmas.Bool.Decides.{nat_tests}
+use Rattle.cleaner.specs.Passes.{images_in}
+use Rattle.clean_model.specs.Intact.{IsCommit}
+use Rattle.clean_model.proofs.CommitDigest.{without_stays, without_from, all_out, all_in}
 use Rattle.entry.specs.declared.entry.Entry.{Entry}
+use Rattle.entry.specs.Bag.{IsAmong}
 use Rattle.entry.specs.Text.{text_of, len_in, IsSegment}
-use Rattle.log_head.specs.declared.head.Roll.{Roll}
+use Rattle.failover_model.specs.Data.{Head as FailHead, Rolls, front}
+use Rattle.failover_model.specs.Steps.{ids_now, rolling}
+use Rattle.failover_model.specs.Text.{length_of}
+use Rattle.failover_bytes.proofs.Texts.{length_is}
 use Rattle.log_head.specs.Head.{IsHeadValue, digest_in, digest_of}
-use Rattle.log_head.specs.Log.{head_of, phase_in, phase_of}
-use Rattle.log_head.specs.Steps.{with_roll}
-use Rattle.log_head.proofs.RollLog.{phase_begun, digest_is}
-use Rattle.log_model.specs.Data.{Start, Head, Opened, Ready, digest_for, len_next, lens_next, start_entries}
+use Rattle.log_head.specs.Log.{head_of, start_of}
+use Rattle.log_head.specs.Steps.{fresh_roll, with_roll}
+use Rattle.log_head.proofs.RollLog.{digest_is, start_is}
+use Rattle.log_model.specs.Data.{Start, digest_for, ids_of, len_next, lens_next, start_entries}
 use Rattle.log_model.specs.Data.{head_entries}
 use Rattle.log_model.specs.Ids.{has, all_inserted, without}
-use Rattle.log_model.specs.Steps.{len_now, next_start, rolling, MayRoll}
 use Rattle.master_state.specs.declared.step.StepAnswer.TheVariants.{Rolling as RollingTo}
 use Rattle.master_state.specs.Budget.{victims_of, survivors_of, is_ready}
 use Rattle.master_state.specs.Causes.{roll_refusal}
 use Rattle.master_state.specs.Data.{MasterData}
-use Rattle.master_state.specs.Invariant.{IsOpenPass, IsCore}
-use Rattle.master_state.specs.Log.{log_config, opening_of, log_of, images_of, memory_of, entry_place}
+use Rattle.master_state.specs.Invariant.{IsCore}
+use Rattle.master_state.specs.Ledger.{counts_in, shut_in, took_in}
+use Rattle.master_state.specs.Log.{fail_config, opening_of, is_opened, in_force, log_of, state_now, images_of}
+use Rattle.master_state.specs.Log.{memory_of}
 use Rattle.master_state.specs.Steps.{BeginsRoll, MayRollNow, listed_in, start_now, rolling_data, next_now}
 use Rattle.master_state.proofs.Passing.{has_among}
-use Rattle.master_space.proofs.RollStarts.{start_has}
+use Rattle.master_space.proofs.RollStarts.{start_by, start_has}
 use Rattle.master_space.proofs.SurvivorLens.{ids_listed_in, len_listed_in, survivor_there}
-use Rattle.master_state.proofs.Refusals.{may_begin, open_parts, has_homes}
+use Rattle.master_state.proofs.Refusals.{may_begin, open_parts}
 use Rattle.master_state.proofs.Rising.{without_none}
 
-module _ (d : MasterData) (core : IsCore d) where
-  abbrev head : Head
-  head = head_of d.head
+-- a digest that has the ids in force less the victims, and the survivors, is a commit's
+commit_digest : (start n : Start) (victims survivors : List ℕ)
+    → n.others ≡ all_inserted survivors (without victims (ids_of start))
+    → IsCommit start (record { victims = victims; survivors = survivors }) n
+commit_digest start n victims survivors is = record {
+  from = λ s m. elim (all_out survivors left s (subst (λ (ids : List ℕ). IsAmong s ids) is m)) [
+    | inl l ↦ inl (without_from victims (ids_of start) s l)
+    | inr l ↦ inr l
+  ];
+  stays = λ s m not. subst (λ (ids : List ℕ). IsAmong s ids) (sym is)
+      (all_in survivors left s (inl (without_stays victims (ids_of start) s m not)));
+  survivors = λ s m. subst (λ (ids : List ℕ). IsAmong s ids) (sym is) (all_in survivors left s (inr m));
+} where
+  left : List ℕ
+  left = without victims (ids_of start)
+
+module _ (d : MasterData) (core : IsCore d) (opened : is_opened d.head ≡ true) where
+  -- the head in force
+  abbrev head : FailHead
+  head = record {
+    start = (head_of d.head).start;
+    loaded = (head_of d.head).loaded;
+    units = (head_of d.head).units;
+  }
+
+  in_force_is : head ≡ (log_of d).head
+  in_force_is = rw opened refl
 
   -- the image is the head's text, under the head's digest
-  image_is : d.head.image ≡ head_entries d.config.master head (length head.units)
+  image_is : d.head.image ≡ head_entries d.config.master (head_of d.head) (length (head_of d.head).units)
   image_is = core.image.image
 
   digest_same : digest_in d.head.image ≡ digest_for head.start
   digest_same = ap digest_in image_is
 
-  len_same : (s : ℕ) → len_next (digest_in d.head.image) d.head.id (length (text_of d.head.image)) s
-      ≡ len_now (log_of d) s
-  len_same s = λ i. len_next (digest_same i) (sym core.image.id i) (length (text_of (image_is i))) s
+  -- it has as many bytes as the model counts
+  len_is : length (text_of d.head.image) ≡ length_of (front head (length head.units))
+  len_is =
+      ap (λ (es : List Entry). length (text_of es)) image_is
+      ∙ length_is d.config.master head.start.id (front head (length head.units))
+
+  abbrev len_at : FailHead → ℕ → ℕ
+  len_at h s = len_next (digest_for h.start) h.start.id (length_of (front h (length h.units))) s
+
+  len_same : (s : ℕ) → len_next (digest_in d.head.image) d.head.id (length (text_of d.head.image)) s ≡ len_at head s
+  len_same s = λ i. len_next (digest_same i) (sym core.image.id i) (len_is i) s
+
+  abbrev commit_len_at : FailHead → ℕ → ℕ
+  commit_len_at h s = if has (survivors_of d.pass) s then length (text_of (images_of d s)) else len_at h s
 
   -- a survivor's length is that of its image
   survivor_same : (s : ℕ) → unwrap_or (len_in s (listed_in d.closed (survivors_of d.pass)))
       (len_next (digest_in d.head.image) d.head.id (length (text_of d.head.image)) s)
-      ≡ commit_len (log_of d) (memory_of d) s
+      ≡ commit_len_at head s
   survivor_same s =
       ap (λ (o : Option ℕ). unwrap_or o (len_next (digest_in d.head.image) d.head.id (length (text_of d.head.image)) s))
       (len_listed_in d.closed (survivors_of d.pass) s)
@@ -64,104 +98,123 @@ module _ (d : MasterData) (core : IsCore d) where
       go : (b : Bool) → has (survivors_of d.pass) s ≡ b
           → unwrap_or (if b then Some (length (text_of (images_in d.closed s))) else None)
           (len_next (digest_in d.head.image) d.head.id (length (text_of d.head.image)) s)
-          ≡ (if b then length (text_of (images_of d s)) else len_now (log_of d) s)
+          ≡ (if b then length (text_of (images_of d s)) else len_at head s)
       go true is = ap (λ (es : List Entry). length (text_of es))
           (sym (survivor_there d core s (has_among (survivors_of d.pass) s is)))
       go false is = len_same s
 
-  -- the next head is the one that the log's model says
-  pub next_is : start_now d ≡ next_now d
-  next_is =
-      let digest = digest_is d.config.master d.head head core.image in
+  -- there is a head, so the next digest lists its ids
+  ids_are : ids_now head.start ≡ ids_of head.start
+  ids_are =
+      let real = core.real in
+      let same = core.image.id in
+      let test : (head.start.id == 0) ≡ false = grind (real, same, arith, nat_tests) in
+      rw test refl
+
+  ids_listed : digest_of d.head.image ≡ ids_now head.start
+  ids_listed = digest_is d.config.master d.head (head_of d.head) core.image ∙ sym ids_are
+
+  -- the next head after this one
+  abbrev next_at : FailHead → Start
+  next_at h = if is_ready d then record {
+    id = d.next;
+    others = all_inserted (survivors_of d.pass) (without (victims_of d.pass) (ids_now h.start));
+    lens = lens_next (digest_for h.start) (commit_len_at h)
+        (all_inserted (survivors_of d.pass) (without (victims_of d.pass) (ids_now h.start)));
+    safe = (state_now d).safe;
+  } else record {
+    id = d.next;
+    others = ids_now h.start;
+    lens = lens_next (digest_for h.start) (len_at h) (ids_now h.start);
+    safe = (state_now d).safe;
+  }
+
+  next_head : start_now d ≡ next_at head
+  next_head =
       let listed = ids_listed_in d.closed (survivors_of d.pass) in
       λ i. if is_ready d then record {
         id = d.next;
-        others = all_inserted (listed i) (without (victims_of d.pass) (digest i));
+        others = all_inserted (listed i) (without (victims_of d.pass) (ids_listed i));
         lens = lens_next (digest_same i) (λ s. survivor_same s i)
-            (all_inserted (listed i) (without (victims_of d.pass) (digest i)));
+            (all_inserted (listed i) (without (victims_of d.pass) (ids_listed i)));
         safe = core.index.safe i;
       } else record {
         id = d.next;
-        others = (without_none (digest_of d.head.image) ∙ digest) i;
-        lens = lens_next (digest_same i) (λ s. len_same s i) ((without_none (digest_of d.head.image) ∙ digest) i);
+        others = (without_none (digest_of d.head.image) ∙ ids_listed) i;
+        lens = lens_next (digest_same i) (λ s. len_same s i)
+            ((without_none (digest_of d.head.image) ∙ ids_listed) i);
         safe = core.index.safe i;
       }
 
-  module _ (passed : roll_refusal d ≡ None) (valid : IsHeadValue (with_roll d.head d.config.master (start_now d))) where
-    log_begun : log_of (rolling_data d) ≡ rolling (log_of d) (next_now d)
-    log_begun = λ i. record {
-      config = log_config d.config;
-      opening = opening_of d;
-      history = d.history;
-      head = head_of d.head;
-      phase = (phase_begun d.head d.config.master (start_now d) (start_has d) some
-          ∙ ap (λ (n : Start). Opened 0 n) next_is) i;
-      next = more i;
-    } where
-      some : 0 < d.head.replicas
-      some = let same = core.replicas in let pos = (has_homes d.config core.config).some in omega arith
+  -- the next head is the one that the log's model says
+  pub next_is : start_now d ≡ next_now d
+  next_is = next_head ∙ ap next_at in_force_is
 
-      more : d.next + 1 ≡ suc d.next
-      more = rw add-one refl
+  next_id : (next_now d).id ≡ d.next
+  next_id = sym (ap (λ (n : Start). n.id) next_is) ∙ start_id where
+    start_id : (start_now d).id ≡ d.next
+    start_id = go (is_ready d) where
+      go : (t : Bool) → (start_by d t).id ≡ d.next
+      go true = refl
+      go false = refl
 
-    pub roll_begins : BeginsRoll d (RollingTo d.next) (rolling_data d)
-    roll_begins = record { passed = passed; told = refl; log = log_begun; rest = refl }
+  mode_then : (if is_opened d.head then Rolls (start_of (fresh_roll d.config.master (start_now d)))
+      else Rolls (head_of d.head).start) ≡ Rolls (next_now d)
+  mode_then = go (is_opened d.head) opened where
+    go : (t : Bool) → t ≡ true → (if t then Rolls (start_of (fresh_roll d.config.master (start_now d)))
+        else Rolls (head_of d.head).start) ≡ Rolls (next_now d)
+    go true is = ap Rolls (start_is d.config.master (start_now d) (start_has d) ∙ next_is)
+    go false is = absurd (cc)
 
-    ready_now : phase_of d.head ≡ Ready
-    ready_now = ap (λ (o : Option Roll). option_map_or (phase_in d.head.replicas) o Ready)
-        (open_parts d.head (may_begin d passed).opened).1
+  log_begun : log_of (rolling_data d) ≡ rolling (log_of d) (next_now d) (Rolls (next_now d))
+  log_begun = λ i. record {
+    config = fail_config d.config;
+    opening = opening_of d;
+    history = d.history;
+    head = in_force d.config.format d.head;
+    counts = counts_in d.ledger;
+    shut = shut_in d.ledger;
+    mode = mode_then i;
+    abandoned = [];
+    took = λ s. if s == sym next_id i then [] else took_in d.ledger s;
+    failed = [];
+    frozen = 0;
+    next = more i;
+  } where
+    more : d.next + 1 ≡ suc d.next
+    more = rw add-one refl
 
-    segment_now : IsSegment (start_entries d.config.master (next_now d))
-    segment_now = subst (λ (n : Start). IsSegment (start_entries d.config.master n)) next_is valid.roll.segment
+  is_commit : is_ready d ≡ true → IsCommit (log_of d).head.start (memory_of d).pass (next_now d)
+  is_commit test =
+      subst (λ (h : FailHead). IsCommit h.start (memory_of d).pass (next_now d)) in_force_is
+      (commit_digest head.start (next_now d) (victims_of d.pass) (survivors_of d.pass) others)
+    where
+      others : (next_now d).others
+          ≡ all_inserted (survivors_of d.pass) (without (victims_of d.pass) (ids_of head.start))
+      others =
+          ap (λ (h : FailHead). (next_at h).others) (sym in_force_is)
+          ∙ (rw test (ap (λ (ids : List ℕ). all_inserted (survivors_of d.pass) (without (victims_of d.pass) ids))
+          ids_are))
 
-    limit_now : length (text_of (start_entries d.config.master (next_now d))) ≤ 8388608
-    limit_now = subst (λ (n : Start). length (text_of (start_entries d.config.master n)) ≤ 8388608)
-        next_is valid.roll.limit
+module _ (d : MasterData) (core : IsCore d) (passed : roll_refusal d ≡ None)
+    (valid : IsHeadValue (with_roll d.head d.config.master (start_now d))) where
+  -- an open head was opened
+  opened_now : is_opened d.head ≡ true
+  opened_now =
+      let all = (open_parts d.head (may_begin d passed).opened).0 in
+      le-leb d.head.replicas (length d.head.taken) (omega arith)
 
-    -- a pass that is ready has nothing to copy, and each replica of its survivors is sealed
-    ready_memory : (o : Option Pass) → IfSome o (IsOpenPass d) → option_map_or is_ready_pass o false ≡ true
-        → IsReady d.config.replicas (record { victims = victims_of o; survivors = survivors_of o })
-        (map (entry_place d) (option_map_or (rest_of (images_in d.closed)) o []))
-        (λ s. option_map_or (λ (p : Pass). sealed_of d.config.replicas p.sealed p.survivors.first s) o 0)
-    ready_memory None opens is = absurd (cc)
-    ready_memory (Some p) opens is =
-        let parts = and_parts (is_at_end p) (p.sealed.survivors == p.survivors.count) is in
-        let all = (sealed_is_all d.config.replicas p.survivors.count p.sealed opens.sealed).0
-        (eqb-true p.sealed.survivors p.survivors.count parts.1) in
-        record {
-          done = ap (map (entry_place d)) (end_none (images_in d.closed) p parts.0);
-          sealed_all = λ s m. (
-              let within = among_ids p.survivors.first p.survivors.count s m in
-              let le = within.0 in
-              let lt = within.1 in
-              all (s - p.survivors.first) (omega arith));
-        }
+  pub roll_begins : BeginsRoll d (RollingTo d.next) (rolling_data d)
+  roll_begins = record { passed = passed; told = refl; log = log_begun d core opened_now; rest = refl }
 
-    pub may_roll_now : MayRollNow d
-    may_roll_now = (commit, ordinary) where
-      commit : is_ready d ≡ true → MayCommit (log_of d) (memory_of d) (next_now d)
-      commit test =
-          let is : next_now d ≡ commit_start (log_of d) (memory_of d) = (rw test refl) in
-          record {
-            now = ready_now;
-            ready = ready_memory d.pass core.pass test;
-            commit = subst (IsCommit (head_of d.head).start (record {
-              victims = victims_of d.pass;
-              survivors = survivors_of d.pass;
-            })) (sym is) (commit_digest (log_of d) (memory_of d));
-            next = ap (λ (n : Start). n.id) is;
-            lens = ap (λ (n : Start). n.lens) is
-                ∙ ap (λ (n : Start). commit_lens (log_of d) (memory_of d) n.others) (sym is);
-            safe = ap (λ (n : Start). n.safe) is;
-            segment = segment_now;
-            limit = limit_now;
-          }
-
-      ordinary : is_ready d ≡ false → MayRoll (log_of d)
-      ordinary test =
-          let is : next_now d ≡ next_start (log_of d) = (rw test refl) in
-          record {
-            ready = ready_now;
-            segment = subst (λ (n : Start). IsSegment (start_entries d.config.master n)) is segment_now;
-            limit = subst (λ (n : Start). length (text_of (start_entries d.config.master n)) ≤ 8388608) is limit_now;
-          }
+  pub may_roll_now : MayRollNow d
+  may_roll_now = record {
+    opened = (may_begin d passed).opened;
+    opening = record {
+      segment = subst (λ (n : Start). IsSegment (start_entries d.config.master n)) (next_is d core opened_now)
+          valid.roll.segment;
+      limit = subst (λ (n : Start). length (text_of (start_entries d.config.master n)) ≤ 8388608)
+          (next_is d core opened_now) valid.roll.limit;
+    };
+    commit = is_commit d core opened_now;
+  }

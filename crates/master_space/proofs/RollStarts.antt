@@ -30,7 +30,7 @@ use Rattle.master_state.specs.Budget.{segments_taken, segments_entering, segment
 use Rattle.master_state.specs.Causes.{roll_refusal}
 use Rattle.master_state.specs.Data.{MasterData}
 use Rattle.master_state.specs.Invariant.{IsOpenPass, IsSpare, IsCore, listed_now}
-use Rattle.master_state.specs.Steps.{listed_in, start_now, rolling_data}
+use Rattle.master_state.specs.Steps.{listed_in, start_now}
 use Rattle.master_space.proofs.Begun.{begun, next_with, pass_then, begun_core}
 use Rattle.master_space.proofs.Leaving.{length_left}
 use Rattle.master_space.proofs.SurvivorLens.{ids_listed_in}
@@ -84,7 +84,15 @@ start_has d = go (is_ready d) where
 pub new_has : (d : MasterData) → HasLens (next_with d (new_ids d) (new_lens d))
 new_has d = subst HasLens (start_now_is d) (start_has d)
 
-pub rolling_is : (d : MasterData) → rolling_data d ≡ begun d (new_ids d) (new_lens d) (pass_now d)
+-- what a core is then, before the roll is posted
+abbrev pub unposted : MasterData → MasterData
+unposted d = record d {
+  head = with_roll d.head d.config.master (start_now d);
+  next = d.next + 1;
+  pass = pass_now d;
+}
+
+pub rolling_is : (d : MasterData) → unposted d ≡ begun d (new_ids d) (new_lens d) (pass_now d)
 rolling_is d = ap (λ (n : Start). record d {
   head = with_roll d.head d.config.master n;
   next = d.next + 1;
@@ -402,7 +410,7 @@ module _ (d : MasterData) (core : IsCore d) (passed : roll_refusal d ≡ None) w
             ids_then : is_ready d ≡ false → new_ids d ≡ without [] (digest_of d.head.image)
             ids_then test = rw test refl
 
-    pub rolled_core : IsCore (rolling_data d)
+    pub rolled_core : IsCore (unposted d)
     rolled_core =
         let cases = ready_or_space d passed in
         subst IsCore (sym (rolling_is d))

@@ -125,7 +125,9 @@ module _ (d : MasterData) (core : IsCore d) (p : Pass) (opened : d.pass ≡ Some
     closed = core.closed ∙ ap (λ (o : Option Pass). all_inserted (survivors_of o) (head_of d.head).start.others) opened;
     segments = core.segments;
     below = core.below;
+    real = core.real;
     used = core.used;
+    first = core.first;
     next = core.next;
     roll = roll_then d.head.roll core.roll;
     pass = pass_then;

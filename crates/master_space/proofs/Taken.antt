@@ -1,9 +1,10 @@
 -- The op of a push was taken: what a core keeps, and which images it has then.
 use Rattle.std.proofs.Common.{◌≡◌, ◌⊎◌, inl, inr, ℕ, suc, Bool, true, false, List, [], ◌∷◌, ◌++◌, refl, sym, ap, subst}
-use Rattle.std.proofs.Common.{◌∙◌}
-use Rattle.std.specs.Prelude.{Option, Some, None, ◌==◌, if◌then◌else◌}
+use Rattle.std.proofs.Common.{◌∙◌, length, arith}
+use Rattle.std.specs.Prelude.{Option, Some, None, ◌==◌, slice_set, if◌then◌else◌}
 use Rattle.std.specs.Option.{option_map_or}
 use Rattle.std.proofs.lemmas.Bool.{eqb-true}
+use Rattle.std.proofs.lemmas.List.{length-append, length-set}
 use Rattle.cleaner.specs.declared.pass.Pass.{Pass}
 use Rattle.entry.specs.declared.entry.Entry.{Entry}
 use Rattle.entry.specs.Bag.{IsAmong}
@@ -99,8 +100,12 @@ module _ (d : MasterData) (core : IsCore d) (r : Roll) (is : d.head.roll ≡ Som
 module _ (d : MasterData) (core : IsCore d) where
   pub taken_core : (push : Next) → IsNextPush d.head (Some push) → IsHeadValue (taken_data d push).head
       → IsCore (taken_data d push)
-  taken_core (next.OpenFirst j) is valid = counted_core d (d.head.taken ++ 0 ∷ []) core valid
-  taken_core (next.Extend j) is valid = counted_core d _ core valid
+  taken_core (next.OpenFirst j) is valid =
+      counted_core d (d.head.taken ++ 0 ∷ []) core valid
+      (let more = length-append d.head.taken (0 ∷ []) in omega arith)
+  taken_core (next.Extend j) is valid =
+      counted_core d (slice_set d.head.taken j (length d.head.units)) core valid
+      (let same = length-set d.head.taken j (length d.head.units) in omega arith)
   taken_core (next.OpenNew j) is valid =
       let e = ap (λ (o : Option Roll). option_map_or (λ (q : Roll). record d
       { head = with_new_replica d.head q }) o d) is.2 in

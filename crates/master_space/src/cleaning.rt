@@ -2,18 +2,18 @@
 
 ghost use Rattle.std.specs.Prelude.{◌⊎◌, ◌≡◌, ◌<◌, ◌≤◌, ◌==◌, ◌∷◌, ◌++◌, ◌*◌, ◌+◌, [], ℕ, None, Some, false, length};
 ghost use Rattle.std.specs.Prelude.{IfOk, IfErr, IfSome, OnOk, OnErr, IsSome, is_none, if◌then◌else◌};
-ghost use Rattle.clean_model.specs.Steps.{MayBeginClean, seal_op};
+ghost use Rattle.failover_clean.specs.Steps.{MayBeginClean};
 ghost use Rattle.cleaner.specs.Passes.{survivor_ids, AreIds};
 ghost use Rattle.entry.specs.Bag.{IsAmong};
+ghost use Rattle.entry.specs.Text.{text_of};
 ghost use Rattle.images.specs.Images.{free_seglets as free_images};
 ghost use Rattle.images.specs.Sorted.{AreBelow};
-ghost use Rattle.log_model.specs.Ops.{op_of};
-ghost use Rattle.replica.specs.Op.{shown_op};
+ghost use Rattle.replica.specs.Op.{OpValue, Seal, shown_op};
 ghost use Rattle.master_state.specs.Budget.{survivors_of, whole_seglets};
 ghost use Rattle.master_state.specs.Causes.{clean_refusal, copy_refusal, seal_refusal, free_refusal};
 ghost use Rattle.master_state.specs.Images.{survivor_images};
 ghost use Rattle.master_state.specs.Invariant.{AreImagesOf, IsCore};
-ghost use Rattle.master_state.specs.Log.{log_of, memory_of};
+ghost use Rattle.master_state.specs.Log.{images_of, log_of, memory_of};
 ghost use Rattle.master_state.specs.Steps.{BeginsPass, Copies, copy_answer, sealed_data, freed_data};
 ghost use Rattle.master_state.specs.Waits.{next_seal, next_free};
 
@@ -22,7 +22,7 @@ use crate::victims::admit_pass;
 use cleaner::{Copied, Pass, Survivors};
 use entry::{NoMemory, Row};
 use images::Images;
-use master_state::{Config, Core, Refusal, StepAnswer, image_of};
+use master_state::{Config, Core, Posting, Refusal, StepAnswer, image_of};
 use replica::{Act, Op};
 use std::alloc::Global;
 
@@ -89,6 +89,7 @@ impl Cleans for Core {
         let pass = Pass::begin(victims, size.near, survivors, &self.closed, &self.index);
         self.next_id += survivors.count as u64;
         self.pass = Some(pass);
+        self.post(&Posting::Survivors(survivors.first, survivors.count as u64));
         Ok(StepAnswer::Begun(survivors))
     }
 
@@ -129,8 +130,11 @@ impl Cleans for Core {
 
     fn seal_op(&self, survivor: u64) -> Op<'_>
         requires { IsAmong survivor (survivors_of self.now.pass) }
-        ensures { let d = self.entry.now in (b : ℕ) →
-            shown_op result ≡ op_of d.config.master (seal_op (memory_of d) survivor b) }
+        ensures { let d = self.entry.now in shown_op result ≡ record {
+          master = d.config.master;
+          segment = survivor;
+          act = Seal (text_of (images_of d survivor));
+        } }
     {
         let Some(image) = image_of(&self.head, &self.closed, survivor) else {
             unreachable!()

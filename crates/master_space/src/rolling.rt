@@ -4,7 +4,6 @@ ghost use Rattle.std.specs.Prelude.{◌⊎◌, ◌≡◌, ◌<◌, ℕ, [], leng
 ghost use Rattle.std.specs.Prelude.{OnErr, if◌then◌else◌, is_none, nat_lt};
 ghost use Rattle.std.specs.Option.{option_map};
 ghost use Rattle.std.specs.Result.{result_err};
-ghost use Rattle.log_model.specs.Data.{durable_of};
 ghost use Rattle.log_head.specs.Next.{IsNextPush};
 ghost use Rattle.log_head.specs.declared.next.Next.{Next as NextValue};
 ghost use Rattle.cleaner.specs.declared.pass.Pass.{Pass as OpenPass};
@@ -13,7 +12,7 @@ ghost use Rattle.entry.specs.Text.{text_of};
 ghost use Rattle.master_state.specs.Budget.{victims_of, survivors_of};
 ghost use Rattle.master_state.specs.Causes.{roll_refusal};
 ghost use Rattle.master_state.specs.Invariant.{IsCore};
-ghost use Rattle.master_state.specs.Log.{log_of};
+ghost use Rattle.master_state.specs.Log.{durable_now};
 ghost use Rattle.master_state.specs.Steps.{listed_in, BeginsRoll, MayRollNow, taken_data};
 
 use crate::ending::end_pass;
@@ -21,7 +20,7 @@ use cleaner::{Pass, Survivors};
 use entry::{Listed, MAX_SEGMENT_ID, NoMemory};
 use images::Images;
 use log_head::{Leaving, Next, RollMemory};
-use master_state::{Core, Refusal, StepAnswer};
+use master_state::{Core, Posting, Refusal, StepAnswer};
 use std::alloc::Global;
 
 /// What a core pushes next, and how it rolls to the next head.
@@ -89,6 +88,7 @@ impl Rolls for Core {
         )?;
         mark(&mut self.pass, is_commit);
         self.next_id += 1;
+        self.post(&Posting::Began(id));
         Ok(StepAnswer::Rolling(id))
     }
 
@@ -102,7 +102,7 @@ impl Rolls for Core {
     fn next_push_for(&self, place: u64) -> Option<Next>
         requires { place < length self.now.history }
         ensures next { IfSome result (λ next. IsNextPush self.now.head (Some next)) }
-        ensures durable { is_none result ≡ nat_lt place (durable_of (log_of self.now)) }
+        ensures durable { is_none result ≡ nat_lt place (durable_now self.now) }
         ensures valid { IsCore self.now }
     {
         self.head.next_for(place as usize)

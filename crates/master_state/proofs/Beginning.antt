@@ -1,7 +1,8 @@
 -- A new core, and a core of which replicas took something or failed.
-use Rattle.std.proofs.Common.{◌≡◌, inl, inr, ℕ, ◌<◌, Bool, true, false, ◌==◌, List, [], length, refl, sym, ap, subst}
-use Rattle.std.proofs.Common.{arith}
-use Rattle.std.specs.Prelude.{Option, Some, None, IfSome, if◌then◌else◌}
+use Rattle.std.proofs.Common.{◌≡◌, inl, inr, ℕ, ◌<◌, ◌≤◌, Bool, true, false, ◌==◌, List, [], length, refl, sym, ap}
+use Rattle.std.proofs.Common.{subst, arith}
+use Rattle.std.specs.Prelude.{Option, Some, None, IfSome, nat_le, if◌then◌else◌}
+use Rattle.std.proofs.lemmas.Bool.{leb-false, lt-leb}
 use Rattle.cleaner.specs.declared.pass.Pass.{Pass as OpenPass}
 use Rattle.entry.specs.declared.entry.Entry.TheVariants as entry
 use Rattle.entry.specs.Bag.{IsAmong}
@@ -10,16 +11,17 @@ use Rattle.log_head.specs.Head.{HeadValue, IsHeadValue}
 use Rattle.log_head.specs.Log.{head_of, HasLens, IsImageOf}
 use Rattle.log_head.specs.Steps.{lone_start, fresh_head}
 use Rattle.log_head.proofs.HeadLog.{head_is, image_fresh, image_with_counts}
-use Rattle.log_model.specs.Data.{Head, Ready, digest_for, start_entries}
+use Rattle.log_model.specs.Data.{Head, digest_for, start_entries}
 use Rattle.log_model.proofs.Lengths.{ids_listed}
-use Rattle.clean_model.specs.Loading.{restored}
 use Rattle.log_model.specs.Log.{AreBelow}
+use Rattle.failover_model.specs.Data.{Calm, Rolls}
+use Rattle.failover_model.specs.Steps.{no_head, restored}
 use Rattle.master_state.specs.declared.config.Config.{Config}
 use Rattle.master_state.specs.Config.{config_fault}
 use Rattle.master_state.specs.Data.{MasterData}
-use Rattle.master_state.specs.Invariant.{IsRollOf, IsOpenPass, NameBelow, IsCore}
+use Rattle.master_state.specs.Invariant.{IsFirst, IsRollOf, IsOpenPass, NameBelow, IsCore}
 use Rattle.master_state.specs.Loading.{restored_data}
-use Rattle.master_state.specs.Log.{log_config, opening_of, log_of, images_of}
+use Rattle.master_state.specs.Log.{fail_config, opening_of, log_of, images_of}
 use Rattle.master_state.specs.Steps.{halted}
 use Rattle.master_state.proofs.Refusals.{has_homes, sizes_of}
 use Rattle.master_state.proofs.Passing.{GoesOn, goes_on}
@@ -50,7 +52,9 @@ module _ (c : Config) (safe : ℕ) (head : IsHeadValue (fresh_head c.master c.re
   first = fresh_head c.master c.replicas (lone_start c.format safe)
 
   pub head_first : head_of first ≡ record { start = lone_start c.format safe; loaded = []; units = []; taken = [] }
-  head_first = head_is c.master first _ (image_fresh c.master c.replicas (lone_start c.format safe) (lone_has c.format safe)) head.segment
+  head_first =
+      head_is c.master first _
+      (image_fresh c.master c.replicas (lone_start c.format safe) (lone_has c.format safe)) head.segment
 
   pub restored_core : config_fault c ≡ None → IsCore (restored_data c safe)
   restored_core ok =
@@ -69,7 +73,13 @@ module _ (c : Config) (safe : ℕ) (head : IsHeadValue (fresh_head c.master c.re
         closed = sym (ap (λ (l : Head). l.start.others) head_first);
         segments = tt;
         below = subst (λ (l : Head). AreBelow l.start) (sym head_first) tt;
+        real = omega arith;
         used = omega arith;
+        first = λ not. record {
+          others = ap (λ (l : Head). l.start.others) head_first;
+          loaded = ap (λ (l : Head). l.loaded) head_first;
+          units = refl;
+        };
         next = omega arith;
         roll = tt;
         pass = tt;
@@ -80,15 +90,28 @@ module _ (c : Config) (safe : ℕ) (head : IsHeadValue (fresh_head c.master c.re
         index = record { kept = record { told = tt; apart = tt }; lies = λ k. tt; safe = refl };
       }
 
-  pub restored_log : log_of (restored_data c safe) ≡ restored (log_config c) safe
-  restored_log = λ i. record {
-    config = log_config c;
-    opening = opening_of (restored_data c safe);
-    history = [];
-    head = head_first i;
-    phase = Ready;
-    next = 2;
-  }
+  -- no replica of the first head is open yet
+  pub restored_log : config_fault c ≡ None → log_of (restored_data c safe) ≡ restored (fail_config c) safe
+  restored_log ok =
+      let none : nat_le c.replicas 0 ≡ false = lt-leb c.replicas 0 (has_homes c ok).some in
+      λ i. record {
+        config = fail_config c;
+        opening = opening_of (restored_data c safe);
+        history = [];
+        head = if none i then record {
+          start = (head_first i).start;
+          loaded = (head_first i).loaded;
+          units = (head_first i).units;
+        } else record { start = no_head c.format; loaded = []; units = [] };
+        counts = λ b. 0;
+        shut = [];
+        mode = if none i then Calm else Rolls (head_first i).start;
+        abandoned = [];
+        took = λ s. [];
+        failed = [];
+        frozen = 0;
+        next = 2;
+      }
 
 counted_goes : (d : MasterData) (ks : List ℕ) (p : OpenPass) → IsOpenPass d p
     → GoesOn d (record d { head = record d.head { taken = ks } }) p
@@ -125,8 +148,8 @@ halted_goes d p is = record {
 
 -- only what replicas have changed
 pub counted_core : (d : MasterData) (ks : List ℕ) → IsCore d → IsHeadValue (record d.head { taken = ks })
-    → IsCore (record d { head = record d.head { taken = ks } })
-counted_core d ks core head = record {
+    → length d.head.taken ≤ length ks → IsCore (record d { head = record d.head { taken = ks } })
+counted_core d ks core head more = record {
   config = core.config;
   replicas = core.replicas;
   history = core.history;
@@ -136,7 +159,9 @@ counted_core d ks core head = record {
   closed = core.closed;
   segments = core.segments;
   below = core.below;
+  real = core.real;
   used = core.used;
+  first = still_first;
   next = core.next;
   roll = go d.head.roll core.roll;
   pass = passes d.pass core.pass;
@@ -146,6 +171,12 @@ counted_core d ks core head = record {
   legal = core.legal;
   index = record { kept = core.index.kept; lies = core.index.lies; safe = core.index.safe };
 } where
+  still_first : nat_le d.head.replicas (length ks) ≡ false → IsFirst (record d.head { taken = ks })
+  still_first few =
+      let lt = leb-false d.head.replicas (length ks) few in
+      let was = core.first (lt-leb d.head.replicas (length d.head.taken) (omega arith)) in
+      record { others = was.others; loaded = was.loaded; units = was.units }
+
   go : (o : Option Roll) → IfSome o (IsRollOf d) → IfSome o
       (IsRollOf (record d { head = record d.head { taken = ks } }))
   go None is = tt
@@ -167,7 +198,9 @@ halted_core d core = record {
   closed = core.closed;
   segments = core.segments;
   below = core.below;
+  real = core.real;
   used = core.used;
+  first = core.first;
   next = core.next;
   roll = go d.head.roll core.roll;
   pass = passes d.pass core.pass;

@@ -5,6 +5,7 @@ pub mod Homes
 pub mod Finding
 pub mod Counted
 pub mod Beginning
+pub mod Posted
 pub mod Passing
 pub mod Holding
 pub mod Naming

@@ -8,6 +8,7 @@ use Rattle.log_model.specs.Steps.{first_start}
 use Rattle.log_head.specs.Head.{HeadValue}
 use Rattle.log_head.specs.Steps.{fresh_head}
 use Rattle.master_state.specs.declared.config.Config.{Config}
+use Rattle.master_state.specs.declared.ledger.Posting.{Posting}
 use Rattle.places.specs.Map.{Places}
 use Rattle.places.specs.Relocation.{no_places}
 use Rattle.places.specs.Secrets.{secret_seed}
@@ -42,6 +43,8 @@ pub record MasterData : Type 0 where
   -- a backup failed: no step is accepted any more
   pub is_halted : Bool
   pub origin : Origin
+  -- what its backups answered, the last first
+  pub ledger : List Posting
 
 -- a new master's
 abbrev pub fresh_data : Config → MasterData
@@ -58,4 +61,5 @@ fresh_data config = record {
   freed = 0;
   is_halted = false;
   origin = no_origin;
+  ledger = [];
 }

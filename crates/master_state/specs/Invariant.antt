@@ -21,7 +21,7 @@ use Rattle.places.specs.Map.{AreKept}
 use Rattle.images.specs.Image.{Image}
 use Rattle.images.specs.Images.{ImagesValue}
 use Rattle.versioned_map.specs.History.{IsLegal}
-use Rattle.log_head.specs.Head.{IsHeadValue}
+use Rattle.log_head.specs.Head.{HeadValue, IsHeadValue}
 use Rattle.log_head.specs.declared.head.Roll.{Roll}
 use Rattle.log_head.specs.Log.{head_of, start_of, IsImageOf, IsNewImage}
 use Rattle.log_model.specs.Data.{ids_of}
@@ -33,7 +33,7 @@ use Rattle.master_state.specs.Config.{config_fault}
 use Rattle.master_state.specs.Data.{MasterData}
 use Rattle.compactor.specs.Places.{keys_in}
 use Rattle.master_state.specs.Index.{LiesFound}
-use Rattle.master_state.specs.Log.{opening_of, state_now, images_of, find, log_set_ids}
+use Rattle.master_state.specs.Log.{opening_of, is_opened, state_now, images_of, find, log_set_ids}
 
 -- The index leads to the objects that the versioned map has, and to no other.
 pub record IsIndex (d : MasterData) : Type 0 where
@@ -57,6 +57,12 @@ pub record IsRollOf (d : MasterData) (r : Roll) : Type 0 where
   pub within : length (text_of r.image) ≤ d.config.segment
   pub newer : d.head.id < r.id
   pub used : r.id < d.next
+
+-- A head before its log: it holds nothing, and lists no other segment.
+pub record IsFirst (h : HeadValue) : Type 0 where
+  pub others : (head_of h).start.others ≡ []
+  pub loaded : (head_of h).loaded ≡ []
+  pub units : h.units ≡ []
 
 -- the images are counted by the sizes of the configuration
 pub record AreImagesOf (c : Config) (v : ImagesValue) : Type 0 where
@@ -129,7 +135,10 @@ pub record IsCore (d : MasterData) : Type 0 where
   pub closed : map (λ (c : Image). c.id) d.closed ≡ all_inserted (survivors_of d.pass) (head_of d.head).start.others
   pub segments : AllByRecursion (λ (c : Image). IsSegment c.segment) d.closed
   pub below : AreBelow (head_of d.head).start
+  pub real : 0 < d.head.id
   pub used : d.head.id < d.next
+  -- the only head with a replica that isn't opened is the first
+  pub first : is_opened d.head ≡ false → IsFirst d.head
   pub next : d.next ≤ 2 ^ 62 + 1
   pub roll : IfSome d.head.roll (IsRollOf d)
   pub pass : IfSome d.pass (IsOpenPass d)

@@ -8,11 +8,12 @@ use Rattle.entry.specs.Tablet.{have_key}
 use Rattle.places.specs.declared.place.Place.{Place}
 use Rattle.log_head.specs.declared.next.Next.{Next}
 use Rattle.log_head.specs.Head.{is_open}
+use Rattle.log_head.specs.Log.{head_of}
 use Rattle.log_head.specs.Steps.{lone_start, fresh_head, with_unit_end, settled}
-use Rattle.log_model.specs.Adopt.{adopted}
-use Rattle.log_model.specs.Data.{Ready}
 use Rattle.log_model.specs.Log.{IsWhole}
-use Rattle.clean_model.specs.Loading.{with_object, MayLoad}
+use Rattle.failover_model.specs.Data.{Calm}
+use Rattle.failover_model.specs.Steps.{adopted}
+use Rattle.failover_clean.specs.Loading.{with_object, MayLoad}
 use Rattle.versioned_map.specs.declared.command.Command.TheVariants.{Put}
 use Rattle.versioned_map.specs.declared.command.If.TheVariants.{Any}
 use Rattle.master_state.specs.declared.config.Config.{Config}
@@ -23,7 +24,8 @@ use Rattle.master_state.specs.Causes.{has_room, is_pushed, is_too_big}
 use Rattle.master_state.specs.Data.{Origin, MasterData, fresh_data}
 use Rattle.master_state.specs.Invariant.{IsCore}
 use Rattle.master_state.specs.Log.{opening_of, log_of, find}
-use Rattle.master_state.specs.Steps.{rolling_data, taken_data, halted}
+use Rattle.master_state.specs.declared.ledger.Posting.TheVariants as posting
+use Rattle.master_state.specs.Steps.{rolling_data, pushed_data, halted, Fits}
 
 -- ---- a master to be loaded
 
@@ -82,15 +84,15 @@ pub record Loads (d : MasterData) (o : Object) (e : MasterData) : Type 0 where
     origin = origin_with d.origin o;
   }
 
--- the laws of the log let the object be loaded
+-- the laws of the log let the object be loaded, and it fits
 abbrev pub MayLoadNow : MasterData → Object → Type 0
-MayLoadNow d o = MayLoad (log_of d) o
+MayLoadNow d o = MayLoad (log_of d) o × Fits d (loaded_unit o)
 
 -- ---- the end
 
 -- what a core becomes once all of it is loaded
 abbrev pub settled_data : MasterData → MasterData
-settled_data d = record d { head = settled d.head }
+settled_data d = record d { head = settled d.head; ledger = posting.Settled ∷ d.ledger }
 
 -- The history begins with what was loaded.
 pub record Settles (d e : MasterData) : Type 0 where
@@ -102,9 +104,9 @@ pub record Settles (d e : MasterData) : Type 0 where
 -- Rolls, pushes and faults leave a core without history, passes and what waits.
 abbrev pub BareGoesOn : Type 0
 BareGoesOn = (d : MasterData) → IsBare d
-    → IsBare (rolling_data d) × IsBare (halted d) × ((push : Next) → IsBare (taken_data d push))
+    → IsBare (rolling_data d) × IsBare (halted d) × ((push : Next) → IsBare (pushed_data d push))
 
 -- If nothing waits to be pushed, no roll is under way, and each replica of the head has all units.
 abbrev pub PushedIsWhole : Type 0
 PushedIsWhole = (d : MasterData) → IsCore d → is_pushed d.head ≡ true
-    → ((log_of d).phase ≡ Ready) × IsWhole d.config.replicas (log_of d).head
+    → ((log_of d).mode ≡ Calm) × IsWhole d.config.replicas (head_of d.head)

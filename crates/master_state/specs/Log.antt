@@ -1,10 +1,8 @@
 -- The log of a master, its images, and its index, in words that clauses cite.
-use Rattle.std.specs.Prelude.{◌≡◌, ℕ, zero, suc, ◌+◌, ◌*◌, ◌%◌, List, [], ◌∷◌, length, take, false, Option, Some, None}
-use Rattle.std.specs.Prelude.{map, ◌==◌, slice_get, if◌then◌else◌}
+use Rattle.std.specs.Prelude.{◌≡◌, ℕ, zero, suc, ◌+◌, ◌-◌, ◌*◌, ◌%◌, List, [], ◌∷◌, ◌++◌, length, take, Bool, Option, Some}
+use Rattle.std.specs.Prelude.{None, map, nat_le, if◌then◌else◌}
 use Rattle.std.specs.Option.{option_map, option_map_or}
-use Rattle.cleaner.specs.declared.pass.Pass.{Pass}
 use Rattle.cleaner.specs.Passes.{images_in, rest_of, ids_in}
-use Rattle.cleaner.specs.Seals.{sealed_of}
 use Rattle.entry.specs.declared.key.Key.{Key}
 use Rattle.entry.specs.declared.entry.Entry.{Entry}
 use Rattle.entry.specs.Meaning.{Versioned, object_at, contents_of}
@@ -13,15 +11,20 @@ use Rattle.segment.specs.Bytes.{standing_at}
 use Rattle.versioned_map.specs.declared.command.Command.{Command}
 use Rattle.versioned_map.specs.Command.{command_key}
 use Rattle.versioned_map.specs.Versioned.{State}
-use Rattle.log_model.specs.Data.{LogConfig, LogData, state_of}
-use Rattle.clean_model.specs.Memory.{Memory, Place as EntryPlace}
+use Rattle.log_model.specs.Data.{records_before}
+use Rattle.clean_model.specs.Memory.{Place as EntryPlace}
+use Rattle.failover_model.specs.Data.{Head as FailHead, FailConfig, Mode, Calm, Rolls, FailData, state_of}
+use Rattle.failover_model.specs.Steps.{no_head}
+use Rattle.failover_clean.specs.Memory.{Spot, FailMemory}
 use Rattle.log_head.specs.declared.head.Roll.{Roll}
-use Rattle.log_head.specs.Log.{head_of, phase_of}
-use Rattle.master_state.specs.Budget.{victims_of, survivors_of, is_committing}
+use Rattle.log_head.specs.Head.{HeadValue, everywhere}
+use Rattle.log_head.specs.Log.{head_of, start_of}
+use Rattle.master_state.specs.Budget.{victims_of, survivors_of, is_committing, most_segments}
 use Rattle.master_state.specs.declared.config.Config.{Config}
 use Rattle.places.specs.declared.place.Place.{Place}
 use Rattle.places.specs.Map.{found}
 use Rattle.master_state.specs.Data.{MasterData}
+use Rattle.master_state.specs.Ledger.{took_in, counts_in, shut_in}
 use Rattle.master_state.specs.Images.{image_among, images_among}
 use Rattle.compactor.specs.Places.{keys_in}
 
@@ -38,11 +41,12 @@ homes_from c segment j (suc n) = home c segment j ∷ homes_from c segment (suc 
 
 -- ---- the log
 
-abbrev pub log_config : Config → LogConfig
-log_config c = record {
+abbrev pub fail_config : Config → FailConfig
+fail_config c = record {
   master = c.master;
+  backups = c.backups;
   replicas = c.replicas;
-  homes = λ segment. homes_from c segment 0 c.replicas;
+  most = most_segments c;
   tablets = c.tablets;
   format = c.format;
 }
@@ -51,20 +55,48 @@ log_config c = record {
 abbrev pub opening_of : MasterData → State
 opening_of d = record { contents = contents_of d.origin.objects; safe = d.origin.safe }
 
+-- all replicas of the head were opened
+abbrev pub is_opened : HeadValue → Bool
+is_opened h = nat_le h.replicas (length h.taken)
+
+-- the head in force: none before the first one was opened
+abbrev pub in_force : ℕ → HeadValue → FailHead
+in_force format h =
+    if is_opened h then record {
+      start = (head_of h).start;
+      loaded = (head_of h).loaded;
+      units = (head_of h).units;
+    } else record { start = no_head format; loaded = []; units = [] }
+
+-- how far a roll is: that to the first head begins with the master
+abbrev pub mode_of : HeadValue → Mode
+mode_of h =
+    if is_opened h then option_map_or (λ (r : Roll). Rolls (start_of r)) h.roll Calm else Rolls (head_of h).start
+
 -- the log
-abbrev pub log_of : MasterData → LogData
+abbrev pub log_of : MasterData → FailData
 log_of d = record {
-  config = log_config d.config;
+  config = fail_config d.config;
   opening = opening_of d;
   history = d.history;
-  head = head_of d.head;
-  phase = phase_of d.head;
+  head = in_force d.config.format d.head;
+  counts = counts_in d.ledger;
+  shut = shut_in d.ledger;
+  mode = mode_of d.head;
+  abandoned = [];
+  took = took_in d.ledger;
+  failed = [];
+  frozen = 0;
   next = d.next;
 }
 
 -- the versioned map's state after the history
 abbrev pub state_now : MasterData → State
 state_now d = state_of (log_of d)
+
+-- how many of the first records have units that every replica of the head took
+abbrev pub durable_now : MasterData → ℕ
+durable_now d = records_before (head_of d.head).units (length d.history) (everywhere d.head)
 
 -- what the command's key has now
 abbrev pub held_now : MasterData → Command → Option Versioned
@@ -117,19 +149,23 @@ entry_place d p = record { segment = p.segment; position = position_of (images_o
 abbrev pub rest_now : MasterData → List Place
 rest_now d = option_map_or (rest_of (images_in d.closed)) d.pass []
 
--- how many replicas of a segment that waits were freed
-abbrev pub freed_of : MasterData → ℕ → ℕ
-freed_of d s = if option_map_or (λ (first : ℕ). first == s) (slice_get d.waiting 0) false then d.freed else 0
+-- the replicas of a segment from this one on, so many
+abbrev pub spots_from : Config → ℕ → ℕ → ℕ → List Spot
+spots_from c s j zero = []
+spots_from c s j (suc n) = record { segment = s; backup = home c s j } ∷ spots_from c s (suc j) n
+
+-- the replicas of these segments, but for so many of the first that were freed
+abbrev pub spots_in : Config → List ℕ → ℕ → List Spot
+spots_in c [] freed = []
+spots_in c (s ∷ ids) freed = spots_from c s freed (c.replicas - freed) ++ spots_in c ids 0
 
 -- memory as compaction and cleaning see it
-abbrev pub memory_of : MasterData → Memory
+abbrev pub memory_of : MasterData → FailMemory
 memory_of d = record {
   images = images_of d;
   index = λ k. option_map (entry_place d) (find d k);
   pass = record { victims = victims_of d.pass; survivors = survivors_of d.pass };
   rest = map (entry_place d) (rest_now d);
-  sealed = λ s. option_map_or (λ (p : Pass). sealed_of d.config.replicas p.sealed p.survivors.first s) d.pass 0;
   commits = is_committing d;
-  waiting = d.waiting;
-  freed = freed_of d;
+  waiting = spots_in d.config d.waiting d.freed;
 }

@@ -1,10 +1,13 @@
 -- What a master's core becomes: a command is applied, a roll or a pass begins, a segment is compacted, an entry is
 -- copied, an op was taken, a take failed.
-use Rattle.std.specs.Prelude.{◌≡◌, ◌⊎◌, ℕ, suc, ◌+◌, ◌==◌, List, [], ◌∷◌, ◌++◌, length, map, drop, Bool, false, true}
+use Rattle.std.specs.Prelude.{◌≡◌, ◌⊎◌, ℕ, suc, ◌+◌, ◌≤◌, ◌==◌, List, [], ◌∷◌, ◌++◌, length, map, drop, Bool, false, true}
 use Rattle.std.specs.Prelude.{Option, Some, None}
 use Rattle.std.specs.Prelude.{if◌then◌else◌}
 use Rattle.std.specs.Option.{option_map, option_map_or}
-use Rattle.clean_model.specs.Steps.{commit_start, MayCommit, ids_taken}
+use Rattle.clean_model.specs.Intact.{IsCommit}
+use Rattle.failover_model.specs.Data.{Rolls}
+use Rattle.failover_model.specs.Steps.{applied, MayApply, next_start, rolling}
+use Rattle.failover_clean.specs.Steps.{commit_start, ids_taken}
 use Rattle.cleaner.specs.declared.pass.Copied.{Copied}
 use Rattle.cleaner.specs.declared.pass.Copied.TheVariants as copied
 use Rattle.cleaner.specs.declared.pass.Cursor.{Cursor}
@@ -15,7 +18,7 @@ use Rattle.cleaner.specs.Seals.{none_sealed, sealed_one}
 use Rattle.entry.specs.declared.digest.Listed.{Listed}
 use Rattle.entry.specs.declared.entry.Entry.{Entry}
 use Rattle.entry.specs.declared.key.Key.{Key}
-use Rattle.entry.specs.Text.{text_of}
+use Rattle.entry.specs.Text.{text_of, IsSegment}
 use Rattle.places.specs.declared.place.Place.{Place}
 use Rattle.images.specs.declared.image.Image.{Image}
 use Rattle.images.specs.Sorted.{changed}
@@ -24,12 +27,12 @@ use Rattle.compactor.specs.Kept.{kept_of, moved_all}
 use Rattle.log_head.specs.declared.head.Roll.{Roll}
 use Rattle.log_head.specs.declared.next.Next.{Next}
 use Rattle.log_head.specs.declared.next.Next.TheVariants as next
-use Rattle.log_head.specs.Head.{HeadValue}
+use Rattle.log_head.specs.Head.{HeadValue, is_open}
 use Rattle.log_head.specs.Steps.{with_unit_end, with_opened_replica, with_all_taken, with_roll, with_new_replica}
 use Rattle.log_head.specs.Steps.{with_closed_replica}
 use Rattle.log_head.specs.Steps.{old_image, start_after}
-use Rattle.log_model.specs.Data.{Start}
-use Rattle.log_model.specs.Steps.{applied, MayApply, next_start, rolling, MayRoll}
+use Rattle.log_head.specs.Next.{replica_of, segment_of}
+use Rattle.log_model.specs.Data.{Start, start_entries}
 use Rattle.replica.specs.declared.op.TakeFault.{TakeFault}
 use Rattle.replica.specs.declared.op.TakeFault.TheVariants as take_fault
 use Rattle.versioned_map.specs.declared.command.Command.{Command}
@@ -45,9 +48,12 @@ use Rattle.master_state.specs.declared.step.StepAnswer.TheVariants.{Moved, Carri
 use Rattle.master_state.specs.Budget.{victims_of, survivors_of, is_ready}
 use Rattle.master_state.specs.Causes.{command_refusal, roll_refusal, compact_refusal, clean_refusal, copy_refusal}
 use Rattle.master_state.specs.Causes.{dead_segment, unit_now, survivors_for}
+use Rattle.master_state.specs.declared.ledger.Posting.{Posting}
+use Rattle.master_state.specs.declared.ledger.Posting.TheVariants as posting
 use Rattle.master_state.specs.Data.{MasterData}
 use Rattle.master_state.specs.Images.{with_closed, survivor_images, after_pass, leaving}
-use Rattle.master_state.specs.Log.{log_of, memory_of, state_now, images_of, find, log_set_ids}
+use Rattle.master_state.specs.Ledger.{ended_with}
+use Rattle.master_state.specs.Log.{home, log_of, memory_of, state_now, images_of, find, log_set_ids}
 
 -- the head with a record's unit, where there is one
 abbrev pub appended : HeadValue → ℕ → List Entry → HeadValue
@@ -89,9 +95,16 @@ pub record Applies (d : MasterData) (seat : ℕ) (command : Command) (answer : S
 abbrev pub AppliesAs : MasterData → Record → ℕ → MasterData → Type 0
 AppliesAs d r place e = Applies d r.seat r.command (Applied place r.reply) e
 
--- the laws of the log let the command be applied
+-- what is appended to the head leaves it a whole segment
+pub record Fits (d : MasterData) (unit : List Entry) : Type 0 where
+  pub opened : is_open d.head ≡ true
+  pub segment : IsSegment (d.head.image ++ unit)
+  pub limit : length (text_of (d.head.image ++ unit)) ≤ 8388608
+
+-- The laws of the log let the command be applied, and what it appends is nothing or fits.
 abbrev pub MayApplyNow : MasterData → ℕ → Command → Type 0
 MayApplyNow d seat command = MayApply (log_of d) (dead_segment d command) (record_now d seat command)
+    × ((unit_now d command ≡ []) ⊎ Fits d (unit_now d command))
 
 -- each of these segments with the bytes that it has
 abbrev pub listed_in : List Image → List ℕ → List Listed
@@ -110,6 +123,7 @@ rolling_data d = record d {
   head = with_roll d.head d.config.master (start_now d);
   next = d.next + 1;
   pass = option_map (λ (p : Pass). record p { is_committing = is_ready_pass p }) d.pass;
+  ledger = posting.Began d.next ∷ d.ledger;
 }
 
 -- what the next head begins with, as the log has it
@@ -120,13 +134,20 @@ next_now d = if is_ready d then commit_start (log_of d) (memory_of d) else next_
 pub record BeginsRoll (d : MasterData) (answer : StepAnswer) (e : MasterData) : Type 0 where
   pub passed : roll_refusal d ≡ None
   pub told : answer ≡ RollingTo d.next
-  pub log : log_of e ≡ rolling (log_of d) (next_now d)
+  pub log : log_of e ≡ rolling (log_of d) (next_now d) (Rolls (next_now d))
   pub rest : e ≡ rolling_data d
 
--- the laws of the log let the roll begin
-abbrev pub MayRollNow : MasterData → Type 0
-MayRollNow d =
-    (is_ready d ≡ true → MayCommit (log_of d) (memory_of d) (next_now d)) × (is_ready d ≡ false → MayRoll (log_of d))
+-- the opening of a head is a whole segment
+pub record IsOpening (master : ℕ) (n : Start) : Type 0 where
+  pub segment : IsSegment (start_entries master n)
+  pub limit : length (text_of (start_entries master n)) ≤ 8388608
+
+-- The next head's opening is a whole segment, and the head in force is open. If a pass is ready, the digest is its
+-- commit's.
+pub record MayRollNow (d : MasterData) : Type 0 where
+  pub opened : is_open d.head ≡ true
+  pub opening : IsOpening d.config.master (next_now d)
+  pub commit : is_ready d ≡ true → IsCommit (log_of d).head.start (memory_of d).pass (next_now d)
 
 -- the entries of a segment that compaction keeps
 abbrev pub kept_now : MasterData → ℕ → List Entry
@@ -176,6 +197,7 @@ pub record BeginsPass (d : MasterData) (victims : List ℕ) (answer : StepAnswer
     closed = d.closed ++ survivor_images d.config (survivor_ids (next_survivors d victims));
     next = d.next + survivors_for d victims;
     pass = Some (fresh_pass victims (next_survivors d victims) cursor);
+    ledger = posting.Survivors d.next (survivors_for d victims) ∷ d.ledger;
   }
 
 -- what a copy answers, by what became of the entry
@@ -242,6 +264,25 @@ taken_data d (next.Extend j) = record d { head = with_all_taken d.head j }
 taken_data d (next.OpenNew j) =
     option_map_or (λ (r : Roll). record d { head = with_new_replica d.head r }) d.head.roll d
 taken_data d (next.CloseOld j) = option_map_or (closed_data d) d.head.roll d
+
+-- the backup of the replica that a push is for
+abbrev pub backup_of : MasterData → Next → ℕ
+backup_of d next = home d.config (segment_of d.head next) (replica_of next)
+
+-- the ledger once the op of a push was taken
+abbrev pub ledger_after : MasterData → Next → List Posting
+ledger_after d (next.OpenFirst j) =
+    ended_with (suc j == d.config.replicas)
+    (posting.Took (segment_of d.head (next.OpenFirst j)) (backup_of d (next.OpenFirst j)) ∷ d.ledger)
+ledger_after d (next.Extend j) = posting.Has (backup_of d (next.Extend j)) (length d.head.units) ∷ d.ledger
+ledger_after d (next.OpenNew j) =
+    posting.Took (segment_of d.head (next.OpenNew j)) (backup_of d (next.OpenNew j)) ∷ d.ledger
+ledger_after d (next.CloseOld j) =
+    ended_with (suc j == d.config.replicas) (posting.Shut (backup_of d (next.CloseOld j)) ∷ d.ledger)
+
+-- what a master knows once the op of a push was taken, and posted
+abbrev pub pushed_data : MasterData → Next → MasterData
+pushed_data d next = taken_data (record d { ledger = ledger_after d next }) next
 
 -- a backup failed
 abbrev pub halted : MasterData → MasterData

@@ -12,6 +12,7 @@
 mod budget;
 mod config;
 mod image;
+mod ledger;
 mod loaded;
 mod state;
 mod step;
@@ -19,6 +20,7 @@ mod step;
 pub use config::{Config, ConfigFault};
 pub use hash_index::{KeyHasher, Secret};
 pub use image::image_of;
+pub use ledger::{Ledger, Posting};
 pub use loaded::Loaded;
 pub use state::Core;
 pub use step::{Refusal, Step, StepAnswer};

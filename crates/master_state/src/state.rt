@@ -4,17 +4,20 @@ ghost use Rattle.std.specs.Prelude.{◌≡◌, ◌<◌, None, IfOk, OnErr, IsSom
 ghost use Rattle.std.specs.Option.{option_map};
 ghost use Rattle.entry.specs.Text.{text_of};
 ghost use Rattle.log_head.specs.Head.{digest_of};
-ghost use Rattle.log_model.specs.Data.{durable_of};
 ghost use Rattle.master_state.specs.Config.{config_fault};
 ghost use Rattle.master_state.specs.Data.{fresh_data};
 ghost use Rattle.master_state.specs.Invariant.{IsCore};
-ghost use Rattle.clean_model.specs.Loading.{restored};
+ghost use Rattle.failover_model.specs.Steps.{restored};
 ghost use Rattle.master_state.specs.Loading.{restored_data, IsBare};
-ghost use Rattle.master_state.specs.Log.{log_config, log_of, image_of, home};
-ghost use Rattle.master_state.specs.Steps.{failed_data, refusal_of};
+ghost use Rattle.master_state.specs.Log.{fail_config, log_of, durable_now, image_of, home};
+ghost use Rattle.master_state.specs.Steps.{failed_data, refusal_of, backup_of, ledger_after};
+ghost use Rattle.master_state.specs.Ledger.{posted, ended_with};
+ghost use Rattle.log_head.specs.Next.{replica_of, segment_of};
+ghost use Rattle.std.specs.Prelude.{ℕ, suc, ◌==◌};
 
 use crate::config::Config;
 use crate::image::image_of;
+use crate::ledger::{Ledger, Posting};
 use crate::loaded::Loaded;
 use crate::step::Refusal;
 use cleaner::Pass;
@@ -22,7 +25,7 @@ use entry::{NoMemory, Row, SafeVersion, Tablet};
 use hash_index::Index;
 use history::History;
 use images::Images;
-use log_head::Head;
+use log_head::{Head, Next};
 use replica::TakeFault;
 use std::alloc::Global;
 use std::marker::Model;
@@ -57,6 +60,8 @@ pub struct Core {
     pub loaded: Loaded,
     /// The safe version that its history began with.
     pub first_safe: SafeVersion,
+    /// What its backups answered.
+    pub ledger: Ledger,
 }
 
 impl Model for Core {
@@ -79,6 +84,7 @@ impl Model for Core {
       freed = m.freed;
       is_halted = m.is_halted;
       origin = record { objects = m.loaded.objects; safe = m.first_safe };
+      ledger = m.ledger.postings;
     } };
 
     // while a roll is under way there is room for one more closed segment, and while a pass commits `waiting` has room
@@ -97,6 +103,7 @@ impl Model for Core {
           freed = m.freed;
           is_halted = m.is_halted;
           origin = record { objects = m.loaded.objects; safe = m.first_safe };
+          ledger = m.ledger.postings;
         })
         × IfSome m.pass (λ p. p.is_committing ≡ true
         → length m.waiting.items + length p.victims ≤ vec_capacity m.waiting) };
@@ -117,7 +124,7 @@ impl Core {
     pub fn restore(alloc: Global, config: Config, safe: SafeVersion) -> Result<Core, NoMemory>
         requires { config_fault config ≡ None }
         ensures made { IfOk result (λ core. core ≡ restored_data config safe) }
-        ensures log { IfOk result (λ core. log_of core ≡ restored (log_config config) safe) }
+        ensures log { IfOk result (λ core. log_of core ≡ restored (fail_config config) safe) }
         ensures valid { IfOk result (λ core. IsCore core) }
         ensures bare { IfOk result (λ core. IsBare core) }
     {
@@ -152,6 +159,7 @@ impl Core {
             is_halted: false,
             loaded: Loaded::nothing(),
             first_safe: safe,
+            ledger: Ledger::empty(),
         };
         core.show_valid();
         Ok(core)
@@ -217,11 +225,61 @@ impl Core {
 
     /// How many of the first records have units that every replica of the head took.
     pub fn durable(&self) -> u64
-        ensures { result ≡ durable_of (log_of self.now) }
+        ensures { result ≡ durable_now self.now }
     {
         match self.head.first_missing() {
             None => self.history.len() as u64,
             Some(number) => number as u64,
+        }
+    }
+
+    // ---- the ledger
+
+    /// Posts what happened.
+    #[inline(always)]
+    pub fn post(&mut self, posting: &Posting)
+        ensures posted { self.new ≡ posted self.old posting.now }
+        ensures valid { IsCore self.new }
+    {
+        self.ledger = Ledger::with(&self.ledger, posting);
+    }
+
+    /// Posts an op of a push that was taken, on this segment and backup.
+    #[inline(always)]
+    pub fn post_push(&mut self, next: Next, segment: u64, backup: u64)
+        requires few { replica_of next < 64 }
+        requires segment { segment ≡ segment_of self.old.head next }
+        requires backup { backup ≡ backup_of self.old next }
+        ensures posted { self.new ≡ record self.old { ledger = ledger_after self.old next } }
+        ensures valid { IsCore self.new }
+    {
+        match next {
+            Next::OpenFirst(replica) => {
+                self.post(&Posting::Took(segment, backup));
+                self.post_end(replica);
+            }
+            Next::Extend(_) => {
+                let units = self.head.count();
+                self.post(&Posting::Has(backup, units));
+            }
+            Next::OpenNew(_) => self.post(&Posting::Took(segment, backup)),
+            Next::CloseOld(replica) => {
+                self.post(&Posting::Shut(backup));
+                self.post_end(replica);
+            }
+        }
+    }
+
+    /// Posts the end of a roll, if this replica was the last.
+    #[inline(always)]
+    fn post_end(&mut self, replica: usize)
+        requires { replica < 64 }
+        ensures posted { let is_last = suc replica == self.old.config.replicas in
+            self.new ≡ record self.old { ledger = ended_with is_last self.old.ledger } }
+        ensures valid { IsCore self.new }
+    {
+        if replica as u64 + 1 == self.config.replicas {
+            self.post(&Posting::Ended);
         }
     }
 

@@ -1,21 +1,24 @@
-use Rattle.std.proofs.Common.{◌≡◌, ℕ, refl, sym, ap, subst, ◌∙◌}
+use Rattle.std.proofs.Common.{◌≡◌, ℕ, ◌<◌, Some, refl, sym, ap, subst, ◌∙◌}
 use Rattle.replica.specs.Op.{OpValue, shown_op}
 use Rattle.replica.specs.Picture.{FleetState}
 use Rattle.replica.specs.Take.{Takes, Refuses}
 use Rattle.replica.specs.declared.op.TakeFault.{TakeFault}
 use Rattle.log_head.specs.declared.next.Next.{Next}
-use Rattle.log_head.specs.Next.{op_of}
+use Rattle.log_head.specs.Next.{IsNextPush, replica_of, segment_of, op_of}
+use Rattle.log_model.specs.Ops.{op_of as log_op_of}
+use Rattle.failover_bytes.specs.Ops.{log_op_for}
 use Rattle.master_state.specs.declared.step.StepAnswer.{StepAnswer}
 use Rattle.master_state.specs.Data.{MasterData}
 use Rattle.master_state.specs.Invariant.{IsCore}
 use Rattle.master_state.specs.Log.{home}
-use Rattle.master_state.specs.Steps.{taken_data}
+use Rattle.master_state.specs.Steps.{taken_data, backup_of, ledger_after, pushed_data}
+use Rattle.master_state.proofs.Posted.{posted_core}
 use Rattle.master_space.proofs.Taken.{taken_images}
 use Rattle.master.specs.Invariant.{StaysServed}
 use Rattle.master.specs.Pushes.{Pushes, answer_of}
 use Rattle.master.specs.World.{world_of}
-use Rattle.master.proofs.NextOps.{log_op, next_told}
-use Rattle.master.proofs.Served.{served_not_wrong, served_declines, served_failed, served_taken}
+use Rattle.master.proofs.NextOps.{act_now, push_op, op_bytes, few_replicas}
+use Rattle.master.proofs.Served.{served_told, served_not_wrong, served_declines, served_failed, served_taken}
 use Rattle.master.proofs.pushing.hand.Given as given
 use Rattle.master.proofs.pushing.hand.Goals as goal
 use Rattle.master.proofs.pushing.hand.Goals.{After-take}
@@ -40,35 +43,51 @@ module _ (g : given.Over) (c : goal.After-take g) where
   op : shown_op c.op-op.result ≡ op_of d.config.master d.head push
   op = c.op-op.ensures ∙ (λ i. op_of (c.master.ensures i) (c.head.ensures.head i) push)
 
-  segment : c.op-op.result.segment ≡ (log_op d push).segment
+  segment : c.op-op.result.segment ≡ segment_of d.head push
   segment = ap (λ (o : OpValue). o.segment) op
 
-  backup : c.home-backup.result ≡ (log_op d push).backup
+  backup : c.home-backup.result ≡ backup_of d push
   backup = c.home-backup.ensures ∙ (λ i. home d.config (segment i) (c.replica.ensures i))
 
-  takes : Takes f c.home-backup.result (shown_op c.op-op.result) after
-      → Takes f (log_op d push).backup (op_of d.config.master d.head push) after
-  takes = subst (λ (x : ℕ × OpValue). Takes f x.0 x.1 after) (λ i. (backup i, op i))
+  abbrev bytes : OpValue
+  bytes = log_op_of d.config.master (log_op_for d.config.master (backup_of d push) (segment_of d.head push)
+      (act_now d push))
+
+  -- as the log has it
+  handed : shown_op c.op-op.result ≡ bytes
+  handed = op ∙ op_bytes d core push c.requires.next
+
+  takes : Takes f c.home-backup.result (shown_op c.op-op.result) after → Takes f (backup_of d push) bytes after
+  takes = subst (λ (x : ℕ × OpValue). Takes f x.0 x.1 after) (λ i. (backup i, handed i))
 
   refuses : (x : TakeFault) → Refuses f c.home-backup.result (shown_op c.op-op.result) x after
-      → Refuses f (log_op d push).backup (op_of d.config.master d.head push) x after
-  refuses x = subst (λ (y : ℕ × OpValue). Refuses f y.0 y.1 x after) (λ i. (backup i, op i))
+      → Refuses f (backup_of d push) bytes x after
+  refuses x = subst (λ (y : ℕ × OpValue). Refuses f y.0 y.1 x after) (λ i. (backup i, handed i))
 
   accepted : Takes f c.home-backup.result (shown_op c.op-op.result) after
       → Pushes (world_of d f) (answer_of push c.home-backup.result c.op-op.result.segment)
-      (world_of (taken_data d push) after)
+      (world_of (pushed_data d push) after)
   accepted took =
-      subst (λ (x : StepAnswer). Pushes (world_of d f) x (world_of (taken_data d push) after))
+      subst (λ (x : StepAnswer). Pushes (world_of d f) x (world_of (pushed_data d push) after))
       (λ i. answer_of push (sym backup i) (sym segment i))
       (record {
-        op = log_op d push;
+        op = push_op d push;
         running = c.requires.running;
-        next = next_told d core push c.requires.next;
+        next = served_told d push f c.requires.running c.requires.next c.requires.served;
         push = push;
         rest = refl;
-        images = taken_images d core push c.requires.next;
+        images = taken_images (record d { ledger = ledger_after d push }) (posted_core d (ledger_after d push) core)
+            push c.requires.next;
         takes = takes took;
       })
+
+  few : replica_of push < 64
+  few = few_replicas d.head core.head push c.requires.next
+
+pub home-backup-requires : goal.home-backup-requires
+home-backup-requires g c =
+    subst (λ (n : ℕ). n < 64) (sym c.replica.ensures)
+    (few_replicas c.args.core.now.head c.head.ensures.valid.head c.args.next c.requires.next)
 
 pub fail-requires : goal.fail-requires
 fail-requires g c =
@@ -76,18 +95,28 @@ fail-requires g c =
     served_not_wrong (d g t) (push g t) (f g t) c.requires.running c.requires.next c.requires.served (after g t)
     c.in-Err.fault (refuses g t c.in-Err.fault c.in-Err.ensures)
 
+pub post_push-requires : goal.post_push-requires
+post_push-requires g c =
+    let t = (goal.at.post_push-requires g c).After-take in
+    record { few = few g t; segment = segment g t; backup = backup g t }
+
+pub took-requires : goal.took-requires
+took-requires g c =
+    subst (λ (m : MasterData). IsNextPush m.head (Some c.args.next)) (sym c.post_push.ensures.posted) c.requires.next
+
 pub returns-in-Ok-clause-accepted : goal.returns-in-Ok-clause-accepted
 returns-in-Ok-clause-accepted g c =
     let t = (goal.at.returns-in-Ok-clause-accepted g c).After-take in
-    rw (c.answer.ensures, c.took.ensures.taken) (accepted g t c.in-Ok.ensures)
+    rw (c.answer.ensures, c.took.ensures.taken, c.post_push.ensures.posted) (accepted g t c.in-Ok.ensures)
 
 pub returns-in-Ok-clause-served : goal.returns-in-Ok-clause-served
 returns-in-Ok-clause-served g c =
     let t = (goal.at.returns-in-Ok-clause-served g c).After-take in
-    subst (λ (m : MasterData). StaysServed (d g t) (f g t) m (after g t)) (sym c.took.ensures.taken)
+    let is = c.took.ensures.taken ∙ ap (λ (m : MasterData). taken_data m c.args.next)
+    {y = record (d g t) { ledger = ledger_after (d g t) c.args.next }} c.post_push.ensures.posted in
+    subst (λ (m : MasterData). StaysServed (d g t) (f g t) m (after g t)) (sym is)
     (served_taken (d g t) (push g t) (f g t) c.requires.running c.requires.next
-    (subst IsCore c.took.ensures.taken c.took.ensures.valid)
-    (after g t) (takes g t c.in-Ok.ensures).1)
+    (subst IsCore is c.took.ensures.valid) (after g t) (takes g t c.in-Ok.ensures))
 
 pub returns-in-Err-clause-refused : goal.returns-in-Err-clause-refused
 returns-in-Err-clause-refused g c =

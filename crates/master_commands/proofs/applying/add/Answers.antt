@@ -5,11 +5,9 @@ use Rattle.versioned_map.specs.declared.command.Reply.{Reply}
 use Rattle.master_commands.specs.declared.change.Change.{Change}
 use Rattle.log_head.specs.Head.{HeadValue, IsHeadValue}
 use Rattle.master_state.specs.declared.step.StepAnswer.TheVariants.{Applied}
-use Rattle.log_model.specs.Steps.{MayApply}
-use Rattle.master_state.specs.Causes.{command_refusal, dead_segment, is_empty}
-use Rattle.master_state.specs.Log.{log_of}
+use Rattle.master_state.specs.Causes.{command_refusal, is_empty}
 use Rattle.master_commands.specs.Change.{unit_of_change, IsJudged, IsSought}
-use Rattle.master_state.specs.Steps.{appended, reply_now, record_now, Applies}
+use Rattle.master_state.specs.Steps.{appended, reply_now, Applies, MayApplyNow}
 use Rattle.master_state.specs.contracts.state.Core.{the_view}
 use Rattle.master_state.specs.Data.{MasterData}
 use Rattle.versioned_map.specs.Command.{command_key}
@@ -109,6 +107,7 @@ module _ (c : goal.After-push) where
     freed = d.freed;
     is_halted = d.is_halted;
     origin = d.origin;
+    ledger = d.ledger;
   }
 
   abbrev with_reply : Reply → List Record
@@ -128,6 +127,7 @@ module _ (c : goal.After-push) where
     freed = d.freed;
     is_halted = d.is_halted;
     origin = d.origin;
+    ledger = d.ledger;
   }
 
   core : IsCore left
@@ -145,7 +145,7 @@ module _ (c : goal.After-push) where
       (added_applies d c.core.invariant.2 command change dead judged seat there.0 c.enact.new.index.held passed
       there.1 moved head)
 
-  may_apply : MayApply (log_of d) (dead_segment d command) (record_now d c.args.accepted.now.seat command)
+  may_apply : MayApplyNow d c.args.accepted.now.seat command
   may_apply =
       let there = c.in_ok-enact.ensures.index in
       may d c.core.invariant.2 command change dead judged c.args.accepted.now.seat there.0 c.enact.new.index.held passed
@@ -168,9 +168,7 @@ returns-clause-added c =
 pub returns-clause-may : goal.returns-clause-may
 returns-clause-may c =
     let t = (goal.at.returns-clause-may c).After-push in
-    subst (λ (m : MasterData). MayApply (log_of m) (dead_segment m (command t))
-    (record_now m c.args.accepted.now.seat (command t)))
-    c.core.view_is (may_apply t)
+    subst (λ (m : MasterData). MayApplyNow m c.args.accepted.now.seat (command t)) c.core.view_is (may_apply t)
 
 pub returns-clause-valid : goal.returns-clause-valid
 returns-clause-valid c = core (goal.at.returns-clause-valid c).After-push

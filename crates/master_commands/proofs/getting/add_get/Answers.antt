@@ -4,17 +4,16 @@ use Rattle.std.proofs.lemmas.Result.{err_from_is_err_and}
 use Rattle.entry.specs.declared.key.Key.{Key}
 use Rattle.entry.specs.Meaning.{Versioned}
 use Rattle.entry.specs.View.{shown_key}
-use Rattle.log_model.specs.Steps.{MayApply}
 use Rattle.versioned_map.specs.declared.command.Command.TheVariants.{Get}
 use Rattle.versioned_map.specs.declared.command.Record.{Record}
 use Rattle.master_commands.specs.Change.{found_at, IsPresent}
 use Rattle.master_state.specs.contracts.state.Core.{the_view}
 use Rattle.master_state.specs.declared.step.StepAnswer.TheVariants.{Applied}
-use Rattle.master_state.specs.Causes.{command_refusal, dead_segment}
+use Rattle.master_state.specs.Causes.{command_refusal}
 use Rattle.master_state.specs.Data.{MasterData}
 use Rattle.master_state.specs.Invariant.{IsCore}
-use Rattle.master_state.specs.Log.{log_of, images_of}
-use Rattle.master_state.specs.Steps.{reply_now, record_now, Applies}
+use Rattle.master_state.specs.Log.{images_of}
+use Rattle.master_state.specs.Steps.{reply_now, Applies, MayApplyNow}
 use Rattle.master_commands.proofs.Gets.{read_core, read_applies, read_may}
 use Rattle.master_commands.proofs.getting.add_get.Goals as goal
 use Rattle.master_commands.proofs.getting.add_get.Goals.{After-record_get}
@@ -62,9 +61,8 @@ returns-clause-added c =
 pub returns-clause-may : goal.returns-clause-may
 returns-clause-may c =
     let t = (goal.at.returns-clause-may c).After-record_get in
-    subst (λ (m : MasterData). MayApply (log_of m) (dead_segment m (Get (k t)))
-    (record_now m c.args.seat (Get (k t))))
-    c.core.view_is (read_may (d t) c.core.invariant.2 (k t) c.args.seat (passed t))
+    subst (λ (m : MasterData). MayApplyNow m c.args.seat (Get (k t))) c.core.view_is
+    (read_may (d t) c.core.invariant.2 (k t) c.args.seat (passed t))
 
 pub returns-clause-valid : goal.returns-clause-valid
 returns-clause-valid c =

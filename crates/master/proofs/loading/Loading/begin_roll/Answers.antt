@@ -8,14 +8,14 @@ use Rattle.master_state.specs.Invariant.{IsCore}
 use Rattle.master_state.specs.Steps.{BeginsRoll, MayRollNow}
 use Rattle.master.specs.Invariant.{IsWellLoaded}
 use Rattle.master.proofs.KeptLoading.{roll_keeps}
-use Rattle.master.proofs.Served.{rolled_loaded}
+use Rattle.master.proofs.Rolled.{rolled_loaded}
 use Rattle.master.proofs.loading.Loading.begin_roll.Goals as goal
 
 -- whether it began or was refused
 loaded_then : (d e : MasterData) (f : FleetState) (result : Result StepAnswer Refusal) → IsWellLoaded d f
     → IfOk result (λ answer. BeginsRoll d answer e) → OnOk result (MayRollNow d) → OnOk result (IsCore e)
     → OnErr result (e ≡ d) → IsWellLoaded e f
-loaded_then d e f (Ok answer) loaded is may core same = rolled_loaded d e f answer loaded is may core
+loaded_then d e f (Ok answer) loaded is may core same = rolled_loaded d e f answer is may core loaded
 loaded_then d e f (Err r) loaded is may core same = subst (λ (m : MasterData). IsWellLoaded m f) (sym same) loaded
 
 pub invariant_of-self : goal.invariant_of-self

@@ -17,7 +17,7 @@ use Rattle.master.proofs.master.Master.begin_roll.Goals as goal
 kept_then : (d e : MasterData) (f : FleetState) (result : Result StepAnswer Refusal) → IsWellKept d f
     → IfOk result (λ answer. BeginsRoll d answer e) → OnOk result (MayRollNow d) → OnOk result (IsCore e)
     → OnErr result (e ≡ d) → IsWellKept e f
-kept_then d e f (Ok answer) kept is may core same = rolled_kept d e f answer kept is may core
+kept_then d e f (Ok answer) kept is may core same = rolled_kept d e f answer is may core kept
 kept_then d e f (Err r) kept is may core same = subst (λ (m : MasterData). IsWellKept m f) (sym same) kept
 
 pub invariant_of-self : goal.invariant_of-self

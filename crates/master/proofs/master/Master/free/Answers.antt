@@ -1,7 +1,8 @@
 use Rattle.std.proofs.Common.{◌≡◌, ℕ, false, sym, ap, subst, ◌∙◌}
-use Rattle.std.specs.Prelude.{Option, Some, None, is_none, if◌then◌else◌}
-use Rattle.clean_model.specs.Steps.{free_op}
-use Rattle.log_model.specs.Ops.{LogOp, op_of}
+use Rattle.std.specs.Prelude.{Option, Some, None, is_none, slice_get, if◌then◌else◌}
+use Rattle.log_model.specs.Ops.{op_of}
+use Rattle.failover_model.specs.Shown.{Free as FreeAct}
+use Rattle.failover_bytes.specs.Ops.{log_op_for}
 use Rattle.replica.specs.Op.{OpValue}
 use Rattle.replica.specs.Op as op
 use Rattle.replica.specs.Picture.{FleetState}
@@ -15,8 +16,8 @@ use Rattle.master_state.specs.Invariant.{IsCore}
 use Rattle.master_state.specs.Log.{home}
 use Rattle.master_state.specs.Steps.{freed_data}
 use Rattle.master.specs.Invariant.{IsWellKept}
-use Rattle.master.specs.Passes.{IsFreeOp, Frees}
-use Rattle.master.proofs.Freed.{is_free_op, freed_kept, free_accepted, free_not_wrong, free_failed, free_declined}
+use Rattle.master.specs.Passes.{Frees}
+use Rattle.master.proofs.Freed.{first_free, freed_kept, free_accepted, free_not_wrong, free_failed, free_declined}
 use Rattle.master.proofs.master.Master.free.Given as given
 use Rattle.master.proofs.master.Master.free.Goals as goal
 use Rattle.master.proofs.master.Master.free.Goals.{After-take}
@@ -43,26 +44,28 @@ module _ (g : given.Over) (c : goal.After-take g) where
       c.to_free.ensures.refused running
       ∙ ap (λ (x : Option (ℕ × ℕ)). if is_none x then Some Nothing else None) c.in-Some.is
 
-  abbrev o : LogOp
-  o = free_op c.in-Some.segment (home d.config c.in-Some.segment c.in-Some.replica)
+  next : (slice_get d.waiting 0 ≡ Some c.in-Some.segment) × (d.freed ≡ c.in-Some.replica)
+  next = first_free d c.in-Some.segment c.in-Some.replica (sym c.to_free.ensures.next ∙ c.in-Some.is)
 
-  is : IsFreeOp d o
-  is = is_free_op d kept.core c.in-Some.segment c.in-Some.replica (sym c.to_free.ensures.next ∙ c.in-Some.is)
+  abbrev home_now : ℕ
+  home_now = home d.config c.in-Some.segment d.freed
+
+  abbrev bytes : OpValue
+  bytes = op_of d.config.master (log_op_for d.config.master home_now c.in-Some.segment FreeAct)
 
   abbrev handed : OpValue
   handed = record { master = c.master.result; segment = c.in-Some.segment; act = op.Free }
 
-  op_is : handed ≡ op_of d.config.master o
-  op_is = ap (λ (m : ℕ). op_of m o) c.master.ensures
+  op_is : handed ≡ bytes
+  op_is = ap (λ (m : ℕ). op_of m (log_op_for m home_now c.in-Some.segment FreeAct)) c.master.ensures
 
-  backup : c.home-backup.result ≡ o.backup
-  backup = c.home-backup.ensures
+  backup : c.home-backup.result ≡ home_now
+  backup = c.home-backup.ensures ∙ ap (home d.config c.in-Some.segment) (sym next.1)
 
-  takes : Takes f c.home-backup.result handed after → Takes f o.backup (op_of d.config.master o) after
+  takes : Takes f c.home-backup.result handed after → Takes f home_now bytes after
   takes = subst (λ (x : ℕ × OpValue). Takes f x.0 x.1 after) (λ i. (backup i, op_is i))
 
-  refuses : (x : TakeFault) → Refuses f c.home-backup.result handed x after
-      → Refuses f o.backup (op_of d.config.master o) x after
+  refuses : (x : TakeFault) → Refuses f c.home-backup.result handed x after → Refuses f home_now bytes x after
   refuses x = subst (λ (y : ℕ × OpValue). Refuses f y.0 y.1 x after) (λ i. (backup i, op_is i))
 
   accepted : Takes f c.home-backup.result handed after
@@ -71,26 +74,26 @@ module _ (g : given.Over) (c : goal.After-take g) where
   accepted took =
       subst (λ (b : ℕ). Frees (record { knows = d; fleet = f }) (Freed c.in-Some.segment b)
       (record { knows = freed_data d; fleet = after }))
-      (sym backup) (free_accepted d f kept passed o is after (takes took))
+      (sym backup) (free_accepted d f kept passed c.in-Some.segment next.0 after (takes took))
 
 pub invariant_of-self : goal.invariant_of-self
 invariant_of-self g c =
     let t = (goal.at.invariant_of-self g c).After-take in
     subst (λ (m : MasterData). IsWellKept m (after g t)) (sym c.freed.ensures.freed)
-    (freed_kept (d g t) (f g t) (kept g t) (passed g t) (o g t) (is g t) (after g t)
-    (subst IsCore c.freed.ensures.freed c.freed.ensures.valid) (takes g t c.in-Ok.ensures).1)
+    (freed_kept (d g t) (f g t) (kept g t) (passed g t) c.in-Some.segment (next g t).0 (after g t)
+    (subst IsCore c.freed.ensures.freed c.freed.ensures.valid) (takes g t c.in-Ok.ensures))
 
 pub fail-requires : goal.fail-requires
 fail-requires g c =
     let t = (goal.at.fail-requires g c).After-take in
-    free_not_wrong (d g t) (f g t) (kept g t) (passed g t) (o g t) (is g t) (after g t) c.in-Err.fault
+    free_not_wrong (d g t) (f g t) (kept g t) (passed g t) c.in-Some.segment (next g t).0 (after g t) c.in-Err.fault
     (refuses g t c.in-Err.fault c.in-Err.ensures)
 
 pub invariant_of-self-in-Err : goal.invariant_of-self-in-Err
 invariant_of-self-in-Err g c =
     let t = (goal.at.invariant_of-self-in-Err g c).After-take in
     subst (λ (m : MasterData). IsWellKept m (after g t)) (sym c.fail.ensures.failed)
-    (free_failed (d g t) (f g t) (kept g t) (passed g t) (o g t) (is g t) (after g t) c.in-Err.fault
+    (free_failed (d g t) (f g t) (kept g t) (passed g t) c.in-Some.segment (next g t).0 (after g t) c.in-Err.fault
     (refuses g t c.in-Err.fault c.in-Err.ensures))
 
 pub returns-in-Ok-clause-accepted : goal.returns-in-Ok-clause-accepted
@@ -102,5 +105,5 @@ pub returns-in-Err-clause-refused : goal.returns-in-Err-clause-refused
 returns-in-Err-clause-refused g c =
     let t = (goal.at.returns-in-Err-clause-refused g c).After-take in
     rw (← c.self.view_is, c.fail.ensures.answer, c.fail.ensures.failed)
-    (free_declined (d g t) (f g t) (kept g t) (passed g t) (o g t) (is g t) (after g t) c.in-Err.fault
+    (free_declined (d g t) (f g t) (kept g t) (passed g t) c.in-Some.segment (next g t).0 (after g t) c.in-Err.fault
     (refuses g t c.in-Err.fault c.in-Err.ensures))

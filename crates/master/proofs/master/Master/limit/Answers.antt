@@ -1,20 +1,12 @@
-use Rattle.std.proofs.Common.{sym, subst}
+use Rattle.std.proofs.Common.{refl, sym, subst}
 use Rattle.replica.specs.Picture.{FleetState}
 use Rattle.replica.specs.Take.{limited}
 use Rattle.master.specs.Invariant.{IsWellKept}
+use Rattle.master.proofs.Retired.{beside_kept}
 use Rattle.master.proofs.master.Master.limit.Goals as goal
 
 pub invariant_of-self : goal.invariant_of-self
 invariant_of-self g c =
-    let kept = c.self.invariant in
-    let then : IsWellKept c.self.inside.core (limited (g.F.Fleet.state c.self.inside.fleet) c.args.n) = record {
-      core = kept.core;
-      before = kept.before;
-      holds = kept.holds;
-      backups = kept.backups;
-      least = kept.least;
-      now = kept.now;
-      running = kept.running;
-      apart = kept.apart;
-    } in
-    subst (λ (f : FleetState). IsWellKept c.self.inside.core f) (sym c.limit.ensures) then
+    let f : FleetState = g.F.Fleet.state c.self.inside.fleet in
+    subst (λ (h : FleetState). IsWellKept c.self.inside.core h) (sym c.limit.ensures)
+    (beside_kept c.self.inside.core f (limited f c.args.n) c.self.invariant (λ b s. refl) refl refl)

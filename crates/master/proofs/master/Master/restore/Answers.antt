@@ -1,9 +1,9 @@
 use Rattle.std.proofs.Common.{◌≡◌, sym, subst}
-use Rattle.clean_model.specs.Loading.{restored}
+use Rattle.failover_model.specs.Steps.{restored}
 use Rattle.master_state.specs.Data.{MasterData}
 use Rattle.master_state.specs.Invariant.{IsCore}
 use Rattle.master_state.specs.Loading.{IsBare}
-use Rattle.master_state.specs.Log.{log_config, log_of}
+use Rattle.master_state.specs.Log.{fail_config, log_of}
 use Rattle.master.specs.Invariant.{IsWellLoaded}
 use Rattle.master.proofs.Loaded.{restored_loaded}
 use Rattle.master.proofs.master.Master.restore.Goals as goal
@@ -14,5 +14,5 @@ invariant_of-loading g c =
     subst (λ (m : MasterData). IsWellLoaded m (g.F.Fleet.state c.args.fleet)) (sym made)
     (restored_loaded c.args.config c.args.safe (g.F.Fleet.state c.args.fleet) c.requires.config
     (subst IsCore made c.in-Ok.ensures.valid)
-    (subst (λ (m : MasterData). log_of m ≡ restored (log_config c.args.config) c.args.safe) made c.in-Ok.ensures.log)
+    (subst (λ (m : MasterData). log_of m ≡ restored (fail_config c.args.config) c.args.safe) made c.in-Ok.ensures.log)
     (subst IsBare made c.in-Ok.ensures.bare) c.requires.backups c.requires.none c.requires.least)

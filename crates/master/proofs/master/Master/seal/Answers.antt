@@ -1,8 +1,10 @@
-use Rattle.std.proofs.Common.{◌≡◌, ℕ, ◌<◌, false, refl, sym, ap, subst, ◌∙◌}
+use Rattle.std.proofs.Common.{◌≡◌, ℕ, false, refl, sym, ap, subst, ◌∙◌}
 use Rattle.std.specs.Prelude.{Option, Some, None, IfSome, IsSome, is_none, if◌then◌else◌}
 use Rattle.entry.specs.Bag.{IsAmong}
-use Rattle.clean_model.specs.Steps.{seal_op}
-use Rattle.log_model.specs.Ops.{LogOp, op_of}
+use Rattle.log_model.specs.Ops.{op_of}
+use Rattle.failover_model.specs.Shown.{Seal as SealAct}
+use Rattle.failover_bytes.specs.Ops.{log_op_for}
+use Rattle.failover_clean.specs.Memory.{text_in}
 use Rattle.replica.specs.Op.{OpValue, shown_op}
 use Rattle.replica.specs.Picture.{FleetState}
 use Rattle.replica.specs.Take.{Takes, Refuses}
@@ -11,13 +13,16 @@ use Rattle.master_state.specs.declared.step.Refusal.TheVariants.{Nothing}
 use Rattle.master_state.specs.declared.step.StepAnswer.TheVariants.{Sealed}
 use Rattle.master_state.specs.Budget.{survivors_of}
 use Rattle.master_state.specs.Causes.{seal_refusal}
+use Rattle.master_state.specs.declared.ledger.Posting.TheVariants as posting
 use Rattle.master_state.specs.Data.{MasterData}
 use Rattle.master_state.specs.Invariant.{IsCore}
+use Rattle.master_state.specs.Ledger.{posted}
 use Rattle.master_state.specs.Log.{memory_of, home}
 use Rattle.master_state.specs.Steps.{sealed_data}
+use Rattle.master_state.specs.Waits.{next_seal}
 use Rattle.master.specs.Invariant.{IsWellKept}
-use Rattle.master.specs.Passes.{IsSealOp, Seals}
-use Rattle.master.proofs.Sealed.{is_seal_op, sealed_kept, seal_accepted, seal_not_wrong, seal_failed, seal_declined}
+use Rattle.master.specs.Passes.{Seals}
+use Rattle.master.proofs.Sealed.{bytes_are, sealed_kept, seal_accepted, seal_not_wrong, seal_failed, seal_declined}
 use Rattle.master.proofs.master.Master.seal.Given as given
 use Rattle.master.proofs.master.Master.seal.Goals as goal
 use Rattle.master.proofs.master.Master.seal.Goals.{After-take}
@@ -44,37 +49,37 @@ module _ (g : given.Over) (c : goal.After-take g) where
       c.to_seal.ensures.refused running
       ∙ ap (λ (x : Option (ℕ × ℕ)). if is_none x then Some Nothing else None) c.in-Some.is
 
-  abbrev o : LogOp
-  o = seal_op (memory_of d) c.in-Some.survivor (home d.config c.in-Some.survivor c.in-Some.replica)
+  next : next_seal d ≡ Some (c.in-Some.survivor, c.in-Some.replica)
+  next = sym c.to_seal.ensures.next ∙ c.in-Some.is
 
-  few : c.in-Some.replica < d.config.replicas
-  few = subst (λ (x : Option (ℕ × ℕ)). IfSome x (λ (y : ℕ × ℕ). y.1 < d.config.replicas)) c.in-Some.is
-      c.to_seal.ensures.few
+  abbrev home_now : ℕ
+  home_now = home d.config c.in-Some.survivor c.in-Some.replica
 
-  is : IsSealOp d o
-  is = is_seal_op d kept.core c.in-Some.survivor c.in-Some.replica few (sym c.to_seal.ensures.next ∙ c.in-Some.is)
+  abbrev bytes : OpValue
+  bytes = op_of d.config.master (log_op_for d.config.master home_now c.in-Some.survivor
+      (SealAct (text_in (memory_of d) c.in-Some.survivor)))
 
-  op : shown_op c.seal_op-op.result ≡ op_of d.config.master o
-  op = c.seal_op-op.ensures o.backup
+  op : shown_op c.seal_op-op.result ≡ bytes
+  op = c.seal_op-op.ensures ∙ bytes_are d f kept passed c.in-Some.survivor c.in-Some.replica next
 
-  backup : c.home-backup.result ≡ o.backup
-  backup = c.home-backup.ensures
-
-  takes : Takes f c.home-backup.result (shown_op c.seal_op-op.result) after
-      → Takes f o.backup (op_of d.config.master o) after
-  takes = subst (λ (x : ℕ × OpValue). Takes f x.0 x.1 after) (λ i. (backup i, op i))
+  takes : Takes f c.home-backup.result (shown_op c.seal_op-op.result) after → Takes f home_now bytes after
+  takes = subst (λ (x : ℕ × OpValue). Takes f x.0 x.1 after) (λ i. (c.home-backup.ensures i, op i))
 
   refuses : (x : TakeFault) → Refuses f c.home-backup.result (shown_op c.seal_op-op.result) x after
-      → Refuses f o.backup (op_of d.config.master o) x after
-  refuses x = subst (λ (y : ℕ × OpValue). Refuses f y.0 y.1 x after) (λ i. (backup i, op i))
+      → Refuses f home_now bytes x after
+  refuses x = subst (λ (y : ℕ × OpValue). Refuses f y.0 y.1 x after) (λ i. (c.home-backup.ensures i, op i))
+
+  -- what is known then, if it is posted for this backup
+  abbrev sealed_for : ℕ → MasterData
+  sealed_for b = sealed_data (posted d (posting.Took c.in-Some.survivor b))
 
   accepted : Takes f c.home-backup.result (shown_op c.seal_op-op.result) after
       → Seals (record { knows = d; fleet = f }) (Sealed c.home-backup.result)
-      (record { knows = sealed_data d; fleet = after })
+      (record { knows = sealed_for c.home-backup.result; fleet = after })
   accepted took =
       subst (λ (b : ℕ). Seals (record { knows = d; fleet = f }) (Sealed b)
-      (record { knows = sealed_data d; fleet = after })) (sym backup)
-      (seal_accepted d f kept passed o is after (takes took))
+      (record { knows = sealed_for b; fleet = after })) (sym c.home-backup.ensures)
+      (seal_accepted d f kept passed c.in-Some.survivor c.in-Some.replica next after (takes took))
 
 pub seal_op-op-requires : goal.seal_op-op-requires
 seal_op-op-requires g c =
@@ -83,36 +88,39 @@ seal_op-op-requires g c =
 
 pub sealed-requires : goal.sealed-requires
 sealed-requires g c =
-    subst (λ (x : Option (ℕ × ℕ)). IsSome x) (sym (sym c.to_seal.ensures.next ∙ c.in-Some.is)) refl
+    subst (λ (m : MasterData). IsSome (next_seal m)) (sym c.post.ensures.posted)
+    (subst (λ (x : Option (ℕ × ℕ)). IsSome x) (sym (sym c.to_seal.ensures.next ∙ c.in-Some.is)) refl)
 
 pub invariant_of-self : goal.invariant_of-self
 invariant_of-self g c =
     let t = (goal.at.invariant_of-self g c).After-take in
-    subst (λ (m : MasterData). IsWellKept m (after g t)) (sym c.sealed.ensures.sealed)
-    (sealed_kept (d g t) (f g t) (kept g t) (passed g t) (o g t) (is g t) (after g t)
-    (subst IsCore c.sealed.ensures.sealed c.sealed.ensures.valid) (takes g t c.in-Ok.ensures).1)
+    let is = c.sealed.ensures.sealed ∙ ap sealed_data c.post.ensures.posted
+    ∙ ap (sealed_for g t) c.home-backup.ensures in
+    subst (λ (m : MasterData). IsWellKept m (after g t)) (sym is)
+    (sealed_kept (d g t) (f g t) (kept g t) (passed g t) c.in-Some.survivor c.in-Some.replica (next g t) (after g t)
+    (subst IsCore is c.sealed.ensures.valid) (takes g t c.in-Ok.ensures))
 
 pub fail-requires : goal.fail-requires
 fail-requires g c =
     let t = (goal.at.fail-requires g c).After-take in
-    seal_not_wrong (d g t) (f g t) (kept g t) (passed g t) (o g t) (is g t) (after g t) c.in-Err.fault
-    (refuses g t c.in-Err.fault c.in-Err.ensures)
+    seal_not_wrong (d g t) (f g t) (kept g t) (passed g t) c.in-Some.survivor c.in-Some.replica (next g t) (after g t)
+    c.in-Err.fault (refuses g t c.in-Err.fault c.in-Err.ensures)
 
 pub invariant_of-self-in-Err : goal.invariant_of-self-in-Err
 invariant_of-self-in-Err g c =
     let t = (goal.at.invariant_of-self-in-Err g c).After-take in
     subst (λ (m : MasterData). IsWellKept m (after g t)) (sym c.fail.ensures.failed)
-    (seal_failed (d g t) (f g t) (kept g t) (passed g t) (o g t) (is g t) (after g t) c.in-Err.fault
-    (refuses g t c.in-Err.fault c.in-Err.ensures))
+    (seal_failed (d g t) (f g t) (kept g t) (passed g t) c.in-Some.survivor c.in-Some.replica (next g t) (after g t)
+    c.in-Err.fault (refuses g t c.in-Err.fault c.in-Err.ensures))
 
 pub returns-in-Ok-clause-accepted : goal.returns-in-Ok-clause-accepted
 returns-in-Ok-clause-accepted g c =
     let t = (goal.at.returns-in-Ok-clause-accepted g c).After-take in
-    rw (← c.self.view_is, c.sealed.ensures.sealed) (accepted g t c.in-Ok.ensures)
+    rw (← c.self.view_is, c.sealed.ensures.sealed, c.post.ensures.posted) (accepted g t c.in-Ok.ensures)
 
 pub returns-in-Err-clause-refused : goal.returns-in-Err-clause-refused
 returns-in-Err-clause-refused g c =
     let t = (goal.at.returns-in-Err-clause-refused g c).After-take in
     rw (← c.self.view_is, c.fail.ensures.answer, c.fail.ensures.failed)
-    (seal_declined (d g t) (f g t) (kept g t) (passed g t) (o g t) (is g t) (after g t) c.in-Err.fault
-    (refuses g t c.in-Err.fault c.in-Err.ensures))
+    (seal_declined (d g t) (f g t) (kept g t) (passed g t) c.in-Some.survivor c.in-Some.replica (next g t) (after g t)
+    c.in-Err.fault (refuses g t c.in-Err.fault c.in-Err.ensures))

@@ -3,14 +3,17 @@ use Rattle.std.specs.Prelude.{IsSome}
 use Rattle.log_head.specs.Head.{HeadValue, IsHeadValue}
 use Rattle.log_head.specs.Steps.{settled}
 use Rattle.master_state.specs.contracts.state.Core.{the_view}
+use Rattle.master_state.specs.declared.ledger.Posting.TheVariants as posting
 use Rattle.master_state.specs.Causes.{is_pushed}
 use Rattle.master_state.specs.Data.{MasterData}
 use Rattle.master_state.specs.Invariant.{IsCore}
-use Rattle.master_state.specs.Loading.{IsBare, Settles, settled_data}
+use Rattle.master_state.specs.Ledger.{posted}
+use Rattle.master_state.specs.Loading.{IsBare, Settles}
 use Rattle.master_commands.proofs.LoadedCore.{settled_core, settled_log}
 use Rattle.master_commands.proofs.loading.CoreLoads.begin_history.Goals as goal
+use Rattle.master_commands.proofs.loading.CoreLoads.begin_history.Goals.{After-begin_history}
 
-module _ (c : goal.After-begin_history) where
+module _ (c : After-begin_history) where
   abbrev d : MasterData
   d = the_view c.self.inside
 
@@ -26,15 +29,15 @@ module _ (c : goal.After-begin_history) where
   abbrev left : MasterData
   left = record d { head = c.begin_history.new.self }
 
-  left_is : settled_data d ≡ left
+  left_is : record d { head = settled d.head } ≡ left
   left_is = ap (λ (h : HeadValue). record d { head = h }) (sym c.begin_history.ensures.settled)
 
   core : IsCore left
   core = subst IsCore left_is (settled_core d c.self.invariant.2 pushed bare head)
 
-  settles : Settles d left
+  settles : Settles d (posted left posting.Settled)
   settles =
-      subst (λ (m : MasterData). Settles d m) left_is
+      subst (λ (m : MasterData). Settles d (posted m posting.Settled)) left_is
       (record { log = settled_log d c.self.invariant.2 pushed bare head; rest = refl })
 
   roll_then : c.begin_history.new.self.roll ≡ d.head.roll
@@ -45,7 +48,7 @@ invariant_of-self c =
     (λ some. c.self.invariant.0 (subst IsSome (roll_then c) some), c.self.invariant.1, core c, c.self.invariant.3)
 
 pub returns-clause-settled : goal.returns-clause-settled
-returns-clause-settled c = subst (λ (m : MasterData). Settles m (left c)) c.self.view_is (settles c)
-
-pub returns-clause-valid : goal.returns-clause-valid
-returns-clause-valid c = core c
+returns-clause-settled c =
+    let t = (goal.at.returns-clause-settled c).After-begin_history in
+    subst (λ (m : MasterData). Settles m c.post.new.self) c.self.view_is
+    (subst (λ (m : MasterData). Settles (d t) m) (sym c.post.ensures.posted) (settles t))

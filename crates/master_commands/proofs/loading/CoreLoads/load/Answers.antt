@@ -1,7 +1,6 @@
 use Rattle.std.proofs.Common.{◌≡◌, None, length, sym, ap, subst, ◌∙◌}
 use Rattle.std.specs.Prelude.{IsSome}
 use Rattle.std.specs.Result.{result_err}
-use Rattle.clean_model.specs.Loading.{MayLoad}
 use Rattle.compactor.specs.Places.{keys_in}
 use Rattle.entry.specs.declared.entry.Object.{Object}
 use Rattle.entry.specs.Text.{text_of}
@@ -14,8 +13,7 @@ use Rattle.master_state.specs.Data.{MasterData}
 use Rattle.master_state.specs.Images.{images_among}
 use Rattle.master_commands.proofs.Indexed.{IsMovedBy}
 use Rattle.master_state.specs.Invariant.{IsCore}
-use Rattle.master_state.specs.Loading.{IsBare, IsNewObject, loaded_unit, load_refusal, Loads}
-use Rattle.master_state.specs.Log.{log_of}
+use Rattle.master_state.specs.Loading.{IsBare, IsNewObject, loaded_unit, load_refusal, Loads, MayLoadNow}
 use Rattle.master_commands.proofs.LoadedCore.{is_admitted, absent_then, loaded, may_load, loaded_core, loads}
 use Rattle.master_commands.proofs.loading.CoreLoads.load.Goals as goal
 use Rattle.master_commands.proofs.loading.CoreLoads.load.Goals.{After-with-self-inside}
@@ -84,7 +82,7 @@ module _ (c : goal.After-with-self-inside) where
       subst (λ (m : MasterData). Loads d o m) knows
       (loads d c.self.invariant.2 bare o is_new passed c.append_object.new.index.held head moved)
 
-  may : MayLoad (log_of d) o
+  may : MayLoadNow d o
   may = may_load d c.self.invariant.2 bare o is_new passed c.append_object.new.index.held head moved
 
   roll_then : c.append_object.new.head.roll ≡ d.head.roll
@@ -103,7 +101,7 @@ returns-clause-loaded c =
 pub returns-clause-may : goal.returns-clause-may
 returns-clause-may c =
     let t = (goal.at.returns-clause-may c).After-with-self-inside in
-    subst (λ (m : MasterData). MayLoad (log_of m) (o t)) c.self.view_is (may t)
+    subst (λ (m : MasterData). MayLoadNow m (o t)) c.self.view_is (may t)
 
 pub returns-clause-valid : goal.returns-clause-valid
 returns-clause-valid c = core (goal.at.returns-clause-valid c).After-with-self-inside

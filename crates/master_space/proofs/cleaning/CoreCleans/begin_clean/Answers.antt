@@ -3,8 +3,7 @@ use Rattle.std.specs.Prelude.{Option, Some, None}
 use Rattle.std.specs.Result.{result_err}
 use Rattle.std.proofs.lemmas.List.{length-append, length-map}
 use Rattle.std.proofs.lemmas.List.FromFn.{length-range_with_len}
-use Rattle.clean_model.specs.Steps.{MayBeginClean}
-use Rattle.cleaner.specs.declared.pass.Cursor.{Cursor}
+use Rattle.failover_clean.specs.Steps.{MayBeginClean}
 use Rattle.cleaner.specs.declared.pass.Pass.{Pass}
 use Rattle.cleaner.specs.declared.survivors.Survivors.{Survivors}
 use Rattle.cleaner.specs.Passes.{images_in, places_of, rest_of, survivor_ids, IsCursorAt, AreVictims}
@@ -12,6 +11,7 @@ use Rattle.images.specs.Image.{Image}
 use Rattle.images.specs.Images.{ImagesValue, AreWithin, free_seglets}
 use Rattle.images.specs.Sorted.{AreBelow}
 use Rattle.master_state.specs.contracts.state.Core.{the_view}
+use Rattle.master_state.specs.declared.ledger.Posting.TheVariants as posting
 use Rattle.master_state.specs.declared.step.Refusal.{Refusal}
 use Rattle.master_state.specs.declared.step.StepAnswer.TheVariants.{Begun}
 use Rattle.master_state.specs.Budget.{whole_seglets}
@@ -19,6 +19,7 @@ use Rattle.master_state.specs.Causes.{survivors_for, clean_refusal}
 use Rattle.master_state.specs.Data.{MasterData}
 use Rattle.master_state.specs.Images.{survivor_image, survivor_images}
 use Rattle.master_state.specs.Invariant.{IsCore, AreImagesOf}
+use Rattle.master_state.specs.Ledger.{posted}
 use Rattle.master_state.specs.Log.{log_of, memory_of}
 use Rattle.master_state.specs.Steps.{fresh_pass, next_survivors, BeginsPass}
 use Rattle.master_space.proofs.FreeVictims.{MayBegin, may_begin_pass}
@@ -109,82 +110,90 @@ begin-pass-requires c =
     (sym (images_of a c.add_survivors.new.closed c.in_ok-add_survivors.ensures.ok))
     (victims_fit (d a) (core a) (victims a) (may a))
 
-module _ (c : goal.Joined-self) where
-  abbrev a : After-reserve
-  a = (goal.at.returns-clause-valid c).After-reserve
+-- what has begun: the survivors' images, and a pass with a cursor
+record HasBegun (a : After-reserve) (added : ImagesValue) (p : Pass) : Type 0 where
+  pub images : added.images ≡ closed_then (d a) (core a) (victims a) (may a)
+  pub begun : p ≡ fresh_pass (victims a) (asked a) p.cursor
+  pub rest : rest_of (images_in added.images) p ≡ places_of (images_in added.images) (victims a)
+  pub within : p.cursor.victim ≤ length (victims a)
+  pub cursor : IsCursorAt (d a).index.seed (images_in added.images) (drop p.cursor.victim (victims a)) p.cursor
 
+module _ (a : After-reserve) (added : ImagesValue) (p : Pass) (has : HasBegun a added p) where
   abbrev k : MasterData
-  k = the_view c.self.inside
-
-  abbrev cursor : Cursor
-  cursor = c.begin-pass.result.cursor
+  k = d a
 
   abbrev next : Survivors
-  next = next_survivors k c.args.victims
+  next = next_survivors k (victims a)
 
-  images : c.add_survivors.new.closed.images ≡ closed_then k (core a) c.args.victims (may a)
-  images = images_of a c.add_survivors.new.closed c.in_ok-add_survivors.ensures.ok
-
-  begun : c.begin-pass.result ≡ fresh_pass c.args.victims next cursor
-  begun = c.begin-pass.ensures.begun ∙ (λ i. fresh_pass c.args.victims (survivors a i) cursor)
+  begun : p ≡ fresh_pass (victims a) next p.cursor
+  begun = has.begun ∙ (λ i. fresh_pass (victims a) (survivors a i) p.cursor)
 
   abbrev after : List Image
-  after = closed_then k (core a) c.args.victims (may a)
+  after = closed_then k (core a) (victims a) (may a)
 
-  begins : rest_of (images_in after) (fresh_pass c.args.victims next cursor)
-      ≡ places_of (images_in after) c.args.victims
+  begins : rest_of (images_in after) (fresh_pass (victims a) next p.cursor) ≡ places_of (images_in after) (victims a)
   begins =
-      subst (λ (x : List Image × Pass). rest_of (images_in x.0) x.1 ≡ places_of (images_in x.0) c.args.victims)
-      (λ i. (images i, begun i)) c.begin-pass.ensures.rest
+      subst (λ (x : List Image × Pass). rest_of (images_in x.0) x.1 ≡ places_of (images_in x.0) (victims a))
+      (λ i. (has.images i, begun i)) has.rest
 
-  at : IsCursorAt k.index.seed (images_in after) (drop cursor.victim c.args.victims) cursor
-  at = subst (λ (cs : List Image). IsCursorAt k.index.seed (images_in cs) (drop cursor.victim c.args.victims) cursor)
-      images c.begin-pass.ensures.cursor
+  at : IsCursorAt k.index.seed (images_in after) (drop p.cursor.victim (victims a)) p.cursor
+  at = subst (λ (cs : List Image). IsCursorAt k.index.seed (images_in cs) (drop p.cursor.victim (victims a)) p.cursor)
+      has.images has.cursor
 
   abbrev left : MasterData
-  left = record k {
-    closed = c.add_survivors.new.closed.images;
-    next = k.next + c.in_ok-size.size.survivors;
-    pass = Some c.begin-pass.result;
-  }
+  left = record k { closed = added.images; next = k.next + (asked a).count; pass = Some p }
 
   is : record k {
     closed = after;
-    next = k.next + survivors_for k c.args.victims;
-    pass = Some (fresh_pass c.args.victims next cursor);
+    next = k.next + survivors_for k (victims a);
+    pass = Some (fresh_pass (victims a) next p.cursor);
   } ≡ left
   is = λ i. record k {
-    closed = sym images i;
+    closed = sym has.images i;
     next = k.next + sym (count a) i;
     pass = Some (sym begun i);
   }
 
   valid_then : IsCore left
-  valid_then = subst IsCore is (opened_core k (core a) c.args.victims (may a) cursor begins
-      c.begin-pass.ensures.within at (short a))
+  valid_then =
+      subst IsCore is (opened_core k (core a) (victims a) (may a) p.cursor begins has.within at (short a))
 
-  begins_then : BeginsPass k c.args.victims (Begun (asked a)) left
+  begins_then : BeginsPass k (victims a) (Begun (asked a)) (posted left (posting.Survivors k.next (asked a).count))
   begins_then =
-      subst (λ (x : Survivors × MasterData). BeginsPass k c.args.victims (Begun x.0) x.1)
+      subst (λ (x : Survivors × MasterData). BeginsPass k (victims a) (Begun x.0)
+      (posted x.1 (posting.Survivors k.next x.0.count)))
       (λ i. (sym (survivors a) i, is i))
-      (begins_pass k (core a) c.args.victims (may a) cursor begins c.begin-pass.ensures.within at (short a)
-      (passed a))
+      (begins_pass k (core a) (victims a) (may a) p.cursor begins has.within at (short a) (passed a))
+
+module _ (c : goal.Joined-self) where
+  abbrev a : After-reserve
+  a = (goal.at.invariant_of-self-2 c).After-reserve
+
+  has_begun : HasBegun a c.add_survivors.new.closed c.begin-pass.result
+  has_begun = record {
+    images = images_of a c.add_survivors.new.closed c.in_ok-add_survivors.ensures.ok;
+    begun = c.begin-pass.ensures.begun;
+    rest = c.begin-pass.ensures.rest;
+    within = c.begin-pass.ensures.within;
+    cursor = c.begin-pass.ensures.cursor;
+  }
 
   room_then : length c.add_survivors.new.closed.images < c.add_survivors.new.closed.room
   room_then =
       let enough = c.in_ok-reserve.ensures.ok in
       let room = ap (λ (v : ImagesValue). v.room) c.in_ok-add_survivors.ensures.ok in
       let all = ap (λ (v : ImagesValue). length v.images) c.in_ok-add_survivors.ensures.ok
-      ∙ length-append c.reserve.new.self.images (survivor_images k.config (survivor_ids (asked a))) in
-      let new = length-map (survivor_ids (asked a)) (survivor_image k.config)
-      ∙ length-range_with_len k.next c.in_ok-size.size.survivors in
+      ∙ length-append c.reserve.new.self.images (survivor_images c.self.inside.config (survivor_ids (asked a))) in
+      let new = length-map (survivor_ids (asked a)) (survivor_image c.self.inside.config)
+      ∙ length-range_with_len c.self.inside.next_id c.in_ok-size.size.survivors in
       let same = ap (λ (v : ImagesValue). length v.images) c.reserve.ensures.same in
       omega (arith, enough, room, all, new, same)
 
-  sizes_then : AreImagesOf k.config c.add_survivors.new.closed
+  sizes_then : AreImagesOf c.self.inside.config c.add_survivors.new.closed
   sizes_then =
-      subst (AreImagesOf k.config) (sym c.in_ok-add_survivors.ensures.ok)
-      (let first = subst (AreImagesOf k.config) (sym c.reserve.ensures.same) (let own = c.self.invariant.1 in
+      subst (AreImagesOf c.self.inside.config) (sym c.in_ok-add_survivors.ensures.ok)
+      (let first = subst (AreImagesOf c.self.inside.config) (sym c.reserve.ensures.same)
+      (let own = c.self.invariant.1 in
       record { segment = own.segment; seglet = own.seglet; seglets = own.seglets }) in
       record { segment = first.segment; seglet = first.seglet; seglets = first.seglets })
 
@@ -197,12 +206,21 @@ pub invariant_of-self-2 : goal.invariant_of-self-2
 invariant_of-self-2 c = (
   λ some. room_then c,
   sizes_then c,
-  valid_then c,
-  λ committing. (let not = ap (λ (p : Pass). p.is_committing) (begun c) in absurd (cc)),
+  valid_then (a c) c.add_survivors.new.closed c.begin-pass.result (has_begun c),
+  λ committing. (let not = ap (λ (p : Pass). p.is_committing) (has_begun c).begun in absurd (cc)),
 )
 
 pub returns-clause-begun : goal.returns-clause-begun
-returns-clause-begun c = rw (← c.self.view_is) (begins_then c)
+returns-clause-begun c =
+    let a = (goal.at.returns-clause-begun c).After-reserve in
+    rw (← c.self.view_is) (subst (BeginsPass (d a) (victims a) (Begun (asked a))) (sym c.post.ensures.posted)
+    (begins_then a c.add_survivors.new.closed c.begin-pass.result (record {
+      images = images_of a c.add_survivors.new.closed c.in_ok-add_survivors.ensures.ok;
+      begun = c.begin-pass.ensures.begun;
+      rest = c.begin-pass.ensures.rest;
+      within = c.begin-pass.ensures.within;
+      cursor = c.begin-pass.ensures.cursor;
+    })))
 
 pub returns-clause-may : goal.returns-clause-may
 returns-clause-may c =
@@ -211,4 +229,4 @@ returns-clause-may c =
     (may_clean_now (d a) (core a) c.args.victims (may a))
 
 pub returns-clause-valid : goal.returns-clause-valid
-returns-clause-valid c = valid_then c
+returns-clause-valid c = c.post.ensures.valid

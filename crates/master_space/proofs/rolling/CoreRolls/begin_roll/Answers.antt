@@ -9,19 +9,21 @@ use Rattle.log_head.specs.Head.{IsHeadValue}
 use Rattle.log_head.specs.Steps.{start_after, with_roll}
 use Rattle.log_model.specs.Data.{Start}
 use Rattle.master_state.specs.contracts.state.Core.{the_view}
+use Rattle.master_state.specs.declared.ledger.Posting.TheVariants.{Began}
 use Rattle.master_state.specs.declared.step.StepAnswer.TheVariants.{Rolling}
 use Rattle.master_state.specs.Budget.{is_ready, victims_of, survivors_of}
 use Rattle.master_state.specs.Causes.{roll_refusal}
 use Rattle.master_state.specs.Data.{MasterData}
 use Rattle.master_state.specs.Invariant.{IsCore, AreImagesOf}
-use Rattle.master_state.specs.Steps.{BeginsRoll, MayRollNow, listed_in, start_now, rolling_data}
+use Rattle.master_state.specs.Ledger.{posted}
+use Rattle.master_state.specs.Steps.{BeginsRoll, MayRollNow, listed_in, start_now}
 use Rattle.std.proofs.lemmas.Grind.{div_ceil_times}
 use Rattle.std.proofs.lemmas.Result.{err_from_is_err_and}
 use Rattle.master_state.proofs.Refusals.{sizes_of}
 use Rattle.master_space.proofs.RollLaws.{roll_begins, may_roll_now}
 use Rattle.master_space.proofs.RollStarts.{new_ids, pass_now, start_now_is, start_parts, pass_marked, room_marked}
 use Rattle.master_space.proofs.SurvivorLens.{entering_listed}
-use Rattle.master_space.proofs.RollStarts.{new_rise, new_count, rolled_core}
+use Rattle.master_space.proofs.RollStarts.{new_rise, new_count, unposted, rolled_core}
 use Rattle.master_space.proofs.rolling.CoreRolls.begin_roll.Goals as goal
 use Rattle.master_space.proofs.rolling.CoreRolls.begin_roll.Goals.{After-as_slice, After-mark}
 
@@ -131,9 +133,10 @@ module _ (c : After-mark) where
     freed = k.freed;
     is_halted = k.is_halted;
     origin = k.origin;
+    ledger = k.ledger;
   }
 
-  is : rolling_data k ≡ left
+  is : unposted k ≡ left
   is = λ i. record {
     config = k.config;
     head = sym begun i;
@@ -147,6 +150,7 @@ module _ (c : After-mark) where
     freed = k.freed;
     is_halted = k.is_halted;
     origin = k.origin;
+    ledger = k.ledger;
   }
 
   room_then : IsSome c.begin_roll.new.self.roll → length c.take_spare.new.self.images < c.take_spare.new.self.room
@@ -167,8 +171,10 @@ module _ (c : After-mark) where
       subst IsCore is (rolled_core k core' passed'
       (subst (λ (n : Start). IsHeadValue (with_roll k.head k.config.master n)) (start_now_is k) valid))
 
-  begins : BeginsRoll k (Rolling k.next) left
-  begins = subst (BeginsRoll k (Rolling k.next)) is (roll_begins k core' passed' valid)
+  begins : BeginsRoll k (Rolling k.next) (posted left (Began k.next))
+  begins =
+      subst (λ (m : MasterData). BeginsRoll k (Rolling k.next) (posted m (Began k.next))) is
+      (roll_begins k core' passed' valid)
 
 pub invariant_of-self-2 : goal.invariant_of-self-2
 invariant_of-self-2 c = let m = (goal.at.invariant_of-self-2 c).After-mark in (
@@ -182,7 +188,9 @@ invariant_of-self-2 c = let m = (goal.at.invariant_of-self-2 c).After-mark in (
 )
 
 pub returns-clause-begun : goal.returns-clause-begun
-returns-clause-begun c = rw (← c.self.view_is) (begins (goal.at.returns-clause-begun c).After-mark)
+returns-clause-begun c =
+    let m = (goal.at.returns-clause-begun c).After-mark in
+    rw (← c.self.view_is) (subst (BeginsRoll (k m) (Rolling (k m).next)) (sym c.post.ensures.posted) (begins m))
 
 pub returns-clause-may : goal.returns-clause-may
 returns-clause-may c =
@@ -190,7 +198,7 @@ returns-clause-may c =
     subst MayRollNow c.self.view_is (may_roll_now (k m) (core' m) (passed' m) (valid m))
 
 pub returns-clause-valid : goal.returns-clause-valid
-returns-clause-valid c = valid_then (goal.at.returns-clause-valid c).After-mark
+returns-clause-valid c = c.post.ensures.valid
 
 pub overflow_mul-memory : goal.overflow_mul-memory
 overflow_mul-memory c =

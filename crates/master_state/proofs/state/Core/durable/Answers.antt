@@ -13,7 +13,7 @@ returns-in-None c =
     rw (← c.self.view_is) (len
     ∙ sym (from_none (slice_get d.head.units (everywhere d.head)) (length d.history)
     (sym c.first_missing.ensures.missing ∙ c.in-None.is))
-    ∙ durable_is d c.self.invariant.2)
+    ∙ durable_is d)
 
 pub returns-in-Some : goal.returns-in-Some
 returns-in-Some c =
@@ -21,4 +21,4 @@ returns-in-Some c =
     rw (← c.self.view_is)
     (sym (from_some (slice_get d.head.units (everywhere d.head)) (length d.history) c.in-Some.number
     (sym c.first_missing.ensures.missing ∙ c.in-Some.is))
-    ∙ durable_is d c.self.invariant.2)
+    ∙ durable_is d)

@@ -16,6 +16,7 @@ new-closed-requires c = sizes_of c.args.config c.requires
 pub invariant_of-core : goal.invariant_of-core
 invariant_of-core c =
     let nothing : c.nothing.result.objects ≡ [] = search rules in
+    let ledger : c.empty.result.postings ≡ [] = search rules in
     let index : c.with_hasher.result.held ≡ no_places (secret_seed c.args.config.hasher.secret) =
     ap (λ (v : IndexValue). v.held) c.with_hasher.ensures in
     let history : c.new.result.records ≡ [] = search rules in
@@ -29,7 +30,7 @@ invariant_of-core c =
       seglets = ap (λ (v : ImagesValue). v.seglets) made;
     } in
     let closed : c.new-closed.result.images ≡ [] = ap (λ (v : ImagesValue). v.images) made in
-    rw (head, closed, index, history, waiting, nothing) (
+    rw (head, closed, index, history, waiting, nothing, ledger) (
       (λ never. absurd (cc)),
       record { segment = sizes.segment; seglet = sizes.seglet; seglets = sizes.seglets },
       restored_core c.args.config c.args.safe (subst (λ (h : HeadValue). IsHeadValue h) head
@@ -40,8 +41,10 @@ invariant_of-core c =
 pub returns-clause-log : goal.returns-clause-log
 returns-clause-log c =
     let nothing : c.nothing.result.objects ≡ [] = search rules in
+    let ledger : c.empty.result.postings ≡ [] = search rules in
     let history : c.new.result.records ≡ [] = search rules in
     let head : c.in_ok-head.head ≡ fresh_head c.args.config.master c.args.config.replicas
     (lone_start c.args.config.format c.args.safe) = search rules in
-    rw (head, history, nothing)
-    (restored_log c.args.config c.args.safe (subst (λ (h : HeadValue). IsHeadValue h) head c.in_ok-head.ensures.valid))
+    rw (head, history, nothing, ledger)
+    (restored_log c.args.config c.args.safe (subst (λ (h : HeadValue). IsHeadValue h) head c.in_ok-head.ensures.valid)
+    c.requires)
