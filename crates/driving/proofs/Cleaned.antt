@@ -28,7 +28,7 @@ use Rattle.master_state.specs.declared.step.StepAnswer.TheVariants.{Begun}
 use Rattle.master_state.specs.Budget.{is_ready, newest_digest, survivors_of, victims_of}
 use Rattle.master_state.specs.Causes.{seal_refusal}
 use Rattle.master_state.specs.Data.{MasterData}
-use Rattle.master_state.specs.Steps.{listed_in, next_survivors, start_now}
+use Rattle.master_state.specs.Steps.{ledger_after, listed_in, next_survivors, start_now}
 use Rattle.master.specs.Steps.{Accepts}
 use Rattle.master.specs.World.{World}
 use Rattle.driving.specs.Cleans.{IsCleaned, IsFinished, digest_after}
@@ -206,9 +206,9 @@ module _ (c : Config) (victims : List ℕ) (survivors : Survivors) (ids : List �
       pushed : (old new : World) (a : StepAnswer) → Accepts old Push a new
           → IsPassing cursor filling sealed old.knows → IsPassing cursor filling sealed new.knows
       pushed old new a push (lists, opened) = (
-        ap listing push.rest ∙ taken_listing old.knows push.push ∙ lists,
+        ap listing push.rest ∙ taken_listing (record old.knows { ledger = ledger_after old.knows push.push }) push.push ∙ lists,
         ap (λ (d : MasterData). d.pass) push.rest
-            ∙ taken_pass old.knows push.push (pass_at cursor filling sealed false) opened refl,
+            ∙ taken_pass (record old.knows { ledger = ledger_after old.knows push.push }) push.push (pass_at cursor filling sealed false) opened refl,
       )
 
       -- ---- the commit
@@ -258,9 +258,9 @@ module _ (c : Config) (victims : List ℕ) (survivors : Survivors) (ids : List �
       commit_pushed : (head : ℕ) (old new : World) (a : StepAnswer) → Accepts old Push a new
           → IsCommitting head old.knows → IsCommitting head new.knows
       commit_pushed head old new a push (lists, commits) = (
-        ap listing push.rest ∙ taken_listing old.knows push.push ∙ lists,
+        ap listing push.rest ∙ taken_listing (record old.knows { ledger = ledger_after old.knows push.push }) push.push ∙ lists,
         subst (λ (d : MasterData). EndsWithRoll (pass_at cursor filling sealed true) d) (sym push.rest)
-            (taken_commit old.knows push.push (pass_at cursor filling sealed true) refl commits),
+            (taken_commit (record old.knows { ledger = ledger_after old.knows push.push }) push.push (pass_at cursor filling sealed true) refl commits),
       )
 
 -- the newest digest of an open head is its own

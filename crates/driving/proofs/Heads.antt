@@ -1,66 +1,35 @@
 -- The head that the pushes of a roll end with.
-use Rattle.std.proofs.Common.{◌≡◌, ◌<◌, ◌+◌, ◌-◌, ℕ, zero, suc, Bool, true, false, refl, sym, ap, subst, inl, inr, ◌∙◌}
-use Rattle.std.proofs.Common.{arith}
-use Rattle.std.specs.Prelude.{Option, Some, None, is_none, not, ◌==◌, ◌&&◌, if◌then◌else◌, nat_lt, unwrap_or, ◌⊎◌}
+use Rattle.std.proofs.Common.{◌≡◌, ◌<◌, ◌-◌, ℕ, zero, suc, Bool, true, false, refl, sym, ap, subst, inl, inr, ◌∙◌}
+use Rattle.std.specs.Prelude.{Option, Some, None, is_none, not, ◌==◌, ◌&&◌, if◌then◌else◌, unwrap_or, ◌⊎◌}
 use Rattle.std.specs.Prelude.{Result, Ok, Err, IfOk, IfErr}
 use Rattle.std.specs.Option.{option_map_or}
-use Rattle.entry.specs.Text.{Opening, opening_of}
+use Rattle.cleaner.specs.declared.pass.Pass.{Pass}
 use Rattle.log_head.specs.declared.head.Roll.{Roll}
-use Rattle.log_head.specs.Head.{is_open}
-use Rattle.log_head.specs.Log.{phase_in, start_in, start_of}
-use Rattle.log_model.specs.Data.{LogData, Ready, Opened as OpeningNew, Closed as ClosingOld, Start, new_of}
-use Rattle.log_model.specs.Ops.{LogOp, op_of}
-use Rattle.log_model.specs.Steps.{OpensNew, ClosesOld, new_head, with_counts}
-use Rattle.replica.specs.Op.{OpValue}
-use Rattle.replica.specs.Picture.{Replica, FleetState}
-use Rattle.replica.specs.Take.{effect, taken, with_effect}
+use Rattle.log_head.specs.declared.next.Next.{Next}
+use Rattle.log_head.specs.declared.next.Next.TheVariants as next
+use Rattle.log_head.specs.Head.{HeadValue, is_open}
+use Rattle.log_head.specs.Steps.{fresh_roll, in_force, old_image, with_closed_replica, with_new_replica}
+use Rattle.log_model.specs.Data.{Start}
 use Rattle.master_state.specs.declared.step.Refusal.{Refusal}
 use Rattle.master_state.specs.declared.step.Refusal.TheVariants as refusal
 use Rattle.master_state.specs.declared.step.Step.TheVariants.{BeginRoll, Push}
 use Rattle.master_state.specs.declared.step.StepAnswer.{StepAnswer}
-use Rattle.master_state.specs.declared.step.StepAnswer.TheVariants as answer
 use Rattle.master_state.specs.Data.{MasterData}
 use Rattle.master_state.specs.Budget.{is_ready}
-use Rattle.master_state.specs.Log.{log_of}
-use Rattle.master_state.specs.Steps.{next_now}
-use Rattle.master.specs.Pushes.{IsNextOp}
+use Rattle.master_state.specs.Images.{with_closed}
+use Rattle.master_state.specs.Steps.{closed_data, ledger_after, pass_ended, roll_ended, start_now, taken_data}
 use Rattle.master.specs.Steps.{Accepts, Declines, Steps}
 use Rattle.master.specs.World.{World}
 use Rattle.driving.specs.Rolls.{ArePushed, PushesUntil, GoesRolling, IsRolled, IsNotRolled}
 use Rattle.driving.proofs.MasterSteps.{open_push}
+use Rattle.driving.proofs.Ops.{fewer_to_take}
 
 -- ---- each push is counted
-
--- what an op leaves of the counts
-pub record IsCounted (old new : FleetState) : Type 0 where
-  pub backups : new.backups ≡ old.backups
-  pub takes : new.takes ≡ old.takes + 1
-  pub end : new.end ≡ old.end
-
-pub taken_counts : (old : FleetState) (b : ℕ) (op : OpValue) (new : FleetState) → taken old b op ≡ Some new
-    → IsCounted old new
-taken_counts old b op new is = go (nat_lt b old.backups) (effect op.act (old.picture b op.master op.segment)) is
-  where
-    go : (there : Bool) (r : Option (Option Replica)) → (if there then with_effect old b op r else None) ≡ Some new
-        → IsCounted old new
-    go true (Some r) e = record {
-      backups = sym (ap (λ (o : Option FleetState). (unwrap_or o new).backups) e);
-      takes = sym (ap (λ (o : Option FleetState). (unwrap_or o new).takes) e);
-      end = sym (ap (λ (o : Option FleetState). (unwrap_or o new).end) e);
-    }
-    go true None e = absurd (cc)
-    go false r e = absurd (cc)
 
 -- fewer are left to a fleet that took one
 pub push_counts : (old new : World) (a : StepAnswer) → Accepts old Push a new
     → new.fleet.end - new.fleet.takes < old.fleet.end - old.fleet.takes
-push_counts old new a push =
-    let op = op_of old.knows.config.master push.op in
-    let counts = taken_counts old.fleet push.op.backup op new.fleet push.takes.1 in
-    let more = counts.takes in
-    let same = counts.end in
-    let left = push.takes.0 in
-    omega arith
+push_counts old new a push = fewer_to_take old.knows.config.master old.fleet push.op new.fleet push.takes
 
 -- one push more
 pub one_more : (from old new : World) (r : Result StepAnswer Refusal) (a : StepAnswer) → r ≡ Ok a → Steps old Push r new
@@ -73,89 +42,95 @@ pub fewer_left : (old new : World) (r : Result StepAnswer Refusal) (a : StepAnsw
 fewer_left old new r a is push =
     push_counts old new a (subst (λ (x : Result StepAnswer Refusal). Steps old Push x new) is push)
 
--- ---- where the log leads
+-- ---- where a roll leads
 
 -- the head with this id is in force, or a roll to it is under way
-abbrev LeadsTo : ℕ → LogData → Type 0
-LeadsTo id l = ((l.phase ≡ Ready) × (l.head.start.id ≡ id)) ⊎ ((n : Start) × (new_of l.phase ≡ Some n) × (n.id ≡ id))
+abbrev LeadsTo : ℕ → HeadValue → Type 0
+LeadsTo id h = ((h.roll ≡ None) × (h.id ≡ id)) ⊎ ((r : Roll) × (h.roll ≡ Some r) × (r.id ≡ id))
 
-counted : (id : ℕ) (d e : LogData) (counts : _) → e ≡ with_counts d counts → LeadsTo id d → LeadsTo id e
-counted id d e counts gives (inl (ready, is)) =
-    inl (ap (λ (l : LogData). l.phase) gives ∙ ready, ap (λ (l : LogData). l.head.start.id) gives ∙ is)
-counted id d e counts gives (inr (n, new, is)) = inr (n, ap (λ (l : LogData). new_of l.phase) gives ∙ new, is)
+-- the roll is to that head, if there is one
+rolls_to : (id : ℕ) (h : HeadValue) (r : Roll) → h.roll ≡ Some r → LeadsTo id h → r.id ≡ id
+rolls_to id h r is (inl (none, at)) = let both = sym is ∙ none in absurd (cc)
+rolls_to id h r is (inr (q, some, to)) = ap (λ (o : Option Roll). (unwrap_or o q).id) (sym is ∙ some) ∙ to
 
-opens_new : (id : ℕ) (d e : LogData) (o : LogOp) → OpensNew d o e → LeadsTo id d → LeadsTo id e
-opens_new id d e o opens (inl (ready, is)) = let both = sym ready ∙ opens.now in absurd (cc)
-opens_new id d e o opens (inr (n, new, is)) =
-    inr (
-      n,
-      ap (λ (l : LogData). new_of l.phase) opens.gives ∙ next (suc opens.j == d.config.replicas)
-          ∙ ap new_of (sym opens.now) ∙ new,
-      is,
-    )
+closing_leads : (id : ℕ) (h : HeadValue) (r : Roll) → r.id ≡ id → LeadsTo id (with_closed_replica h r)
+closing_leads id h r to = go (suc r.closed == h.replicas)
   where
-    next : (last : Bool) → new_of (if last then ClosingOld 0 opens.n else OpeningNew (suc opens.j) opens.n)
-        ≡ Some opens.n
-    next true = refl
-    next false = refl
+    go : (last : Bool)
+        → LeadsTo id (if last then in_force h r else record h { roll = Some (record r { closed = suc r.closed }) })
+    go true = inl (refl, to)
+    go false = inr (record r { closed = suc r.closed }, refl, to)
 
-closes_old : (id : ℕ) (d e : LogData) (o : LogOp) → ClosesOld d o e → LeadsTo id d → LeadsTo id e
-closes_old id d e o closes (inl (ready, is)) = let both = sym ready ∙ closes.now in absurd (cc)
-closes_old id d e o closes (inr (n, new, is)) =
-    subst (λ (l : LogData). LeadsTo id l) (sym closes.gives) (ended (suc closes.j == d.config.replicas))
+-- the end of a pass leaves the head
+ended_head : (pass : Option Pass) (d : MasterData) → (roll_ended pass d).head ≡ d.head
+ended_head None d = refl
+ended_head (Some p) d = go p.is_committing
   where
-    to : closes.n.id ≡ id
-    to = ap (λ (m : Option Start). (unwrap_or m n).id) (ap new_of (sym closes.now) ∙ new) ∙ is
+    go : (commits : Bool) → (if commits then pass_ended p d else d).head ≡ d.head
+    go true = refl
+    go false = refl
 
-    ended : (last : Bool)
-        → LeadsTo id (if last then record d { head = new_head d.config.replicas closes.n; phase = Ready }
-        else record d { phase = ClosingOld (suc closes.j) closes.n })
-    ended true = inl (refl, to)
-    ended false = inr (closes.n, refl, to)
+closed_head : (d : MasterData) (r : Roll) → (closed_data d r).head ≡ with_closed_replica d.head r
+closed_head d r = go (record d {
+  head = with_closed_replica d.head r;
+  closed = with_closed d.closed d.head.id (old_image d.head r);
+}) refl (suc r.closed == d.head.replicas)
+  where
+    go : (e : MasterData) → e.head ≡ with_closed_replica d.head r → (last : Bool)
+        → (if last then roll_ended d.pass e else e).head ≡ with_closed_replica d.head r
+    go e same true = ended_head d.pass e ∙ same
+    go e same false = same
 
-leads_on : (id : ℕ) (d e : LogData) (o : LogOp) (a : StepAnswer) → IsNextOp d o a e → LeadsTo id d → LeadsTo id e
-leads_on id d e o (answer.Opened b s) (inl first, backup, segment) leads = counted id d e _ first.gives leads
-leads_on id d e o (answer.Opened b s) (inr new, backup, segment) leads = opens_new id d e o new leads
-leads_on id d e o (answer.Extended b s) (next, backup, segment) leads = counted id d e _ next.extends.gives leads
-leads_on id d e o (answer.Closed b s) (close, backup, segment) leads = closes_old id d e o close leads
-leads_on id d e o a h leads = absurd h
+taken_leads : (id : ℕ) (d : MasterData) (push : Next) → LeadsTo id d.head → LeadsTo id (taken_data d push).head
+taken_leads id d (next.OpenFirst j) leads = leads
+taken_leads id d (next.Extend j) leads = leads
+taken_leads id d (next.OpenNew j) leads = go d.head.roll refl
+  where
+    go : (o : Option Roll) → d.head.roll ≡ o
+        → LeadsTo id (option_map_or (λ (r : Roll). record d { head = with_new_replica d.head r }) o d).head
+    go None is = leads
+    go (Some r) is = inr (record r { opened = suc r.opened }, refl, rolls_to id d.head r is leads)
+taken_leads id d (next.CloseOld j) leads = go d.head.roll refl
+  where
+    go : (o : Option Roll) → d.head.roll ≡ o → LeadsTo id (option_map_or (closed_data d) o d).head
+    go None is = leads
+    go (Some r) is = subst (λ (h : HeadValue). LeadsTo id h) (sym (closed_head d r))
+        (closing_leads id d.head r (rolls_to id d.head r is leads))
 
-pushes_lead : (id count : ℕ) (old new : World) → ArePushed count old new → LeadsTo id (log_of old.knows)
-    → LeadsTo id (log_of new.knows)
-pushes_lead id zero old new same leads = subst (λ (w : World). LeadsTo id (log_of w.knows)) (sym same) leads
+leads_on : (id : ℕ) (old new : World) (a : StepAnswer) → Accepts old Push a new → LeadsTo id old.knows.head
+    → LeadsTo id new.knows.head
+leads_on id old new a push leads =
+    subst (λ (d : MasterData). LeadsTo id d.head) (sym push.rest)
+    (taken_leads id (record old.knows { ledger = ledger_after old.knows push.push }) push.push leads)
+
+pushes_lead : (id count : ℕ) (old new : World) → ArePushed count old new → LeadsTo id old.knows.head
+    → LeadsTo id new.knows.head
+pushes_lead id zero old new same leads = subst (λ (w : World). LeadsTo id w.knows.head) (sym same) leads
 pushes_lead id (suc count) old new (mid, before, a, push) leads =
-    leads_on id (log_of mid.knows) (log_of new.knows) push.op a push.next (pushes_lead id count old mid before leads)
+    leads_on id mid new a push (pushes_lead id count old mid before leads)
 
 -- ---- from the begin of a roll to its end
-
-start_id : (id : ℕ) (o : Option Opening) → (start_in id o).id ≡ id
-start_id id None = refl
-start_id id (Some o) = refl
 
 pub no_roll : (all : Bool) (o : Option Roll) → (all && is_none o) ≡ true → o ≡ None
 no_roll true None e = refl
 no_roll true (Some r) e = absurd (cc)
 no_roll false o e = absurd (cc)
 
--- an open head is the one that the log led to
-at_head : (id : ℕ) (d : MasterData) → is_open d.head ≡ true → LeadsTo id (log_of d) → d.head.id ≡ id
-at_head id d opened (inl (ready, is)) = sym (start_id d.head.id (opening_of d.head.image)) ∙ is
-at_head id d opened (inr (n, new, is)) =
-    let none = ap (λ (o : Option Roll). new_of (option_map_or (phase_in d.head.replicas) o Ready))
-    (no_roll _ d.head.roll opened) in
-    let both = sym none ∙ new in
-    absurd (cc)
+-- an open head is the one that the roll led to
+at_head : (id : ℕ) (h : HeadValue) → is_open h ≡ true → LeadsTo id h → h.id ≡ id
+at_head id h opened (inl (none, is)) = is
+at_head id h opened (inr (r, some, to)) = let both = sym (no_roll _ h.roll opened) ∙ some in absurd (cc)
 
-ends_at : (id : ℕ) (old new : World) → PushesUntil old refusal.Nothing new → LeadsTo id (log_of old.knows)
+ends_at : (id : ℕ) (old new : World) → PushesUntil old refusal.Nothing new → LeadsTo id old.knows.head
     → new.knows.head.id ≡ id
 ends_at id old new (count, last, pushed, inl (test, same)) leads =
     let opened = open_push last new refusal.Nothing (inl (test, same)) refl in
-    at_head id new.knows opened
-    (subst (λ (w : World). LeadsTo id (log_of w.knows)) (sym same) (pushes_lead id count old last pushed leads))
+    at_head id new.knows.head opened
+    (subst (λ (w : World). LeadsTo id w.knows.head) (sym same) (pushes_lead id count old last pushed leads))
 ends_at id old new (count, last, pushed, inr (test, fails)) leads = absurd fails
 
 -- a roll, or the commit of a pass, begins with the next id
-next_id : (d : MasterData) → (next_now d).id ≡ d.next
+next_id : (d : MasterData) → (start_now d).id ≡ d.next
 next_id d = go (is_ready d) _ _ refl refl
   where
     go : (ready : Bool) (commit next : Start) → commit.id ≡ d.next → next.id ≡ d.next
@@ -183,23 +158,18 @@ begins_now old mid (inr (same, inr memory)) opened = let both = memory.1 in absu
 
 -- a roll that begins leads to the next id
 next_head : (old mid : World) → GoesRolling old mid → is_open old.knows.head ≡ true
-    → LeadsTo old.knows.next (log_of mid.knows)
+    → LeadsTo old.knows.next mid.knows.head
 next_head old mid rolling opened =
     let begins = (begins_now old mid rolling opened).1.0 in
-    inr (next_now old.knows, ap (λ (l : LogData). new_of l.phase) begins.log, next_id old.knows)
-
-new_start : (replicas : ℕ) (r : Roll) → new_of (phase_in replicas r) ≡ Some (start_of r)
-new_start replicas r = go (r.opened == replicas)
-  where
-    go : (whole : Bool)
-        → new_of (if whole then ClosingOld r.closed (start_of r) else OpeningNew r.opened (start_of r))
-        ≡ Some (start_of r)
-    go true = refl
-    go false = refl
+    inr (
+      fresh_roll old.knows.config.master (start_now old.knows),
+      ap (λ (d : MasterData). d.head.roll) begins.rest,
+      next_id old.knows,
+    )
 
 -- one that is under way leads to its own
 awaited_head : (old mid : World) (r : Roll) → GoesRolling old mid → old.knows.head.roll ≡ Some r
-    → LeadsTo r.id (log_of mid.knows)
+    → LeadsTo r.id mid.knows.head
 awaited_head old mid r (inl (a, begins)) is =
     absurd (tested old.knows.is_halted _ old.knows.head.roll _ _ is begins.0.passed)
   where
@@ -211,12 +181,8 @@ awaited_head old mid r (inl (a, begins)) is =
     tested false true None spent may some e = cc
     tested false true (Some q) spent may some e = cc
     tested false false o spent may some e = cc
-awaited_head old mid r (inr (same, why)) is = subst (λ (w : World). LeadsTo r.id (log_of w.knows)) (sym same) (inr (
-  start_of r,
-  ap (λ (o : Option Roll). new_of (option_map_or (phase_in old.knows.head.replicas) o Ready)) is
-      ∙ new_start old.knows.head.replicas r,
-  start_id r.id (opening_of r.image),
-))
+awaited_head old mid r (inr (same, why)) is =
+    subst (λ (w : World). LeadsTo r.id w.knows.head) (sym same) (inr (r, is, refl))
 
 -- once nothing waits the head is open
 pub last_open : (old new : World) → PushesUntil old refusal.Nothing new → is_open new.knows.head ≡ true

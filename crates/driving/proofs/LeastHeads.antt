@@ -3,9 +3,9 @@ use Rattle.std.proofs.Common.{◌≡◌, ℕ, zero, suc, List, inl, inr, ap, ◌
 use Rattle.std.specs.Prelude.{Result, Ok, Err}
 use Rattle.versioned_map.specs.declared.command.Command.{Command}
 use Rattle.versioned_map.specs.declared.command.Reply.{Reply}
-use Rattle.log_model.specs.Ops.{LogOp, op_of}
+use Rattle.failover_model.specs.Shown.{Op}
+use Rattle.failover_bytes.specs.Ops.{TakesOp}
 use Rattle.replica.specs.Picture.{FleetState}
-use Rattle.replica.specs.Take.{Takes}
 use Rattle.cleaner.specs.declared.survivors.Survivors.{Survivors}
 use Rattle.master_state.specs.declared.step.Refusal.{Refusal}
 use Rattle.master_state.specs.declared.step.Refusal.TheVariants as refusal
@@ -16,10 +16,12 @@ use Rattle.master_state.specs.declared.step.StepAnswer.{StepAnswer}
 use Rattle.master.specs.Passes.{IsSealOp, IsFreeOp}
 use Rattle.master.specs.Steps.{FailsTake, IsPushOp, Steps}
 use Rattle.master.specs.World.{World}
-use Rattle.master.proofs.Keeping.{taken_beside, fault_beside, take_failed}
+use Rattle.master.proofs.Keeping.{take_failed}
 use Rattle.driving.specs.Cleans.{StopsAt, IsPrepared, IsNotPrepared, IsFinished, IsNotFinished, Cleans}
 use Rattle.driving.specs.Commands.{ArePushedFor, Tries, TriesAfterRoll, RunsCommand}
 use Rattle.driving.specs.Rolls.{AreStepped, StepsUntil, GoesRolling, IsRolled, IsNotRolled, Rolls}
+use Rattle.driving.proofs.Ops.{IsOnReplica, failed_beside, free_on_replica, next_on_replica, op_beside}
+use Rattle.driving.proofs.Ops.{push_on_replica, seal_on_replica}
 
 -- the least heads are the same
 abbrev pub SameLeast : World → World → Type 0
@@ -31,13 +33,14 @@ module _ (old new : World) where
   unchanged : new ≡ old → SameLeast old new
   unchanged = ap (λ (w : World). w.fleet.least)
 
-  failed : (IsOp : LogOp → Type 0) (r : Refusal) → FailsTake IsOp old r new → SameLeast old new
-  failed IsOp r t = take_failed IsOp old new r t unchanged
+  failed : (IsOp : Op → Type 0) → ((o : Op) → IsOp o → IsOnReplica o) → (r : Refusal) → FailsTake IsOp old r new
+      → SameLeast old new
+  failed IsOp on r t = take_failed IsOp old new r t unchanged
       (λ (h : FailsTake IsOp old refusal.Halted new).
-      (fault_beside old.fleet h.1.0.backup (op_of old.knows.config.master h.1.0) new.fleet h.1.2).least)
+      (failed_beside old.knows.config.master old.fleet h.1.0 new.fleet (on h.1.0 h.1.1) h.1.2).least)
 
-  taken : (op : LogOp) → Takes old.fleet op.backup (op_of old.knows.config.master op) new.fleet → SameLeast old new
-  taken op takes = (taken_beside old.fleet op.backup (op_of old.knows.config.master op) new.fleet takes.1).least
+  taken : (o : Op) → IsOnReplica o → TakesOp old.knows.config.master old.fleet o new.fleet → SameLeast old new
+  taken o on takes = (op_beside old.knows.config.master old.fleet o new.fleet on takes).least
 
   pub step_least : (s : Step) (r : Result StepAnswer Refusal) → Steps old s r new → SameLeast old new
   step_least (Apply seat command) (Ok a) h = ap (λ (f : FleetState). f.least) h.1
@@ -50,15 +53,15 @@ module _ (old new : World) where
   step_least (BeginClean ids) (Err r) h = unchanged h.0
   step_least Copy (Ok a) h = ap (λ (f : FleetState). f.least) h.1
   step_least Copy (Err r) h = unchanged h.0
-  step_least Push (Ok a) h = taken h.op h.takes
+  step_least Push (Ok a) h = taken h.op (next_on_replica old.knows h.op a _ h.next) h.takes
   step_least Push (Err r) (inl h) = unchanged h.1
-  step_least Push (Err r) (inr h) = failed (IsPushOp old) r h.1
-  step_least Seal (Ok a) h = taken h.op h.takes
+  step_least Push (Err r) (inr h) = failed (IsPushOp old) (push_on_replica old) r h.1
+  step_least Seal (Ok a) h = taken h.op (seal_on_replica old.knows h.op h.next) h.takes
   step_least Seal (Err r) (inl h) = unchanged h.1
-  step_least Seal (Err r) (inr h) = failed (IsSealOp old.knows) r h.1
-  step_least Free (Ok a) h = taken h.op h.takes
+  step_least Seal (Err r) (inr h) = failed (IsSealOp old.knows) (seal_on_replica old.knows) r h.1
+  step_least Free (Ok a) h = taken h.op (free_on_replica old.knows h.op h.next) h.takes
   step_least Free (Err r) (inl h) = unchanged h.1
-  step_least Free (Err r) (inr h) = failed (IsFreeOp old.knows) r h.1
+  step_least Free (Err r) (inr h) = failed (IsFreeOp old.knows) (free_on_replica old.knows) r h.1
 
 -- ---- pushes and rolls
 

@@ -1,6 +1,7 @@
 pub mod MasterSteps
 pub mod PassSteps
 pub mod AnyStep
+pub mod Ops
 pub mod Heads
 pub mod Pushes
 pub mod Tries

@@ -15,8 +15,8 @@ use Rattle.log_head.specs.declared.next.Next.{Next}
 use Rattle.log_head.specs.declared.next.Next.TheVariants as next
 use Rattle.log_head.specs.Head.{is_open}
 use Rattle.log_head.specs.Steps.{old_image, with_closed_replica, with_new_replica}
-use Rattle.log_model.specs.Data.{LogData, durable_of}
-use Rattle.log_model.specs.Ops.{LogOp}
+use Rattle.failover_model.specs.Data.{FailData, durable_of}
+use Rattle.failover_model.specs.Shown.{Op}
 use Rattle.master_state.specs.declared.step.Refusal.{Refusal}
 use Rattle.master_state.specs.declared.step.Refusal.TheVariants as refusal
 use Rattle.master_state.specs.declared.step.Step.TheVariants.{Apply, Push, BeginRoll, Compact}
@@ -26,7 +26,7 @@ use Rattle.master_state.specs.Causes.{is_pushed, command_refusal, early_refusal,
 use Rattle.master_state.specs.Data.{MasterData}
 use Rattle.master_state.specs.Log.{log_of}
 use Rattle.master_state.specs.Images.{with_closed}
-use Rattle.master_state.specs.Steps.{closed_data, pass_ended, roll_ended, taken_data}
+use Rattle.master_state.specs.Steps.{closed_data, ledger_after, pass_ended, roll_ended, taken_data}
 use Rattle.master.specs.Keeps.{Keeps}
 use Rattle.master.specs.Steps.{Steps, Declines, FailsTake, IsPushOp}
 use Rattle.master.specs.Valid.{IsValid}
@@ -36,7 +36,7 @@ pub use Rattle.driving.specs.GoesOn.{goes_nowhere}
 
 -- ---- a push
 
-pub refused_history : (IsOp : LogOp → Type 0) (old new : World) (r : Refusal) → FailsTake IsOp old r new
+pub refused_history : (IsOp : Op → Type 0) (old new : World) (r : Refusal) → FailsTake IsOp old r new
     → new.knows.history ≡ old.knows.history
 refused_history IsOp old new refusal.NoMemory h = ap (λ (w : World). w.knows.history) h
 refused_history IsOp old new refusal.Spent h = ap (λ (w : World). w.knows.history) h.1
@@ -44,7 +44,7 @@ refused_history IsOp old new refusal.Halted h = ap (λ (d : MasterData). d.histo
 refused_history IsOp old new r h = absurd h
 
 -- the take of an op fails as spent at a fleet that is
-pub spent_take : (IsOp : LogOp → Type 0) (old new : World) → FailsTake IsOp old refusal.Spent new → IsSpent new.fleet
+pub spent_take : (IsOp : Op → Type 0) (old new : World) → FailsTake IsOp old refusal.Spent new → IsSpent new.fleet
 spent_take IsOp old new h = subst (λ (w : World). IsSpent w.fleet) (sym h.1) h.0
 
 -- what a push leaves of the history
@@ -84,7 +84,9 @@ taken_history d (next.CloseOld j) = go d.head.roll
 
 pub pushed_history : (old new : World) (r : Result StepAnswer Refusal) → Steps old Push r new
     → new.knows.history ≡ old.knows.history
-pushed_history old new (Ok a) h = ap (λ (d : MasterData). d.history) h.rest ∙ taken_history old.knows h.push
+pushed_history old new (Ok a) h =
+    ap (λ (d : MasterData). d.history) h.rest
+    ∙ taken_history (record old.knows { ledger = ledger_after old.knows h.push }) h.push
 pushed_history old new (Err r) (inl h) = ap (λ (w : World). w.knows.history) h.1
 pushed_history old new (Err r) (inr h) = refused_history (IsPushOp old) old new r h.1
 
@@ -233,7 +235,7 @@ applied_goes_on old new command place reply is kept =
         config = kept.config;
         origin = kept.origin;
         durable = kept.durable;
-        history = ap (λ (l : LogData). l.history) is.0.log
+        history = ap (λ (l : FailData). l.history) is.0.log
             ∙ ap (λ (x : Reply). old.knows.history ++ record_of command x) (sym same);
       },
       ap place_in is.0.told,

@@ -4,7 +4,6 @@ use Rattle.std.specs.Prelude.{Option, Result, Ok, Err, IfOk, IfErr}
 use Rattle.std.specs.Option.{option_map_or}
 use Rattle.cleaner.specs.declared.pass.Pass.{Pass}
 use Rattle.cleaner.specs.Passes.{images_in, rest_of}
-use Rattle.log_model.specs.Ops.{op_of}
 use Rattle.master_state.specs.declared.step.Refusal.{Refusal}
 use Rattle.master_state.specs.declared.step.Refusal.TheVariants as refusal
 use Rattle.master_state.specs.declared.step.Step.{Step}
@@ -22,7 +21,7 @@ use Rattle.driving.specs.GoesOn.{goes_further}
 use Rattle.driving.specs.Rolls.{AreStepped, StepsUntil}
 use Rattle.driving.specs.Served.{LivesOn, IsSpent}
 use Rattle.driving.proofs.AnyStep.{makes_no_record, step_goes_on, step_spent}
-use Rattle.driving.proofs.Heads.{taken_counts}
+use Rattle.driving.proofs.Ops.{fewer_to_take}
 
 -- ---- what is left to a part
 
@@ -47,23 +46,11 @@ copies_less old new a (copies, same) =
 
 seals_less : (old new : World) (a : StepAnswer) → Accepts old step.Seal a new
     → new.fleet.end - new.fleet.takes < old.fleet.end - old.fleet.takes
-seals_less old new a seal =
-    let op = op_of old.knows.config.master seal.op in
-    let counts = taken_counts old.fleet seal.op.backup op new.fleet seal.takes.1 in
-    let more = counts.takes in
-    let same = counts.end in
-    let left = seal.takes.0 in
-    omega arith
+seals_less old new a seal = fewer_to_take old.knows.config.master old.fleet seal.op new.fleet seal.takes
 
 frees_less : (old new : World) (a : StepAnswer) → Accepts old step.Free a new
     → new.fleet.end - new.fleet.takes < old.fleet.end - old.fleet.takes
-frees_less old new a free =
-    let op = op_of old.knows.config.master free.op in
-    let counts = taken_counts old.fleet free.op.backup op new.fleet free.takes.1 in
-    let more = counts.takes in
-    let same = counts.end in
-    let left = free.takes.0 in
-    omega arith
+frees_less old new a free = fewer_to_take old.knows.config.master old.fleet free.op new.fleet free.takes
 
 accepted_less : (p : Phase) (old new : World) (a : StepAnswer) → Accepts old (step_of p) a new
     → left_of p new < left_of p old

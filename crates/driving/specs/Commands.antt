@@ -2,7 +2,7 @@
 use Rattle.std.specs.Prelude.{◌≡◌, ◌⊎◌, ◌<◌, ◌≤◌, ℕ, zero, suc, Result, Ok, Err}
 use Rattle.versioned_map.specs.declared.command.Command.{Command}
 use Rattle.versioned_map.specs.declared.command.Reply.{Reply}
-use Rattle.log_model.specs.Data.{durable_of}
+use Rattle.failover_model.specs.Data.{durable_of}
 use Rattle.master_state.specs.declared.step.Refusal.{Refusal}
 use Rattle.master_state.specs.declared.step.Refusal.TheVariants.{Rolling}
 use Rattle.master_state.specs.declared.step.Step.TheVariants.{Apply, Push}

@@ -4,7 +4,7 @@ use Rattle.replica.specs.Picture.{FleetState}
 use Rattle.versioned_map.specs.declared.command.Command.{Command}
 use Rattle.versioned_map.specs.declared.command.Record.{Record}
 use Rattle.versioned_map.specs.declared.command.Reply.{Reply}
-use Rattle.log_model.specs.Data.{durable_of}
+use Rattle.failover_model.specs.Data.{durable_of}
 use Rattle.master_state.specs.declared.step.Refusal.{Refusal}
 use Rattle.master_state.specs.declared.step.Refusal.TheVariants as refusal
 use Rattle.master_state.specs.declared.step.Refusal.TheVariants.{NoMemory}

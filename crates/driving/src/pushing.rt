@@ -1,7 +1,7 @@
 //! Pushes, and the roll that they end.
 
 ghost use Rattle.std.specs.Prelude.{◌≡◌, ◌<◌, [], length, true, IfOk, IfErr};
-ghost use Rattle.log_model.specs.Data.{durable_of};
+ghost use Rattle.failover_model.specs.Data.{durable_of};
 ghost use Rattle.log_head.specs.Head.{is_open};
 ghost use Rattle.master_state.specs.Log.{log_of};
 ghost use Rattle.master.specs.World.{world};

@@ -3,7 +3,7 @@ use Rattle.std.proofs.Common.{◌≡◌, ℕ, [], ◌∷◌, ◌++◌, length, s
 use Rattle.versioned_map.specs.declared.command.Command.{Command}
 use Rattle.versioned_map.specs.declared.command.Reply.{Reply}
 use Rattle.versioned_map.specs.declared.command.Reply.TheVariants as reply
-use Rattle.log_model.specs.Data.{LogData}
+use Rattle.failover_model.specs.Data.{FailData}
 use Rattle.master_state.specs.declared.step.Step.TheVariants.{Apply}
 use Rattle.master_state.specs.declared.step.StepAnswer.{StepAnswer}
 use Rattle.master_state.specs.declared.step.StepAnswer.TheVariants.{Applied}
@@ -29,5 +29,5 @@ module _ (s t : World) (seat : ℕ) (command : Command) (place : ℕ) (answer : 
   reply_is = ap reply_in a.0.told
 
   pub history_is : t.knows.history ≡ s.knows.history ++ record_by seat command answer ∷ []
-  history_is = ap (λ (l : LogData). l.history) a.0.log ∙ ap
+  history_is = ap (λ (l : FailData). l.history) a.0.log ∙ ap
       (λ (r : Reply). s.knows.history ++ record_by seat command r ∷ []) (sym reply_is)

@@ -14,6 +14,7 @@ use Rattle.master.specs.Keeps.{Keeps}
 use Rattle.master.specs.Steps.{Accepts, Declines}
 use Rattle.master.specs.Valid.{IsValid}
 use Rattle.master.specs.World.{World, world}
+use Rattle.master.proofs.InForce.{never_fails}
 use Rattle.store_seat.specs.declared.fault.CallFault.{CallFault}
 use Rattle.store_seat.specs.declared.fault.CallFault.TheVariants.{CellRefused}
 use Rattle.locked_log.specs.Applies.{AppliesHeld, Counts}
@@ -38,7 +39,12 @@ module _ (s t : Held) (m : SeatValue) (command : Command) (place : ℕ) (reply :
       → Counts s m command place reply t
   counts book total = record {
     known = known;
-    first = omega (arith, at_end, st.firsts m.number (account m.first m.count) known, st.valid.durable.counted.within);
+    first = omega (
+      arith,
+      at_end,
+      st.firsts m.number (account m.first m.count) known,
+      (st.valid.durable.counted (never_fails s.world.knows.head)).within,
+    );
     accepted = accepted;
     book = book;
     total = total;

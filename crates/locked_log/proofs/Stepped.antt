@@ -8,7 +8,7 @@ use Rattle.replica.specs.Picture.{FleetState}
 use Rattle.cleaner.specs.declared.pass.Pass.{Pass}
 use Rattle.cleaner.specs.Passes.{is_at_end, next_seal}
 use Rattle.log_head.specs.Head.{is_open}
-use Rattle.log_model.specs.Ops.{LogOp}
+use Rattle.failover_model.specs.Shown.{Op}
 use Rattle.master_state.specs.declared.step.Refusal.{Refusal}
 use Rattle.master_state.specs.declared.step.Refusal.TheVariants as refusal
 use Rattle.master_state.specs.declared.step.Step.{Step}
@@ -24,7 +24,7 @@ use Rattle.master.specs.Steps.{FailsTake, IsPushOp, Steps}
 use Rattle.master.specs.Valid.{IsValid}
 use Rattle.master.specs.World.{World, world, limited_world}
 use Rattle.master.proofs.Keeping.{take_failed}
-use Rattle.master.proofs.Pushed.{same_rest}
+use Rattle.master.proofs.PushedRest.{same_rest}
 use Rattle.store_step.specs.declared.turn.CleanTurn.{CleanTurn}
 use Rattle.store_step.specs.declared.turn.CleanTurn.TheVariants as turn
 use Rattle.locked_log.specs.Held.{StateValue, Held, held, history, knows}
@@ -104,7 +104,7 @@ module _ (old new : World) where
   unchanged : new ≡ old → new.knows.history ≡ old.knows.history
   unchanged e = ap (λ (w : World). w.knows.history) e
 
-  failed : (IsOp : LogOp → Type 0) (r : Refusal) → FailsTake IsOp old r new → new.knows.history ≡ old.knows.history
+  failed : (IsOp : Op → Type 0) (r : Refusal) → FailsTake IsOp old r new → new.knows.history ≡ old.knows.history
   failed IsOp r t = take_failed IsOp old new r t unchanged
       (λ (h : FailsTake IsOp old refusal.Halted new). ap (λ (d : MasterData). d.history) h.0)
 

@@ -24,9 +24,21 @@ valid_halted d f valid = record {
   imaged = valid.imaged;
   budget = valid.budget;
   sound = valid.sound;
+  newest = valid.newest;
+  placed = record {
+    none = valid.placed.none;
+    head = valid.placed.head;
+    counts = valid.placed.counts;
+    unopened = valid.placed.unopened;
+    new = valid.placed.new;
+    shut = valid.placed.shut;
+    others = valid.placed.others;
+    survivors = valid.placed.survivors;
+  };
   least = valid.least;
   covered = valid.covered;
   durable = valid.durable;
+  counted = valid.counted;
   pushed = valid.pushed;
 }
 
@@ -43,6 +55,7 @@ left_halted d l f of = record {
   valid = valid_halted d of.crashed of.valid;
   shown = of.shown;
   opened = of.opened;
+  homes = of.homes;
   held = of.held;
   backups = of.backups;
   least = of.least;

@@ -73,6 +73,7 @@ spared_left d l old mid new other apart on picture backups least of = record {
   valid = of.valid;
   shown = of.shown;
   opened = of.opened;
+  homes = of.homes;
   held = λ b s. ap (λ (p : Picture). p b d.config.master s) picture
       ∙ on.others b d.config.master s apart ∙ of.held b s;
   backups = let was = of.backups in let same = on.backups in let last = backups in omega arith;

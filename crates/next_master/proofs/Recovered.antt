@@ -1,6 +1,6 @@
 -- Recoveries, told of what is left of a master.
-use Rattle.std.proofs.Common.{◌≡◌, ◌⊎◌, ℕ, List, refl, sym, ap, subst, inl, inr, ◌∙◌, arith}
-use Rattle.std.specs.Prelude.{ℕ, Option, Some, ◌↔◌}
+use Rattle.std.proofs.Common.{◌≡◌, ◌⊎◌, ℕ, Bool, true, List, refl, sym, ap, subst, inl, inr, ◌∙◌, arith}
+use Rattle.std.specs.Prelude.{ℕ, Option, Some, None, ◌↔◌}
 use Rattle.backup.specs.State.{fleet_state, lost}
 use Rattle.backup.specs.declared.fleet.MemoryFleet.{MemoryFleet}
 use Rattle.lines.specs.Grammar.{Recover}
@@ -13,9 +13,13 @@ use Rattle.claims.specs.declared.rebuilt.Rebuilt.{Rebuilt}
 use Rattle.replica.specs.declared.holding.Holding.{Holding}
 use Rattle.replica.specs.Picture.{Picture, FleetState, Shown, left_on, survivors, IsHeld, AreHeld}
 use Rattle.replica.specs.Choice.{IsShownChoice}
-use Rattle.replica.specs.Survival.{BothSurvive}
+use Rattle.replica.specs.Survival.{IsHomeLeft, HeadSurvives, BothSurvive}
 use Rattle.recovery_plan.specs.declared.fault.PlanFault.TheVariants as plan_fault
-use Rattle.log_model.specs.Sound.{IsSound}
+use Rattle.log_model.specs.Ids.{has}
+use Rattle.failover_model.specs.Data.{IsHome}
+use Rattle.failover_model.proofs.Lists.{without_has}
+use Rattle.failover_bytes.specs.Choice.{Counts, IsNewestCounted, newest_opened}
+use Rattle.failover_bytes.specs.Sound.{IsSoundInBytes}
 use Rattle.master_state.specs.declared.config.Config.{Config}
 use Rattle.master_state.specs.Data.{MasterData}
 use Rattle.master_state.specs.Log.{log_of}
@@ -33,7 +37,7 @@ use Rattle.answers.specs.declared.answer.Answer.TheVariants as answer
 use Rattle.node.specs.declared.node.Node.{Node}
 use Rattle.node.specs.declared.node.Node.TheVariants.{Down}
 use Rattle.next_master.specs.Recoveries.{order_named}
-use Rattle.node.specs.Lives.{Left, is_left, IsHomeBy, Position}
+use Rattle.node.specs.Lives.{Left, is_left, IsHomeOf, Position}
 use Rattle.node.specs.Served.{IsLeftOf, IsNodeAt, life_of}
 use Rattle.node.specs.Told.{IsRecoveredAt, IsFoundAt, NamesLossOf, Tells}
 use Rattle.node.proofs.WhatIsLeft.{held_of_left, left_at}
@@ -68,6 +72,29 @@ table_told d node config at r s found =
       },
     )
 
+-- ---- homes
+
+home_by : (P Q : ℕ → ℕ → Type 0) → ((s b : ℕ) → P s b → Q s b) → (keep : ℕ → Bool) (s : ℕ) → IsHomeLeft P keep s
+    → IsHomeLeft Q keep s
+home_by P Q by keep s left = (left.0, by s left.0 left.1, left.2)
+
+head_by : (P Q : ℕ → ℕ → Type 0) → ((s b : ℕ) → P s b → Q s b) → (opened : Option ℕ) (shown : Shown) (master : ℕ)
+    (keep : ℕ → Bool) → HeadSurvives P opened shown master keep → HeadSurvives Q opened shown master keep
+head_by P Q by None shown master keep head = head
+head_by P Q by (Some s) shown master keep (inl home) = inl (home_by P Q by keep s home)
+head_by P Q by (Some s) shown master keep (inr later) = inr later
+
+-- both survive by these homes, if they do by some of them
+both_by : (P Q : ℕ → ℕ → Type 0) → ((s b : ℕ) → P s b → Q s b) → (opened : Option ℕ) (shown : Shown) (master : ℕ)
+    (keep : ℕ → Bool) → BothSurvive P opened shown master keep → BothSurvive Q opened shown master keep
+both_by P Q by opened shown master keep both = record {
+  head = head_by P Q by opened shown master keep both.head;
+  segments = λ s opening newest id listed other.
+      home_by P Q by keep id (both.segments s opening newest id listed other);
+}
+
+-- ---- recoveries
+
 -- a down node's recovery
 module _ (node : Node) (fleet : MemoryFleet) (config : Config) (d : MasterData) (at : Position)
     (down : node ≡ Down fleet) (s : IsNodeAt node config d at) where
@@ -88,8 +115,25 @@ module _ (node : Node) (fleet : MemoryFleet) (config : Config) (d : MasterData) 
     same_least = ap (λ (s : Shown). s.least) left.2.shown ∙ ap left.2.crashed.least of_master
         ∙ sym (old ∙ ap (λ (g : ℕ → ℕ). g master) left.2.least)
 
-    sound : IsSound (log_of d) left.0.shown
-    sound = subst (IsSound (log_of d)) (sym left.2.shown) left.2.valid.sound
+    sound : IsSoundInBytes master (log_of d) left.0.shown
+    sound =
+        subst (λ (n : ℕ). IsSoundInBytes n (log_of d) left.0.shown) of_master
+        (subst (λ (x : Shown). IsSoundInBytes d.config.master (log_of d) x) (sym left.2.shown) left.2.valid.sound)
+
+    abbrev opened : Option ℕ
+    opened = newest_opened (log_of d)
+
+    -- the newest head that counts, of what was left
+    newest : IsNewestCounted (Counts (log_of d) master left.0.shown) left.0.shown.least opened
+    newest =
+        subst (λ (n : ℕ). IsNewestCounted (Counts (log_of d) n left.0.shown) left.0.shown.least opened) of_master
+        (subst (λ (x : Shown). IsNewestCounted (Counts (log_of d) d.config.master x) x.least opened)
+        (sym left.2.shown) left.2.valid.newest)
+
+    is_home : (s b : ℕ) → IsHomeOf left.0 s b → IsHome (log_of d) s b
+    is_home s b home =
+        without_has (log_of d).failed ((log_of d).took s) b
+        (subst (λ (hs : ℕ → List ℕ). has (hs s) b ≡ true) left.2.homes home)
 
     -- a table of the choice that the plan has
     pub table_found : (r : Rebuilt) → IsSomePrefix hs least master r → (will : List Part) (order : GroupOrder)
@@ -99,8 +143,8 @@ module _ (node : Node) (fleet : MemoryFleet) (config : Config) (d : MasterData) 
         let found =
         recovers (log_of d) left.0.shown (is_left left.0.lost) sound of_master same_least shows in
         let c = from.planned.0 in
-        let choice = surviving-choice hs least master (log_of d) left.0.shown
-        (is_left left.0.lost) of_master same_least shows c from.planned.1.choice in
+        let choice = surviving-choice hs least master left.0.shown (is_left left.0.lost) same_least shows c
+        from.planned.1.choice in
         let bag = bag-of-plan hs least master c from.plan from.planned.1 in (
           left.0,
           left.1,
@@ -109,7 +153,7 @@ module _ (node : Node) (fleet : MemoryFleet) (config : Config) (d : MasterData) 
             (
               c,
               subst (λ (n : ℕ). IsShownChoice (survivors (is_left left.0.lost) left.0.shown) n c)
-                  (ap (λ (k : Config). k.master) s.configured) choice,
+                  (sym number) choice,
               subst (λ (es : List Entry). IsMeaning (among es) (contents_of r.objects)) bag from.rebuilt.meaning,
             ),
           ),
@@ -138,20 +182,20 @@ module _ (node : Node) (fleet : MemoryFleet) (config : Config) (d : MasterData) 
         let here : Covers d.config.tablets will = subst (λ (k : Config). Covers k.tablets will)
         (sym s.configured) covers in
         let loss =
-        refuses (log_of d) left.0.shown (is_left left.0.lost) sound of_master same_least shows here names in (
+        refuses (log_of d) left.0.shown (is_left left.0.lost) opened sound newest of_master same_least
+        shows here names in (
           (asked, refl),
           left.0,
           left.1,
           (
             loss.0,
             loss_named e will order loss.0 from,
-            λ both. loss.1 (subst
-                (λ (o : Option ℕ). BothSurvive (IsHomeBy d.config) o left.0.shown d.config.master
-                (is_left left.0.lost))
+            λ both. loss.1 (both_by (IsHomeOf left.0) (IsHome (log_of d)) is_home opened left.0.shown
+                master (is_left left.0.lost) (subst
+                (λ (o : Option ℕ). BothSurvive (IsHomeOf left.0) o left.0.shown master (is_left left.0.lost))
                 left.2.opened (subst
-                (λ (k : Config). BothSurvive (IsHomeBy k) left.0.opened left.0.shown k.master
-                (is_left left.0.lost))
-                (sym s.configured) both)),
+                (λ (n : ℕ). BothSurvive (IsHomeOf left.0) left.0.opened left.0.shown n (is_left left.0.lost))
+                number both))),
           ),
           refl,
         )

@@ -10,7 +10,7 @@ use Rattle.lines.specs.Grammar.{LineValue, Clients}
 use Rattle.store_seat.specs.declared.fault.CallFault.{CallFault}
 use Rattle.store_seat.specs.declared.fault.CallFault.TheVariants as call_fault
 use Rattle.locked_log.specs.Made.{IsMade, made_now}
-use Rattle.log_model.specs.Data.{durable_of}
+use Rattle.failover_model.specs.Data.{durable_of}
 use Rattle.master.specs.Valid.{IsValid}
 use Rattle.master.specs.World.{MasterValue, world}
 use Rattle.master_state.specs.declared.config.Config.{Config}

@@ -13,7 +13,7 @@ use Rattle.versioned_map.specs.History.{IsLegal}
 use Rattle.versioned_map.specs.declared.command.Record.{Record}
 use Rattle.versioned_map.specs.declared.command.Reply.{Reply}
 use Rattle.entry.specs.Meaning.{contents_of}
-use Rattle.log_model.specs.Data.{durable_of}
+use Rattle.failover_model.specs.Data.{durable_of}
 use Rattle.master_state.specs.declared.config.Config.{Config}
 use Rattle.master_state.specs.Data.{Origin, MasterData}
 use Rattle.master_state.specs.Log.{opening_of, log_of}

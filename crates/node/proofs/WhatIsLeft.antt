@@ -24,7 +24,7 @@ use Rattle.node.specs.Lives.{Life, life_to, Left, left_now, is_left, Position}
 use Rattle.node.specs.Served.{IsLeftOf, IsOf, IsNodeAt, AnswersLine, is_up, held_answer}
 use Rattle.node.specs.Told.{AreLeft, AreHeldAt, Tells}
 use Rattle.node.proofs.Standing.{Answered, still_stands, lived_longer, is_up_none}
-use Rattle.driving.proofs.MasterSteps.{goes_nowhere}
+use Rattle.driving.specs.GoesOn.{goes_nowhere}
 
 -- ---- what backups hold
 
@@ -68,6 +68,7 @@ left_of d fleet valid all = (
     valid = valid;
     shown = refl;
     opened = refl;
+    homes = refl;
     held = λ b s. refl;
     backups = all;
     least = refl;
@@ -107,12 +108,13 @@ cut_twice false gone r = refl
 
 -- what is left, less a backup
 pub lost_of : (d : MasterData) (l : Left) (old new : FleetState) (backup : ℕ) → new ≡ lost old backup → IsLeftOf d l old
-    → IsLeftOf d (record { shown = l.shown; opened = l.opened; lost = backup ∷ l.lost }) new
+    → IsLeftOf d (record { shown = l.shown; opened = l.opened; homes = l.homes; lost = backup ∷ l.lost }) new
 lost_of d l old new backup is of = record {
   crashed = of.crashed;
   valid = of.valid;
   shown = of.shown;
   opened = of.opened;
+  homes = of.homes;
   held = λ b s. (λ i. (is i).picture b d.config.master s)
       ∙ ap (λ (r : Option Replica). cond (not (backup == b)) r None) (of.held b s)
       ∙ cut_twice (backup == b) (is_kept l.lost b) (l.shown.holds b d.config.master s);
@@ -128,6 +130,7 @@ same_picture d l old new is same least of = record {
   valid = of.valid;
   shown = of.shown;
   opened = of.opened;
+  homes = of.homes;
   held = λ b s. (λ i. is i b d.config.master s) ∙ of.held b s;
   backups = let was = of.backups in omega arith;
   least = least ∙ of.least;
@@ -145,7 +148,8 @@ module _ (node : Node) (fleet : MemoryFleet) (config : Config) (d : MasterData) 
       → Answered d (Down new) config at (Lose backup) (answer.Lost backup)
   lost_told backup new is =
       let l = left_at.0 in
-      let less : Left = record { shown = l.shown; opened = l.opened; lost = backup ∷ l.lost } in (
+      let less : Left =
+      record { shown = l.shown; opened = l.opened; homes = l.homes; lost = backup ∷ l.lost } in (
         d,
         record { made = at.made; acknowledged = at.acknowledged; left = Some less },
         record {

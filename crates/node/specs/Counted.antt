@@ -3,7 +3,7 @@ use Rattle.std.specs.Prelude.{◌≡◌, ◌≤◌, ℕ, ◌*◌, take, length, 
 use Rattle.lines.specs.Grammar.{LineValue, Clients}
 use Rattle.store_seat.specs.declared.fault.CallFault.{CallFault}
 use Rattle.locked_log.specs.Made.{IsMade, made_now}
-use Rattle.log_model.specs.Data.{durable_of}
+use Rattle.failover_model.specs.Data.{durable_of}
 use Rattle.master.specs.Valid.{IsValid}
 use Rattle.master.specs.World.{World}
 use Rattle.master_state.specs.Log.{log_of}

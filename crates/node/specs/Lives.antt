@@ -1,12 +1,14 @@
 -- A master's life, and what a crash leaves of it.
-use Rattle.std.specs.Prelude.{◌≡◌, ℕ, List, [], not, Bool, take, slice_get, Option, Some, None}
+use Rattle.std.specs.Prelude.{◌≡◌, ℕ, List, [], not, Bool, true, take, Option, Some, None}
 use Rattle.replica.specs.Picture.{FleetState, Shown, shown_of}
 use Rattle.versioned_map.specs.declared.command.Record.{Record}
 use Rattle.versioned_map.specs.Versioned.{State}
 use Rattle.master_state.specs.declared.config.Config.{Config}
 use Rattle.master_state.specs.Data.{MasterData}
-use Rattle.log_model.specs.Data.{newest_opened}
-use Rattle.master_state.specs.Log.{log_config, log_of, opening_of}
+use Rattle.log_model.specs.Ids.{has}
+use Rattle.failover_model.specs.Data.{homes}
+use Rattle.failover_bytes.specs.Choice.{newest_opened}
+use Rattle.master_state.specs.Log.{log_of, opening_of}
 use Rattle.master.specs.Valid.{IsValid}
 use Rattle.recovery.specs.Kept.{is_kept}
 
@@ -28,11 +30,12 @@ pub record HasLived (config : Config) (life : Life) (d : MasterData) (f : FleetS
 
 -- ---- what is left
 
--- What a recovery was shown of a master when it was dropped, the newest head that was opened on all its homes, and
--- which backups have lost all they held since.
+-- What a recovery was shown of a master when it was dropped, the newest head that was opened on all its homes, the
+-- homes of each segment (the backups that took it and haven't failed), and which backups have lost all they held since.
 pub record Left : Type 0 where
   pub shown : Shown
   pub opened : Option ℕ
+  pub homes : ℕ → List ℕ
   pub lost : List ℕ
 
 abbrev pub is_left : List ℕ → ℕ → Bool
@@ -40,7 +43,12 @@ is_left lost b = not (is_kept lost b)
 
 -- what a master over this fleet leaves
 abbrev pub left_now : MasterData → FleetState → Left
-left_now d f = record { shown = shown_of f d.config.master; opened = newest_opened (log_of d); lost = [] }
+left_now d f = record {
+  shown = shown_of f d.config.master;
+  opened = newest_opened (log_of d);
+  homes = homes (log_of d);
+  lost = [];
+}
 
 -- a master that lived this life left this
 abbrev pub IsLeftBy : Config → Life → Left → Type 0
@@ -53,9 +61,9 @@ IsLeftBySpent config life left =
     (d : MasterData) × (f : FleetState) × HasLived config life d f × (left ≡ left_now d f)
     × (f.takes ≡ f.end)
 
--- the backups of a segment's replicas
-abbrev pub IsHomeBy : Config → ℕ → ℕ → Type 0
-IsHomeBy config s b = (j : ℕ) × (slice_get ((log_config config).homes s) j ≡ Some b)
+-- the backup was a home of the segment
+abbrev pub IsHomeOf : Left → ℕ → ℕ → Type 0
+IsHomeOf l s b = has (l.homes s) b ≡ true
 
 -- ---- positions
 

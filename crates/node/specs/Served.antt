@@ -17,7 +17,8 @@ use Rattle.replica.specs.Take.{limited, no_limit}
 use Rattle.versioned_map.specs.declared.command.Command.{Command}
 use Rattle.versioned_map.specs.declared.command.Record.{Record}
 use Rattle.versioned_map.specs.declared.command.Reply.{Reply}
-use Rattle.log_model.specs.Data.{durable_of, newest_opened}
+use Rattle.failover_model.specs.Data.{homes, durable_of}
+use Rattle.failover_bytes.specs.Choice.{newest_opened}
 use Rattle.master_state.specs.declared.config.Config.{Config}
 use Rattle.master_state.specs.declared.step.Refusal.{Refusal}
 use Rattle.master_state.specs.declared.step.Refusal.TheVariants.{NoMemory, Spent}
@@ -55,6 +56,7 @@ pub record IsLeftOf (d : MasterData) (l : Left) (f : FleetState) : Type 0 where
   pub valid : IsValid d crashed
   pub shown : l.shown ≡ shown_of crashed d.config.master
   pub opened : l.opened ≡ newest_opened (log_of d)
+  pub homes : l.homes ≡ homes (log_of d)
   pub held : (b s : ℕ) → f.picture b d.config.master s ≡ left_on (is_left l.lost) l.shown.holds b d.config.master s
   pub backups : d.config.backups ≤ f.backups
   pub least : f.least ≡ crashed.least

@@ -46,7 +46,7 @@ use Rattle.recovery.specs.Recovered.{IsLossOrMemory, IsWant}
 use Rattle.recovery_plan.specs.Planned.{IsPlanFault, NamesLoss}
 use Rattle.answers.specs.declared.answer.Answer.{Answer}
 use Rattle.answers.specs.declared.answer.Answer.TheVariants as answer
-use Rattle.node.specs.Lives.{Life, life_to, HasLived, Left, is_left, IsLeftBy, IsLeftBySpent, IsHomeBy, Position}
+use Rattle.node.specs.Lives.{Life, life_to, HasLived, Left, is_left, IsLeftBy, IsLeftBySpent, IsHomeOf, Position}
 use Rattle.replay.specs.Adopting.{DeclinesList}
 use Rattle.tablet_will.specs.declared.part.Part.{Part}
 use Rattle.tablet_will.specs.Sizes.{are_limits}
@@ -279,7 +279,7 @@ NamesLossOf config l (recovery_fault.Replay refused) = ⊥
 -- what the refusal names is lost, or memory ran out; if the backups that are left have head and segments, memory did
 abbrev pub IsLossOf : Config → Left → RecoveryFault → Type 0
 IsLossOf config l e = IsLossOrMemory e × (IsWant e ⊎ NamesLossOf config l e)
-    × (BothSurvive (IsHomeBy config) l.opened l.shown config.master (is_left l.lost) → IsWant e)
+    × (BothSurvive (IsHomeOf l) l.opened l.shown config.master (is_left l.lost) → IsWant e)
 
 -- ---- lines
 
@@ -386,7 +386,7 @@ Tells config life at line (answer.Lost backup) next = (line ≡ Lose backup) × 
     × (next ≡ record {
       made = at.made;
       acknowledged = at.acknowledged;
-      left = Some (record { shown = l.shown; opened = l.opened; lost = backup ∷ l.lost });
+      left = Some (record { shown = l.shown; opened = l.opened; homes = l.homes; lost = backup ∷ l.lost });
     })
 -- a table that was recovered and adopted begins another life
 Tells config life at line (answer.Recovered r) next = ⊥

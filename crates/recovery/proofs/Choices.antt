@@ -12,8 +12,9 @@ use Rattle.recovery_plan.specs.declared.chosen.Plan.{Plan}
 use Rattle.recovery_plan.specs.Good.{IsGood}
 use Rattle.recovery_plan.specs.Planned.{IsChoiceOf, IsPlanOf, AgreeOnDigest}
 use Rattle.recovery_plan.proofs.Plans.{all-map}
-use Rattle.log_model.specs.Data.{LogData}
-use Rattle.log_model.specs.Sound.{IsTextOfSegment, IsSurvivingChoice, IsSound}
+use Rattle.log_model.specs.Sound.{IsTextOfSegment}
+use Rattle.failover_model.specs.Data.{FailData}
+use Rattle.failover_bytes.specs.Sound.{IsLeftChoice, IsSoundInBytes}
 use Rattle.recovery.specs.Recovered.{Shows}
 
 -- ---- bags
@@ -54,37 +55,35 @@ left-kept false r x h = absurd (cc)
 pub left-held : (keep : ℕ → Bool) (p : Picture) (h : Holding) → IsHeld (left_on keep p) h → IsHeld p h
 left-held keep p h held = left-kept (keep h.backup) (p h.backup h.master h.segment) _ held
 
-module _ (hs : List Holding) (least m : ℕ) (d : LogData) (shown : Shown) (keep : ℕ → Bool)
-    (is : d.config.master ≡ m) (old : shown.least ≡ least) (shows : Shows hs (survivors keep shown) m) where
+module _ (hs : List Holding) (least m : ℕ) (shown : Shown) (keep : ℕ → Bool)
+    (old : shown.least ≡ least) (shows : Shows hs (survivors keep shown) m) where
   abbrev p : Picture
   p = shown.holds
 
   -- what is chosen in the inventory is chosen among what survives
-  pub surviving-choice : (c : Choice) → IsChoiceOf hs least m c → IsSurvivingChoice d shown keep c
+  pub surviving-choice : (c : Choice) → IsChoiceOf hs least m c → IsLeftChoice m shown keep c
   surviving-choice c choice =
-      subst (λ n. IsShownChoice (survivors keep shown) n c) (sym is)
-      (choice-of-same (λ h. IsAmong h hs) (IsHeld (left_on keep p)) shown.least m c shows
-      (subst (λ n. IsChoiceOf hs n m c) (sym old) choice))
+      choice-of-same (λ h. IsAmong h hs) (IsHeld (left_on keep p)) shown.least m c shows
+      (subst (λ n. IsChoiceOf hs n m c) (sym old) choice)
 
   -- and back
-  pub shown-choice : (c : Choice) → IsSurvivingChoice d shown keep c → IsChoiceOf hs least m c
+  pub shown-choice : (c : Choice) → IsLeftChoice m shown keep c → IsChoiceOf hs least m c
   shown-choice c choice =
       subst (λ n. IsChoiceOf hs n m c) old
       (choice-of-same (IsHeld (left_on keep p)) (λ h. IsAmong h hs) shown.least m c
-      (λ h of. ((shows h of).1, (shows h of).0))
-      (subst (λ n. IsShownChoice (survivors keep shown) n c) is choice))
+      (λ h of. ((shows h of).1, (shows h of).0)) choice)
 
   -- the picture has each replica that is shown
   pub shown-held : (h : Holding) → h.master ≡ m → IsAmong h hs →
-      p h.backup d.config.master h.segment ≡ Some (record { bytes = h.bytes; is_open = h.is_open })
-  shown-held h of among = ap (λ n. p h.backup n h.segment) (is ∙ sym of) ∙ left-held keep p h ((shows h of).0 among)
+      p h.backup m h.segment ≡ Some (record { bytes = h.bytes; is_open = h.is_open })
+  shown-held h of among = ap (λ n. p h.backup n h.segment) (sym of) ∙ left-held keep p h ((shows h of).0 among)
 
-  module _ (sound : IsSound d shown) where
+  module _ (d : FailData) (sound : IsSoundInBytes m d shown) where
     -- each replica of the master is well
     pub shown-good : (h : Holding) → h.master ≡ m → IsAmong h hs → IsGood h
     shown-good h of among =
         let text : IsTextOfSegment h.bytes h.master h.segment =
-        subst (λ n. IsTextOfSegment h.bytes n h.segment) (is ∙ sym of)
+        subst (λ n. IsTextOfSegment h.bytes n h.segment) (sym of)
         (sound.texts h.backup h.segment _ (shown-held h of among)) in
         record { segment = text.text; header = text.header }
 
@@ -93,8 +92,7 @@ module _ (hs : List Holding) (least m : ℕ) (d : LogData) (shown : Shown) (keep
     shown-agree id g h o q newest ga ha gi hi go ho =
         let same_segment : h.segment ≡ g.segment = hi.1 ∙ sym gi.1 in
         let one : opening_in g.bytes ≡ opening_in h.bytes =
-        sound.digests g.backup h.backup h.segment _ _ (ap (p g.backup d.config.master) same_segment
-        ∙ shown-held g gi.0.0 ga)
+        sound.digests g.backup h.backup h.segment _ _ (ap (p g.backup m) same_segment ∙ shown-held g gi.0.0 ga)
         (shown-held h hi.0.0 ha) in
         let same : o ≡ q = cc in
         ap (λ (x : Opening). x.digest) same

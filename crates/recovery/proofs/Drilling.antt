@@ -7,7 +7,9 @@ use Rattle.claims.specs.declared.rebuilt.Rebuilt.{Rebuilt}
 use Rattle.replica.specs.declared.holding.Holding.{Holding}
 use Rattle.replica.specs.Picture.{FleetState, Shown, left_on, shown_of, survivors, IsHeld}
 use Rattle.replica.specs.Survival.{BothSurvive}
-use Rattle.log_model.specs.Data.{IsHome, newest_opened}
+use Rattle.failover_model.specs.Data.{IsHome}
+use Rattle.failover_bytes.specs.Choice.{Counts, IsNewestCounted, newest_opened}
+use Rattle.failover_bytes.specs.Sound.{IsSoundInBytes}
 use Rattle.master_state.specs.declared.config.Config.{Config}
 use Rattle.master_state.specs.declared.step.Refusal.{Refusal}
 use Rattle.master_state.specs.declared.step.Step.{Step}
@@ -51,6 +53,19 @@ module _ (start stop : World) (steps : List Step) (kept : List ℕ) (will : List
   old : left.least stop.knows.config.master ≡ least
   old = ap left.least of_master
 
+  -- what is left of its master when it stops
+  abbrev shown_last : Shown
+  shown_last = shown_of left stop.knows.config.master
+
+  sound_left : IsSoundInBytes start.knows.config.master (log_of stop.knows) shown_last
+  sound_left = subst (λ (n : ℕ). IsSoundInBytes n (log_of stop.knows) shown_last) of_master valid.sound
+
+  newest_left : IsNewestCounted (Counts (log_of stop.knows) start.knows.config.master shown_last) shown_last.least
+      (newest_opened (log_of stop.knows))
+  newest_left =
+      subst (λ (n : ℕ). IsNewestCounted (Counts (log_of stop.knows) n shown_last) shown_last.least
+      (newest_opened (log_of stop.knows))) of_master valid.newest
+
   covers_stop : Covers start.knows.config.tablets will → Covers stop.knows.config.tablets will
   covers_stop = subst (λ (c : Config). Covers c.tablets will) (sym same_config)
 
@@ -79,21 +94,25 @@ module _ (start stop : World) (steps : List Step) (kept : List ℕ) (will : List
     prefix : (r : Result Rebuilt RecoveryFault) → IfOk r (IsSomePrefix hs least start.knows.config.master)
         → IfOk r (λ b. (count : ℕ) × IsRecovered (log_of stop.knows) count b)
     prefix (Ok b) is =
-        is (log_of stop.knows) (shown_of left stop.knows.config.master) (is_kept kept) valid.sound of_master old
-        (λ h of. shown h)
+        is (log_of stop.knows) shown_last (is_kept kept) sound_left of_master old (λ h of. shown h)
     prefix (Err e) is = tt
 
     loss : Covers start.knows.config.tablets will
         → NamesHeld (survivors (is_kept kept) shown_first) start.knows.config.master will order
         → (r : Result Rebuilt RecoveryFault) → IfErr r (IsSomeLoss hs least start.knows.config.master will order)
         → IfErr r (λ e. IsLossOrMemory e
-        × (BothSurvive (IsHome (log_of stop.knows)) (newest_opened (log_of stop.knows))
-        (shown_of left stop.knows.config.master) stop.knows.config.master (is_kept kept)
-        → IsWant e))
+        × (BothSurvive (IsHome (log_of stop.knows)) (newest_opened (log_of stop.knows)) shown_last
+        stop.knows.config.master (is_kept kept) → IsWant e))
     loss covers names (Ok b) is = tt
     loss covers names (Err e) is =
-        is (log_of stop.knows) (shown_of left stop.knows.config.master) (is_kept kept) valid.sound of_master old
-        (λ h of. shown h) (covers_stop covers) (names hs shown)
+        let lost = is (log_of stop.knows) shown_last (is_kept kept) (newest_opened (log_of stop.knows)) sound_left
+        newest_left of_master old (λ h of. shown h) (covers_stop covers) (names hs shown) in (
+          lost.0,
+          λ both. lost.1 (subst
+              (λ (n : ℕ). BothSurvive (IsHome (log_of stop.knows)) (newest_opened (log_of stop.knows)) shown_last n
+              (is_kept kept))
+              of_master both),
+        )
 
   -- if memory for an inventory ran out, nothing is named as lost
   pub drilled_without : (e : RecoveryFault) → IsLossOrMemory e → IsWant e

@@ -18,7 +18,7 @@ use Rattle.recovery.specs.declared.recovery.RecoveryFault.{RecoveryFault}
 use Rattle.recovery.specs.declared.succession.Course.{Course}
 use Rattle.recovery.specs.declared.succession.NotAdopted.{NotAdopted}
 use Rattle.recovery.specs.Drilled.{IsDrill}
-use Rattle.recovery.specs.Succession.{IsNewest, with_number, IsDrillBy, IsSuccessor, IsNotAdopted}
+use Rattle.recovery.specs.Succession.{IsNewest, with_number, next_config, IsDrillBy, IsSuccessor, IsNotAdopted}
 use Rattle.recovery.proofs.Succeeding.{run_newest, next_newest}
 
 -- ---- the next master
@@ -28,6 +28,12 @@ pub config_next : (c d : Config) (n m : ℕ) → d ≡ with_number m c → m ≡
 config_next c d n m is next =
     let same : m ≡ suc n = omega (arith, next) in
     is ∙ ap (λ (k : ℕ). with_number k c) same
+
+-- that of the next master
+pub config_of_next : (c d : Config) (n : ℕ) → d ≡ with_number d.master c → n ≡ d.master
+    → with_number (suc n) c ≡ next_config d
+config_of_next c d n like number =
+    ap (λ (m : ℕ). with_number (suc m) c) number ∙ ap (λ (x : Config). with_number (suc d.master) x) (sym like)
 
 -- a master that a fault halts has adopted the list still
 pub adopted_still : (c : Config) (r : Rebuilt) (d : MasterData) (retired : Result Unit TakeFault) → IsAdopted c r d

@@ -14,7 +14,7 @@ use Rattle.versioned_map.specs.Versioned.{State, is_met, with_contents, after_co
 use Rattle.versioned_map.specs.Versioned.{after_delete, after}
 use Rattle.entry.proofs.KeyOrder.{key_eq_tells}
 use Rattle.versioned_map.proofs.Keys.{at_key, at_other}
-use Rattle.log_model.specs.Data.{LogData, state_after}
+use Rattle.failover_model.specs.Data.{FailData, state_after}
 use Rattle.recovery.specs.Recovered.{IsRecovered}
 use Rattle.recovery.specs.Lives.{Life, taken_over, first_log, logs_of, AreLives, IsSameOrNewer, VersionsRise}
 
@@ -90,7 +90,7 @@ module _ (k : Key) (x : Versioned) where
   in_life st (c ∷ cs) (suc a) (suc b) le h = in_life (after_command st c) cs a b (omega arith) h
 
   -- what was recovered follows
-  recovered_follows : (d : LogData) (count : ℕ) (r : Rebuilt) → IsRecovered d count r → x.version < r.safe
+  recovered_follows : (d : FailData) (count : ℕ) (r : Rebuilt) → IsRecovered d count r → x.version < r.safe
       → Follows (state_after d count) → Follows (taken_over r)
   recovered_follows d count r is lt f =
       subst (λ (c : Contents). FollowsIn r.safe x (c k)) (sym is.exactly)
@@ -106,15 +106,15 @@ module _ (k : Key) (x : Versioned) where
     safe : x.version < st.safe
 
   -- a life that begins later
-  in_later : (ls : List Life) (on : LogData) → AreLives ls on → IsLater (first_log ls on).opening → (d : LogData)
+  in_later : (ls : List Life) (on : FailData) → AreLives ls on → IsLater (first_log ls on).opening → (d : FailData)
       → IsAmong d (logs_of ls on)
       → (b : ℕ) → Follows (state_after d b)
   in_later [] on lives later d (inl same) b =
-      subst (λ (e : LogData). Follows (state_after e b)) same
+      subst (λ (e : FailData). Follows (state_after e b)) same
       (run_follows on.opening (take b (commands_of on.history)) later.follows)
   in_later [] on lives later d (inr none) b = absurd none
   in_later (l ∷ ls) on lives later d (inl same) b =
-      subst (λ (e : LogData). Follows (state_after e b)) same
+      subst (λ (e : FailData). Follows (state_after e b)) same
       (run_follows l.log.opening (take b (commands_of l.log.history)) later.follows)
   in_later (l ∷ ls) on lives later d (inr among) b =
       in_later ls on lives.2 (subst IsLater (sym lives.1) next) d among b

@@ -10,7 +10,7 @@ use Rattle.versioned_map.specs.declared.command.Command.TheVariants.{Get, Put, D
 use Rattle.versioned_map.specs.History.{commands_of}
 use Rattle.versioned_map.specs.Versioned.{State, is_met, after_command, after_put, after_delete, after}
 use Rattle.versioned_map.proofs.Keys.{at_other}
-use Rattle.log_model.specs.Data.{LogData, state_after}
+use Rattle.failover_model.specs.Data.{FailData, state_after}
 use Rattle.recovery.specs.Lives.{Life, first_log, AreLives, Spares, AllSpare, recovered_of, AcknowledgedOutlive}
 
 module _ (k : Key) where
@@ -49,7 +49,7 @@ module _ (k : Key) where
   rest_spares st (c ∷ cs) (suc a) spare = rest_spares (after_command st c) cs a spare
 
   -- a life that begins later, after lives that leave the key alone
-  later_has : (l : Life) (between later : List Life) (on : LogData) → AreLives (l ∷ (between ++ later)) on
+  later_has : (l : Life) (between later : List Life) (on : FailData) → AreLives (l ∷ (between ++ later)) on
       → ((n : Life) → IsAmong n between → AllSpare k (recovered_of n))
       → (first_log later on).opening.contents k ≡ (state_after l.log l.count).contents k
   later_has l [] later on lives spare =

@@ -1,5 +1,6 @@
 -- What is recovered of a sound state, and what a refusal means.
 use Rattle.std.proofs.Common.{◌≡◌, ℕ, max, inl, Bool, List, ◌∷◌, refl, sym, ap, subst, ◌∙◌, take}
+use Rattle.std.specs.Prelude.{Option}
 use Rattle.entry.specs.Bag.{IsAmong}
 use Rattle.entry.specs.Key.{place_of}
 use Rattle.entry.specs.Meaning.{IsMeaning, IsClean, among, bound_of, contents_of}
@@ -22,8 +23,9 @@ use Rattle.recovery_plan.specs.declared.fault.PlanFault.TheVariants as plan_faul
 use Rattle.recovery_plan.specs.Planned.{IsPlan, IsChoiceOf, IsPlanOf, IsFirstBad, IsPlanFault, NamesLoss}
 use Rattle.entry.proofs.BagLemmas.{among_right}
 use Rattle.versioned_map.specs.History.{commands_of}
-use Rattle.log_model.specs.Data.{LogData, IsHome, newest_opened, state_after}
-use Rattle.log_model.specs.Sound.{IsSound}
+use Rattle.failover_model.specs.Data.{FailData, IsHome, state_after}
+use Rattle.failover_bytes.specs.Choice.{Counts, IsNewestCounted}
+use Rattle.failover_bytes.specs.Sound.{IsSoundInBytes}
 use Rattle.versioned_map.specs.Versioned.{IsSafeAfter}
 use Rattle.versioned_map.proofs.Meanings.{one_contents}
 use Rattle.recovery.specs.Recovered.{Shows, IsRebuiltFrom, IsPlanLoss, IsPlanWant, IsReplayWant, IsSomeLoss}
@@ -41,7 +43,7 @@ pub rebuilt-prefix : (hs : List Holding) (least m : ℕ) (c : Choice) (plan : Pl
     IsPlanOf hs least m c plan → IsRebuilt plan.segments plan.safe r → IsSomePrefix hs least m r
 rebuilt-prefix hs least m c plan r planned rebuilt d shown keep sound is old shows =
     let bag = bag-of-plan hs least m c plan planned in
-    let found = sound.prefix keep c (surviving-choice hs least m d shown keep is old shows c planned.choice) in
+    let found = sound.prefix keep c (surviving-choice hs least m shown keep old shows c planned.choice) in
     let prefix = found.1 in
     let meaning : IsMeaning (among (bag_of c)) (contents_of r.objects) =
     subst (λ es. IsMeaning (among es) (contents_of r.objects)) bag rebuilt.meaning in
@@ -77,40 +79,40 @@ rebuilt-from hs least m will order plan r planned covered whole rebuilt turns = 
 
 -- ---- what is refused
 
-module _ (hs : List Holding) (least m : ℕ) (d : LogData) (shown : Shown) (keep : ℕ → Bool)
-    (sound : IsSound d shown) (is : d.config.master ≡ m) (old : shown.least ≡ least)
+module _ (hs : List Holding) (least m : ℕ) (d : FailData) (shown : Shown) (keep : ℕ → Bool)
+    (sound : IsSoundInBytes m d shown) (old : shown.least ≡ least)
     (shows : Shows hs (survivors keep shown) m) where
-  -- if there is nothing to choose, not both survive
-  not-both : ((c : Choice) → IsChoiceOf hs least m c → ⊥) → BothSurvive (IsHome d) (newest_opened d)
-      shown d.config.master keep → ⊥
-  not-both none both =
-      let some = sound.choice keep both in
-      none some.0 (shown-choice hs least m d shown keep is old shows some.0 some.1)
-
   -- no replica of the master is bad
   none-bad : (backup id : ℕ) → IsFirstBad hs m backup id → ⊥
   none-bad backup id first =
       let there : IsAmong first.bad hs =
       subst (IsAmong first.bad) (sym first.place) (among_right first.bad first.before (first.bad ∷ first.after)
       (inl refl)) in
-      first.is_bad (shown-good hs least m d shown keep is old shows sound first.bad first.of_master there)
+      first.is_bad (shown-good hs least m shown keep old shows d sound first.bad first.of_master there)
 
-  pub plan-loss : (e : PlanFault) → IsPlanFault hs least m e → NamesLoss hs least m e →
-      IsPlanLoss e × (BothSurvive (IsHome d) (newest_opened d) shown d.config.master keep → IsPlanWant e)
-  plan-loss plan_fault.NoHead says loss = (tt, λ both. absurd (not-both loss both))
-  plan-loss (plan_fault.HeadTooOld id) says loss = (tt, λ both. absurd (not-both loss both))
-  plan-loss (plan_fault.HeadClosed id) says loss = (tt, λ both. absurd (not-both loss both))
-  plan-loss (plan_fault.Missing id) says loss =
-      (tt, λ both. absurd (not-both (loss.2 (shown-agree hs least m d shown keep is old shows sound)) both))
-  plan-loss (plan_fault.BadReplica backup id) says loss = absurd (none-bad backup id says)
-  plan-loss plan_fault.NoMemory says loss = (tt, λ both. tt)
+  module _ (opened : Option ℕ) (counted : IsNewestCounted (Counts d m shown) shown.least opened) where
+    -- if there is nothing to choose, not both survive
+    not-both : ((c : Choice) → IsChoiceOf hs least m c → ⊥) → BothSurvive (IsHome d) opened shown m keep → ⊥
+    not-both none both =
+        let some = sound.choice keep opened counted both in
+        none some.0 (shown-choice hs least m shown keep old shows some.0 some.1)
+
+    pub plan-loss : (e : PlanFault) → IsPlanFault hs least m e → NamesLoss hs least m e →
+        IsPlanLoss e × (BothSurvive (IsHome d) opened shown m keep → IsPlanWant e)
+    plan-loss plan_fault.NoHead says loss = (tt, λ both. absurd (not-both loss both))
+    plan-loss (plan_fault.HeadTooOld id) says loss = (tt, λ both. absurd (not-both loss both))
+    plan-loss (plan_fault.HeadClosed id) says loss = (tt, λ both. absurd (not-both loss both))
+    plan-loss (plan_fault.Missing id) says loss =
+        (tt, λ both. absurd (not-both (loss.2 (shown-agree hs least m shown keep old shows d sound)) both))
+    plan-loss (plan_fault.BadReplica backup id) says loss = absurd (none-bad backup id says)
+    plan-loss plan_fault.NoMemory says loss = (tt, λ both. tt)
 
   -- the log that was chosen can be rebuilt, by a will that covers the tablets and an order that names its groups once
   pub rebuildable : (will : List Part) (order : GroupOrder) (c : Choice) (plan : Plan) → IsPlanOf hs least m c plan
       → Covers d.config.tablets will → NamesGroups hs least m will order
       → CanBeRebuilt plan.segments will (order_for plan will order)
   rebuildable will order c plan planned covers names =
-      let choice = surviving-choice hs least m d shown keep is old shows c planned.choice in
+      let choice = surviving-choice hs least m shown keep old shows c planned.choice in
       let bag = bag-of-plan hs least m c plan planned in
       record {
         ids = ids_differ hs least m c plan planned;
@@ -126,15 +128,13 @@ memory-want e is = subst IsReplayWant (sym is) tt
 
 pub refused-plan : (hs : List Holding) (least m : ℕ) (will : List Part) (order : GroupOrder) (e : PlanFault)
     → IsPlanFault hs least m e → NamesLoss hs least m e → IsSomeLoss hs least m will order (fault.Plan e)
-refused-plan hs least m will order e says loss d shown keep sound is old shows covers names =
-    plan-loss hs least m d shown keep sound is old shows e says loss
+refused-plan hs least m will order e says loss d shown keep opened sound counted is old shows covers names =
+    plan-loss hs least m d shown keep sound old shows opened counted e says loss
 
 pub refused-replay : (hs : List Holding) (least m : ℕ) (will : List Part) (order : GroupOrder) (c : Choice)
     (plan : Plan) (e : ReplayFault) → IsPlanOf hs least m c plan
     → (CanBeRebuilt plan.segments will (order_for plan will order) → e ≡ replay_fault.NoMemory)
     → IsSomeLoss hs least m will order (fault.Replay e)
-refused-replay hs least m will order c plan e planned whole d shown keep sound is old shows covers names =
-    let want =
-    memory-want e
-    (whole (rebuildable hs least m d shown keep sound is old shows will order c plan planned covers names)) in
-    (want, λ both. want)
+refused-replay hs least m will order c plan e planned whole d shown keep _ sound _ is old shows covers names =
+    let can = rebuildable hs least m d shown keep sound old shows will order c plan planned covers names in
+    let want = memory-want e (whole can) in (want, λ both. want)

@@ -5,7 +5,8 @@ use Rattle.claims.specs.declared.rebuilt.Rebuilt.{Rebuilt}
 use Rattle.replica.specs.declared.holding.Holding.{Holding}
 use Rattle.replica.specs.Picture.{FleetState, Shown, AreHeld, shown_of, survivors}
 use Rattle.replica.specs.Survival.{BothSurvive}
-use Rattle.log_model.specs.Data.{IsHome, newest_opened}
+use Rattle.failover_model.specs.Data.{IsHome}
+use Rattle.failover_bytes.specs.Choice.{newest_opened}
 use Rattle.master_state.specs.declared.step.Refusal.{Refusal}
 use Rattle.master_state.specs.declared.step.Step.{Step}
 use Rattle.master_state.specs.declared.step.StepAnswer.{StepAnswer}

@@ -8,12 +8,12 @@ use Rattle.versioned_map.specs.declared.command.Command.{Command}
 use Rattle.versioned_map.specs.declared.command.Command.TheVariants.{Get, Put, Delete}
 use Rattle.versioned_map.specs.History.{commands_of}
 use Rattle.versioned_map.specs.Versioned.{State}
-use Rattle.log_model.specs.Data.{LogData, state_after}
+use Rattle.failover_model.specs.Data.{FailData, state_after}
 use Rattle.recovery.specs.Recovered.{IsRecovered}
 
 -- a life, and what was recovered at its end, of how many of its records
 pub record Life : Type 0 where
-  pub log : LogData
+  pub log : FailData
   pub count : ℕ
   pub recovered : Rebuilt
 
@@ -22,18 +22,18 @@ abbrev pub taken_over : Rebuilt → State
 taken_over r = record { contents = contents_of r.objects; safe = r.safe }
 
 -- the log of the first of these lives, or that of the life that goes on after them
-abbrev pub first_log : List Life → LogData → LogData
+abbrev pub first_log : List Life → FailData → FailData
 first_log [] on = on
 first_log (l ∷ ls) on = l.log
 
 -- the logs of these lives, and that of the life that goes on after them
-abbrev pub logs_of : List Life → LogData → List LogData
+abbrev pub logs_of : List Life → FailData → List FailData
 logs_of [] on = on ∷ []
 logs_of (l ∷ ls) on = l.log ∷ logs_of ls on
 
 -- Each of these lives ended in a recovery, and the next one begins with what was recovered. So does the life with this
 -- log, which goes on.
-abbrev pub AreLives : List Life → LogData → Type 0
+abbrev pub AreLives : List Life → FailData → Type 0
 AreLives [] on = Unit {0}
 AreLives (l ∷ ls) on =
     IsRecovered l.log l.count l.recovered × ((first_log ls on).opening ≡ taken_over l.recovered) × AreLives ls on
@@ -63,7 +63,7 @@ recovered_of l = take l.count (commands_of l.log.history)
 -- or nothing. The last of those is the life that goes on. What came after the records that were recovered is lost, and
 -- its versions may be given again.
 abbrev pub VersionsRise : Type 0
-VersionsRise = (l : Life) (later : List Life) (on d : LogData) (a b : ℕ) (k : Key) (x y : Versioned)
+VersionsRise = (l : Life) (later : List Life) (on d : FailData) (a b : ℕ) (k : Key) (x y : Versioned)
     → AreLives (l ∷ later) on → IsAmong d (logs_of later on)
     → a ≤ l.count → (state_after l.log a).contents k ≡ Some x
     → (state_after d b).contents k ≡ Some y → IsSameOrNewer x y
@@ -72,7 +72,7 @@ VersionsRise = (l : Life) (later : List Life) (on d : LogData) (a b : ℕ) (k : 
 -- to the one that goes on, unless a put or delete of it comes between: of those that were recovered, or in the later
 -- life itself.
 abbrev pub AcknowledgedOutlive : Type 0
-AcknowledgedOutlive = (l : Life) (between later : List Life) (on : LogData) (a b : ℕ) (k : Key)
+AcknowledgedOutlive = (l : Life) (between later : List Life) (on : FailData) (a b : ℕ) (k : Key)
     → AreLives (l ∷ (between ++ later)) on → a ≤ l.count
     → AllSpare k (drop a (recovered_of l))
     → ((n : Life) → IsAmong n between → AllSpare k (recovered_of n))

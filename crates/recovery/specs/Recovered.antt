@@ -1,5 +1,5 @@
 -- What a recovery gives back, and why it may give nothing back.
-use Rattle.std.specs.Prelude.{◌≡◌, ℕ, Bool, ◌<◌, ◌≤◌, ◌↔◌, List, map, take, length}
+use Rattle.std.specs.Prelude.{◌≡◌, ℕ, Bool, Option, ◌<◌, ◌≤◌, ◌↔◌, List, map, take, length}
 use Rattle.std.specs.List.Sorted.{IsStrictlySortedBy}
 use Rattle.entry.specs.declared.entry.Object.{Object}
 use Rattle.entry.specs.Bag.{IsAmong}
@@ -23,8 +23,9 @@ use Rattle.rebuilding.specs.Rebuilds.{IsRebuildFault, NamesEach, count_of}
 use Rattle.rebuilding.specs.Turns.{replayed}
 use Rattle.rebuilding.specs.Orders.{order_for}
 use Rattle.versioned_map.specs.History.{commands_of}
-use Rattle.log_model.specs.Data.{LogData, IsHome, newest_opened, state_after, durable_of}
-use Rattle.log_model.specs.Sound.{IsSound}
+use Rattle.failover_model.specs.Data.{FailData, IsHome, state_after, durable_of}
+use Rattle.failover_bytes.specs.Choice.{Counts, IsNewestCounted}
+use Rattle.failover_bytes.specs.Sound.{IsSoundInBytes}
 use Rattle.versioned_map.specs.Versioned.{IsSafeAfter}
 use Rattle.recovery.specs.declared.recovery.RecoveryFault.{RecoveryFault}
 use Rattle.recovery.specs.declared.recovery.RecoveryFault.TheVariants as fault
@@ -36,7 +37,7 @@ abbrev pub Shows : List Holding → Shown → ℕ → Type 0
 Shows inventory shown master = (h : Holding) → h.master ≡ master → IsAmong h inventory ↔ IsHeld shown.holds h
 
 -- Exactly the map after this many of the commands, each durable one among them, and a safe version for what follows.
-pub record IsRecovered (d : LogData) (count : ℕ) (r : Rebuilt) : Type 0 where
+pub record IsRecovered (d : FailData) (count : ℕ) (r : Rebuilt) : Type 0 where
   pub durable : durable_of d ≤ count
   pub within : count ≤ length d.history
   pub exactly : contents_of r.objects ≡ (state_after d count).contents
@@ -52,7 +53,7 @@ IsAcknowledged answered place = (later : ℕ) × IsAmong later answered × (plac
 
 -- If durable records alone are answered, each acknowledged one is among those that are recovered.
 abbrev pub AcknowledgedAreRecovered : Type 0
-AcknowledgedAreRecovered = (d : LogData) (count : ℕ) (r : Rebuilt) (answered : List ℕ) → IsRecovered d count r
+AcknowledgedAreRecovered = (d : FailData) (count : ℕ) (r : Rebuilt) (answered : List ℕ) → IsRecovered d count r
     → ((place : ℕ) → IsAmong place answered → place < durable_of d)
     → (place : ℕ) → IsAcknowledged answered place → place < count
 
@@ -90,18 +91,19 @@ IsWant (fault.Replay refused) = IsReplayWant refused
 -- of whatever sound state the inventory shows a part, with this least head: the map after a prefix of its commands,
 -- each durable one among them
 abbrev pub IsSomePrefix : List Holding → ℕ → ℕ → Rebuilt → Type 0
-IsSomePrefix inventory least master r = (d : LogData) (shown : Shown) (keep : ℕ → Bool)
-    → IsSound d shown → d.config.master ≡ master → shown.least ≡ least
+IsSomePrefix inventory least master r = (d : FailData) (shown : Shown) (keep : ℕ → Bool)
+    → IsSoundInBytes master d shown → d.config.master ≡ master → shown.least ≡ least
     → Shows inventory (survivors keep shown) master → (count : ℕ) × IsRecovered d count r
 
--- Of such a state: a loss, or memory ran out; and memory alone if both head and segments survive. The will covers the
--- tablets, and the order names each group once.
+-- Of such a state: a loss, or memory ran out; and memory alone if both the newest head that counts and the segments
+-- survive. The will covers the tablets, and the order names each group once.
 abbrev pub IsSomeLoss : List Holding → ℕ → ℕ → List Part → GroupOrder → RecoveryFault → Type 0
-IsSomeLoss inventory least master will order e = (d : LogData) (shown : Shown) (keep : ℕ → Bool)
-    → IsSound d shown → d.config.master ≡ master → shown.least ≡ least
+IsSomeLoss inventory least master will order e = (d : FailData) (shown : Shown) (keep : ℕ → Bool) (newest : Option ℕ)
+    → IsSoundInBytes master d shown → IsNewestCounted (Counts d master shown) shown.least newest
+    → d.config.master ≡ master → shown.least ≡ least
     → Shows inventory (survivors keep shown) master
     → Covers d.config.tablets will → NamesGroups inventory least master will order
-    → IsLossOrMemory e × (BothSurvive (IsHome d) (newest_opened d) shown d.config.master keep → IsWant e)
+    → IsLossOrMemory e × (BothSurvive (IsHome d) newest shown master keep → IsWant e)
 
 -- ---- any inventory, whatever it shows
 

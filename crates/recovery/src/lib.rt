@@ -2,8 +2,9 @@
 //!
 //! `recover` promises it for any sound state of which an inventory shows a part, and `run_drill` for a whole life: any
 //! steps of any master, its end, and the recovery from what these backups hold. Segments are divided by any will, and
-//! their groups replayed in any order. Both rest on the definitions of `log_model` alone: what a sound picture is, and
-//! what was durable. `specs/Recovered.antt` defines what comes back, `specs/Orders.antt` which wills cover the tablets.
+//! their groups replayed in any order. Both rest on the definitions of `failover_bytes` and `failover_model` alone: what
+//! a sound picture is, and what was durable. `specs/Recovered.antt` defines what comes back, `specs/Orders.antt` which
+//! wills cover the tablets.
 #![tactic(auto)]
 
 mod drill;

@@ -3,11 +3,7 @@ use Rattle.std.proofs.Common.{◌≡◌, ℕ, zero, suc, List, [], ◌∷◌, �
 use Rattle.std.proofs.Common.{inl, inr, ◌∙◌, arith}
 use Rattle.std.proofs.lemmas.List.{append-nil}
 use Rattle.entry.specs.declared.entry.Object.{Object}
-use Rattle.replica.specs.Op.{OpValue}
 use Rattle.replica.specs.Picture.{FleetState}
-use Rattle.replica.specs.Take.{Refuses}
-use Rattle.replica.specs.declared.op.TakeFault.TheVariants as take_fault
-use Rattle.log_model.specs.Ops.{op_of}
 use Rattle.master_state.specs.declared.step.Refusal.{Refusal}
 use Rattle.master_state.specs.declared.step.Refusal.TheVariants as refusal
 use Rattle.master_state.specs.declared.step.Step.TheVariants.{Push, BeginRoll}
@@ -16,11 +12,11 @@ use Rattle.master_state.specs.Data.{MasterData}
 use Rattle.master_state.specs.Loading.{Loads}
 use Rattle.master.specs.Steps.{Accepts, Declines, FailsTake, IsPushOp}
 use Rattle.master.specs.World.{World}
-use Rattle.master.proofs.Keeping.{taken_beside, fault_beside, take_failed}
-use Rattle.master.proofs.Pushed.{same_rest}
+use Rattle.master.proofs.Keeping.{take_failed}
+use Rattle.master.proofs.PushedRest.{same_rest}
 use Rattle.driving.specs.Rolls.{ArePushed, PushesUntil, GoesRolling, IsRolled, IsNotRolled}
-use Rattle.driving.proofs.Heads.{taken_counts}
 use Rattle.driving.proofs.MasterSteps.{nothing_waits}
+use Rattle.driving.proofs.Ops.{failed_beside, failed_counts, next_on_replica, op_beside, op_counts, push_on_replica}
 use Rattle.replay.specs.Adopting.{HasRoomMade, LoadsOne, HasLoaded, LoadsAll, DeclinesOne, IsStuck, Stops, IsAdoptedOn}
 
 -- ---- the fleet
@@ -45,9 +41,9 @@ adopted_further master f g h first later =
 module _ (old new : World) where
   pub push_adopts : (a : StepAnswer) → Accepts old Push a new → IsAdoptedOn old.knows.config.master old.fleet new.fleet
   push_adopts a p =
-      let op = op_of old.knows.config.master p.op in
-      let beside = taken_beside old.fleet p.op.backup op new.fleet p.takes.1 in
-      let counts = taken_counts old.fleet p.op.backup op new.fleet p.takes.1 in
+      let master = old.knows.config.master in
+      let beside = op_beside master old.fleet p.op new.fleet (next_on_replica old.knows p.op a _ p.next) p.takes in
+      let counts = op_counts master old.fleet p.op new.fleet p.takes in
       record {
         backups = counts.backups;
         takes = beside.takes.0;
@@ -55,15 +51,6 @@ module _ (old new : World) where
         others = beside.others;
         least = beside.least;
       }
-
-  fault_counts : (b : ℕ) (op : OpValue) → Refuses old.fleet b op take_fault.Fault new.fleet
-      → (new.fleet.backups ≡ old.fleet.backups) × (new.fleet.end ≡ old.fleet.end)
-  fault_counts b op (inl same) = (ap (λ (f : FleetState). f.backups) same, ap (λ (f : FleetState). f.end) same)
-  fault_counts b op (inr took) =
-      let counts = taken_counts old.fleet b op took.0 took.1.1 in (
-        ap (λ (f : FleetState). f.backups) took.2 ∙ counts.backups,
-        ap (λ (f : FleetState). f.end) took.2 ∙ counts.end,
-      )
 
   same_adopts : new ≡ old → IsAdoptedOn old.knows.config.master old.fleet new.fleet
   same_adopts same =
@@ -73,9 +60,10 @@ module _ (old new : World) where
   halted_adopts : FailsTake (IsPushOp old) old refusal.Halted new
       → IsAdoptedOn old.knows.config.master old.fleet new.fleet
   halted_adopts t =
-      let op = op_of old.knows.config.master t.1.0 in
-      let beside = fault_beside old.fleet t.1.0.backup op new.fleet t.1.2 in
-      let counts = fault_counts t.1.0.backup op t.1.2 in
+      let master = old.knows.config.master in
+      let on = push_on_replica old t.1.0 t.1.1 in
+      let beside = failed_beside master old.fleet t.1.0 new.fleet on t.1.2 in
+      let counts = failed_counts master old.fleet t.1.0 new.fleet on t.1.2 in
       record {
         backups = counts.0;
         takes = beside.takes.0;

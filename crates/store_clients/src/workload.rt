@@ -2,7 +2,7 @@
 
 ghost use Rattle.std.specs.Prelude.{◌≡◌, ◌≤◌, ◌<◌, ◌*◌, ◌+◌, ◌++◌, ◌^◌, List, IfOk, OnOk, IsTrue, None};
 ghost use Rattle.std.specs.Prelude.{length, drop, take, replicate};
-ghost use Rattle.log_model.specs.Data.{durable_of};
+ghost use Rattle.failover_model.specs.Data.{durable_of};
 ghost use Rattle.master_state.specs.Log.{log_of};
 ghost use Rattle.locked_log.specs.Made.{IsMade, made_now};
 ghost use Rattle.store_seat.specs.Seats.{SeatValue};

@@ -15,9 +15,22 @@ use Rattle.next_master.specs.Recoveries.{IsDeclined, IsTakenOver}
 use Rattle.node.specs.Served.{AnswersLine, IsOf, fleet_of, world_of}
 use Rattle.next_master.proofs.NextLife.{cut_told, declined_told, has_backups, not_of_cut}
 use Rattle.next_master.proofs.NextLife.{not_of_refusal, recovered_told}
-use Rattle.next_master.proofs.HowItEnds.{cut_over, down_on, taken_over}
-use Rattle.node.proofs.Standing.{stays_told}
+use Rattle.next_master.proofs.HowItEnds.{cut_over, down_on, taken_over, up_at}
+use Rattle.node.proofs.Standing.{stays_told, up_told}
 use Rattle.next_master.proofs.recovering.recover_node.Goals as goal
+
+pub returns-in_default : goal.returns-in_default
+returns-in_default g c =
+    let s = c.requires.stands in
+    let old = config_of c.args.options.now c.args.master in
+    let up = up_at c.args.node.now old s.0 s.1 c.in_default.not-Down s.2 in
+    record {
+      recovers = inl (refl, up_told c.args.node.now old (Recover c.args.order) up refl);
+      ends = inl (up, refl, refl, refl, refl);
+      numbers = record { rises = omega arith; fresh = inl refl };
+      least = inl refl;
+      spent = λ is. absurd (cc);
+    }
 
 pub returns-in-Err-clause-recovers : goal.returns-in-Err-clause-recovers
 returns-in-Err-clause-recovers g c =

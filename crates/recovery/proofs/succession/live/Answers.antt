@@ -3,8 +3,9 @@ use Rattle.std.specs.Prelude.{Result}
 use Rattle.claims.specs.declared.rebuilt.Rebuilt.{Rebuilt}
 use Rattle.master.specs.World.{world}
 use Rattle.recovery.specs.declared.recovery.RecoveryFault.{RecoveryFault}
-use Rattle.recovery.specs.Succession.{IsDrillBy}
-use Rattle.recovery.proofs.Following.{drill_by, drill_newest, newest_again, is_not_adopted}
+use Rattle.master_state.specs.declared.config.Config.{Config}
+use Rattle.recovery.specs.Succession.{IsDrillBy, IsSuccessor}
+use Rattle.recovery.proofs.Following.{config_of_next, drill_by, drill_newest, newest_again, is_not_adopted}
 use Rattle.recovery.proofs.succession.live.Goals as goal
 
 pub succeed-requires-clause-newest : goal.succeed-requires-clause-newest
@@ -22,6 +23,26 @@ returns-in-Ok-succeed-clause-newest g c =
     let next = c.in-Ok-succeed.master in
     newest_again c.args.config.now next.knows.config (suc c.number-number.result) (g.F.Fleet.state next.fleet)
     c.in-Ok-succeed.ensures.succeeds.adopted.config c.in-Ok-succeed.ensures.newest
+
+pub returns-in-Ok-succeed-clause-lived : goal.returns-in-Ok-succeed-clause-lived
+returns-in-Ok-succeed-clause-lived g c =
+    let state = g.F.Fleet.state in
+    let start = world state c.args.master in
+    let k = c.args.course.now in
+    let d = c.in-Ok.drill in
+    let r = c.in-Ok-recovered.rebuilt in
+    let left = state d.fleet in
+    let next = world state c.in-Ok-succeed.master in
+    record {
+      left = left;
+      drill = subst (λ (x : Result Rebuilt RecoveryFault). IsDrillBy start k d.answers.items x left)
+          c.in-Ok-recovered.is
+          (drill_by start k c.as_slice.result.now c.as_slice-2.result.now d.answers.items d.recovered left
+          c.as_slice.ensures.value c.as_slice-2.ensures.value c.in-Ok.ensures.drill);
+      succeeds = subst (λ (x : Config). IsSuccessor x r left c.in-Ok-succeed.retired next)
+          (config_of_next c.args.config.now c.args.master.knows.config c.number-number.result c.requires.config
+          c.number-number.ensures) c.in-Ok-succeed.ensures.succeeds;
+    }
 
 pub returns-in-Err-succeed-clause-ends : goal.returns-in-Err-succeed-clause-ends
 returns-in-Err-succeed-clause-ends g c =

@@ -4,7 +4,8 @@ use Rattle.std.specs.Option.{option_map}
 use Rattle.backup.specs.State.{fleet_state}
 use Rattle.master.specs.Valid.{IsValid}
 use Rattle.master.specs.World.{World}
-use Rattle.log_model.specs.Data.{newest_opened}
+use Rattle.failover_model.specs.Data.{homes}
+use Rattle.failover_bytes.specs.Choice.{newest_opened}
 use Rattle.master_state.specs.Data.{MasterData}
 use Rattle.master_state.specs.Log.{log_of}
 use Rattle.replica.specs.Picture.{FleetState, Shown, shown_of}
@@ -28,7 +29,7 @@ returns-in-Up c = inr (
       ∙ ap (λ (o : Option FleetState). shown_of (unwrap_or o f) d.config.master) held in
       let valid = subst (λ (x : MasterData). IsValid x (fleet_state limited.fleet)) same c.limit.ensures.valid in
       subst (λ (s : Shown). IsOf c.drop_master.new.self (Some
-      (record { shown = s; opened = newest_opened (log_of d); lost = [] })) d) shown
+      (record { shown = s; opened = newest_opened (log_of d); homes = homes (log_of d); lost = [] })) d) shown
       (c.drop_master.ensures.left d (fleet_state limited.fleet) (refl, same, valid) refl),
   (
     c.drop_master.ensures.down,
