@@ -10,12 +10,11 @@ use Rattle.failover_clean.specs.Covered.{IsCovered}
 use Rattle.failover_clean.specs.Fleet.{CountsDurable, read_of, shown_for}
 use Rattle.failover_clean.specs.Memory.{log_ids}
 use Rattle.master_state.specs.Budget.{used_seglets}
-use Rattle.master_state.specs.Causes.{is_pushed}
+use Rattle.master_state.specs.Causes.{is_done}
 use Rattle.master_state.specs.Config.{config_fault}
 use Rattle.master_state.specs.Data.{MasterData}
 use Rattle.master_state.specs.Log.{opening_of, log_of, state_now, durable_now, image_of, memory_of, IsIndexed}
 use Rattle.master.specs.Placed.{IsPlaced}
-use Rattle.master.specs.Registry.{IsUnraised}
 
 -- What is true of a master, by what it knows and what its fleet holds. `Master::show_valid` gives it at any time, and
 -- each step keeps it. Three of its fields are what the store is for. `legal`: the replies are those of the versioned
@@ -43,12 +42,10 @@ pub record IsValid (d : MasterData) (f : FleetState) : Type 0 where
       (newest_opened (log_of d))
   -- a segment's replicas go to its homes
   pub placed : IsPlaced d
-  -- any head of the master may be used
-  pub least : IsUnraised d.config.master f
   -- memory and the replicas of the log hold the map
   pub covered : IsCovered (log_of d) (memory_of d) (read_of (log_of d) f)
   pub durable : CountsDurable (log_of d) (shown_for (log_of d) f)
   -- what the master counts is the durable count
   pub counted : durable_now d ≡ durable_of (log_of d)
   -- if nothing waits to be pushed, each record is durable
-  pub pushed : is_pushed d.head ≡ true → durable_of (log_of d) ≡ length d.history
+  pub pushed : is_done d ≡ true → durable_of (log_of d) ≡ length d.history

@@ -65,9 +65,7 @@ impl<F: Fleet> Master<F> {
         ensures accepted { IfOk result (λ a. Accepts (world F.state self.old) Step.Seal a (world F.state self.new)) }
         ensures refused { IfErr result (λ r. Declines (world F.state self.old) Step.Seal r (world F.state self.new)) }
     {
-        if self.core.is_halted() {
-            return Err(Refusal::Halted);
-        }
+        self.core.admit()?;
         let Some((survivor, replica)) = self.core.to_seal() else {
             return Err(Refusal::Nothing);
         };
@@ -79,7 +77,7 @@ impl<F: Fleet> Master<F> {
                 self.core.sealed();
                 Ok(StepAnswer::Sealed(backup))
             }
-            Err(fault) => Err(self.core.fail(fault)),
+            Err(fault) => Err(self.core.fail(backup, fault)),
         }
     }
 
@@ -88,9 +86,7 @@ impl<F: Fleet> Master<F> {
         ensures accepted { IfOk result (λ a. Accepts (world F.state self.old) Step.Free a (world F.state self.new)) }
         ensures refused { IfErr result (λ r. Declines (world F.state self.old) Step.Free r (world F.state self.new)) }
     {
-        if self.core.is_halted() {
-            return Err(Refusal::Halted);
-        }
+        self.core.admit()?;
         let Some((segment, replica)) = self.core.to_free() else {
             return Err(Refusal::Nothing);
         };
@@ -105,7 +101,7 @@ impl<F: Fleet> Master<F> {
                 self.core.freed();
                 Ok(StepAnswer::Freed(segment, backup))
             }
-            Err(fault) => Err(self.core.fail(fault)),
+            Err(fault) => Err(self.core.fail(backup, fault)),
         }
     }
 }

@@ -18,5 +18,6 @@ mod victims;
 pub use choosing::Chooses;
 pub use cleaning::Cleans;
 pub use compacting::Compacts;
-pub use rolling::Rolls;
+pub use ending::end_pass;
+pub use rolling::{Rolls, entering, leaving_victims, mark};
 pub use sizes::Measures;

@@ -16,7 +16,6 @@ use Rattle.master_state.specs.declared.config.Config.{Config}
 use Rattle.master_state.specs.Data.{MasterData}
 use Rattle.master.specs.Valid.{IsValid}
 use Rattle.recovery.specs.Kept.{is_kept}
-use Rattle.recovery.specs.declared.recovery.RecoveryFault.TheVariants as fault
 use Rattle.answers.specs.declared.answer.Answer.TheVariants as answer
 use Rattle.node.specs.declared.node.Node.{Node}
 use Rattle.node.specs.declared.node.Node.TheVariants.{Down}

@@ -8,7 +8,7 @@ use Rattle.log_head.specs.Head.{is_open}
 use Rattle.master_state.specs.declared.config.Config.{Config}
 use Rattle.master_state.specs.declared.step.Refusal.{Refusal}
 use Rattle.master_state.specs.declared.step.Refusal.TheVariants as refusal
-use Rattle.master_state.specs.Causes.{is_pushed}
+use Rattle.master_state.specs.Causes.{is_done}
 use Rattle.master_state.specs.Data.{MasterData}
 use Rattle.master_state.specs.Loading.{load_refusal, restored_data, Loads, Settles}
 use Rattle.master_state.specs.Log.{opening_of}
@@ -77,7 +77,7 @@ pub record IsAdopted (c : Config) (r : Rebuilt) (d : MasterData) : Type 0 where
   pub opening : opening_of d ≡ record { contents = contents_of r.objects; safe = r.safe }
   pub history : d.history ≡ []
   pub opened : is_open d.head ≡ true
-  pub pushed : is_pushed d.head ≡ true
+  pub pushed : is_done d ≡ true
 
 -- What an adoption leaves of the fleet, whether it succeeds or not.
 pub record IsAdoptedOn (master : ℕ) (old new : FleetState) : Type 0 where
