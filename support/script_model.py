@@ -347,6 +347,8 @@ class Fleet:
     # The take from now that ends in a fault, 1 for the next one, and whether its op is taken. With 0 none does.
     due: int = 0
     is_taken: bool = False
+    # The least head of each master for which it was raised.
+    raises: tuple = ()
 
     def replica(self, backup, master, segment):
         return next((it for it in self.holdings if it.name() == (backup, master, segment)), None)
@@ -359,6 +361,15 @@ class Fleet:
     def freed(self, holding):
         """The fleet after an op that frees this holding."""
         return self.counted(tuple(it for it in self.holdings if it.name() != holding.name()))
+
+    def least(self, master):
+        """The least head of this master that a recovery may use."""
+        return dict(self.raises).get(master, 0)
+
+    def raised(self, master, id_):
+        """The fleet after the least head of this master was raised."""
+        raises = {**dict(self.raises), master: max(id_, self.least(master))}
+        return replace(self.counted(self.holdings), raises=tuple(sorted(raises.items())))
 
     def counted(self, holdings):
         """The fleet after an op that leaves these holdings."""
@@ -437,8 +448,8 @@ class Pass:
     # What is still to be treated: a victim's id and an entry of its, each.
     rest: tuple
     filling: int = 0
-    # How many replicas of the survivors are sealed: those of the first, then those of the second, and so on.
-    sealed: int = 0
+    # The replicas that are sealed, on backups that haven't failed: a survivor's id and a backup, each.
+    sealed: frozenset = frozenset()
     # The roll that is under way is the pass's commit.
     is_committing: bool = False
 
@@ -461,6 +472,20 @@ def survivors_for(lengths, most):
 
 
 @dataclass(frozen=True)
+class Failover:
+    """What a master does since a backup failed, up to its last lost replica."""
+
+    # The durable count as it began, which stays.
+    frozen: int
+    # No head was open yet.
+    is_first: bool
+    # A roll was under way. The image of its head counts until the new one is opened.
+    has_abandoned: bool
+    # The head is mended, the new one is opened and raised, the old one is closed, then others are repaired.
+    part: str = "mends"
+
+
+@dataclass(frozen=True)
 class Master:
     number: int
     # By id. The last is the head or, while a roll is under way, the head that is being opened.
@@ -471,10 +496,12 @@ class Master:
     # The first id that no segment had yet.
     next: int = 2
     cleaning: Pass = None
-    # Victims of earlier passes, in the order in which they are freed, and how many replicas of the first were freed.
+    # Victims of earlier passes of which a replica is left, in the order in which they are freed.
     waiting: tuple = ()
-    freed: int = 0
-    # A take ended in a fault.
+    # The backups that failed, and what is done about the last of them.
+    failed: frozenset = frozenset()
+    failover: Failover = None
+    # A take ended in a fault, and no further step is done.
     is_halted: bool = False
     # Its digests list lengths.
     has_lengths: bool = False
@@ -486,6 +513,19 @@ class Master:
         """A master without a key, whose first head is being opened."""
         has_lengths = format_ == 2
         return Master(number, (new_head(number, (), 1, safe, has_lengths),), safe, has_lengths=has_lengths)
+
+    def backups(self, segment, options):
+        """The backups that haven't failed, in the order of this segment."""
+        order = ((segment * options.step + place) % options.backups for place in range(options.backups))
+        return [backup for backup in order if backup not in self.failed]
+
+    def homes(self, segment, options):
+        """The backups of a segment's replicas."""
+        return self.backups(segment, options)[:options.replicas]
+
+    def is_working(self):
+        """Whether the head is open, and no failover."""
+        return not self.is_rolling and not self.failover
 
     def log(self):
         """The segments of the digest in force."""
@@ -526,24 +566,37 @@ class Master:
     def unit_refusal(self, unit, whole_ones, options):
         """The refusal of a unit, before which a roll has to leave so many whole segments free; or None."""
         fits = len(self.segments[-1].text) + len(spelled(unit)) <= options.segment
-        if not self.is_rolling and not fits and not self.may_roll(options, whole_ones):
+        if self.is_working() and not fits and not self.may_roll(options, whole_ones):
             return "Full"
-        return "Rolling" if self.is_rolling or not fits else None
+        return None if self.is_working() and fits else "Rolling"
 
     def is_ready(self, options):
         """Whether a pass is ready for its commit."""
         cleaning = self.cleaning
-        return cleaning and not cleaning.rest and cleaning.sealed == len(cleaning.survivors) * options.replicas
+        return cleaning and not cleaning.rest and self.next_seal(options) is None
+
+    def next_seal(self, options):
+        """The first survivor that isn't sealed whole, and the backup of its next replica; or None."""
+        replicas = ((it, home) for it in self.survivors() for home in self.homes(it.id, options))
+        return next((it for it in replicas if (it[0].id, it[1]) not in self.cleaning.sealed), None)
 
     def may_roll(self, options, whole_ones):
         """Whether a roll may begin that leaves so many whole segments free."""
         if self.is_ready(options):
-            return True
+            return not self.has_lengths or self.has_room(options)
         ids, most = len(self.segments), options.segment // 32
         leaving, coming, taken = (len(self.cleaning.victims), len(self.cleaning.survivors), 1) if self.cleaning else (1, 1, 0)
         free = options.seglets - self.used(options)
         needed = (whole_ones - taken) * (options.segment // options.seglet) + seglets(self.segments[-1], options)
         return ids + 1 <= most and ids + 1 <= most - 1 - coming + leaving and needed <= free
+
+    def has_room(self, options):
+        """Whether the next head has a place in its digest, and no seglet is missing for it. Nothing is kept for others."""
+        ids = len(self.log()) + 1
+        if self.is_ready(options):
+            ids += len(self.cleaning.survivors) - len(self.cleaning.victims)
+        old = 0 if self.failover and self.failover.has_abandoned else seglets(self.segments[-1], options)
+        return ids <= options.segment // 32 and old <= options.seglets - self.used(options)
 
     def is_kept(self, segment, entry):
         """Whether the cleaners keep an entry of this segment."""
@@ -563,7 +616,9 @@ class Master:
     def used(self, options):
         """How many seglets are counted: the last segment and each survivor whole, and each other one by its length."""
         whole = options.segment // options.seglet
-        return whole * (1 + len(self.survivors())) + sum(seglets(it, options) for it in self.segments[:-1])
+        # An abandoned head counts as the last one does in a roll.
+        by_length = self.segments if self.failover and self.failover.has_abandoned else self.segments[:-1]
+        return whole * (1 + len(self.survivors())) + sum(seglets(it, options) for it in by_length)
 
     # Passes.
 
@@ -695,6 +750,33 @@ class Master:
         head = new_head(self.number, log, self.next, self.safe, self.has_lengths)
         return replace(self, segments=(*self.segments, head), next=self.next + 1, is_rolling=True, cleaning=cleaning)
 
+    # Failovers.
+
+    def may_lose(self, options):
+        """Whether a failover may begin if one more backup fails."""
+        return self.has_lengths and not self.failover and options.backups - len(self.failed) > options.replicas
+
+    def without(self, backup, frozen):
+        """The master as a failover begins. A roll that was under way is abandoned."""
+        is_first = self.is_rolling and len(self.segments) == 1
+        has_abandoned = self.is_rolling and not is_first
+        cleaning = self.cleaning and replace(
+            self.cleaning, is_committing=False, sealed=frozenset(it for it in self.cleaning.sealed if it[1] != backup))
+        return replace(
+            self, failed=self.failed | {backup}, failover=Failover(frozen, is_first, has_abandoned), cleaning=cleaning,
+            segments=self.log(), is_rolling=is_first)
+
+    def in_part(self, part):
+        return replace(self, failover=replace(self.failover, part=part))
+
+    def turned(self, options):
+        """The master with the new head of a failover, before its first Open. If no head was open yet, it lists itself alone."""
+        failover = replace(self.failover, part="opens", has_abandoned=False)
+        if failover.is_first:
+            head = new_head(self.number, (), self.next, self.safe, True)
+            return replace(self, segments=(head,), next=self.next + 1, failover=failover)
+        return replace(self.rolling(self.is_ready(options)), failover=failover)
+
 
 # Wills (section 10).
 
@@ -731,8 +813,8 @@ class Refusal(Exception):
     """A refused recovery, with the name and the numbers of its refusal."""
 
 
-def plan(holdings, master):
-    """The entries of the segments that a recovery reads, the head last."""
+def plan(holdings, master, least):
+    """The entries of the segments that a recovery reads, the head last. Its id is at least this one."""
     read = []
     for holding in holdings:
         if holding.master != master:
@@ -745,6 +827,8 @@ def plan(holdings, master):
     if not heads:
         raise Refusal("NoHead")
     newest = max(holding.segment for holding, _ in heads)
+    if newest < least:
+        raise Refusal(f"HeadTooOld {newest}")
     heads = [(holding, entries) for holding, entries in heads if holding.segment == newest and holding.is_open]
     if not heads:
         raise Refusal(f"HeadClosed {newest}")
@@ -831,6 +915,8 @@ class Store:
             if name == "clients":
                 yield REFUSED, 1, self
             yield "refused Halted\n", 0, self
+        elif name in ("compact", "begin", "copy", "seal", "free", "beginroll") and self.master.failover:
+            yield "refused Rolling\n", 0, self
         else:
             yield from getattr(self, f"line_{name}")(*parts)
 
@@ -925,7 +1011,7 @@ class Store:
         if not self.next_op():
             yield "refused Nothing\n", 0, self
             return
-        store = yield from self.one_push()
+        store = yield from self.one_push(goes_on=False)
         if store:
             yield f"{self.pushed()[0]}\n", 0, store
 
@@ -946,7 +1032,7 @@ class Store:
         if sealed is None:
             yield "refused Nothing\n", 0, self
             return
-        store = yield from self.one_seal()
+        store = yield from self.one_seal(goes_on=False)
         if store:
             yield f"sealed {sealed[1]}\n", 0, store
 
@@ -955,24 +1041,22 @@ class Store:
         if home is None:
             yield "refused Nothing\n", 0, self
             return
-        store = yield from self.one_free()
+        store = yield from self.one_free(goes_on=False)
         if store:
             yield f"freed {self.master.waiting[0]} {home}\n", 0, store
 
     def line_clean(self, *ids):
-        store = yield from self.pass_begun(ids)
+        store = yield from self.mended()
+        store = store and (yield from store.pass_begun(ids))
         if not store:
             return
         survivors = store.master.cleaning.survivors
-        while store.master.cleaning.rest:
-            store = yield from store.one_copy()
-        while store and store.next_seal() is not None:
-            store = yield from store.one_seal()
-        while store and store.master.is_rolling:
-            store = yield from store.one_push()
-        store = store and (yield from store.rolled())
+        while store and store.master.cleaning:
+            store = yield from store.next_of_pass()
+        store = store and (yield from store.mended())
         while store and store.next_free() is not None:
             store = yield from store.one_free()
+            store = store and (yield from store.mended())
         if store:
             yield f"cleaned{ids_text((*survivors, store.master.segments[-1]))}\n", 0, store
 
@@ -990,15 +1074,29 @@ class Store:
         yield REFUSED, 1, self
         return replace(self, master=self.master.copied(self.options)[1])
 
+    def mended(self):
+        """Pushes to the end of a failover."""
+        store = self
+        while store and store.master.failover:
+            store = yield from store.one_push()
+        return store
+
+    def next_of_pass(self):
+        """Does the next step of a pass up to the end of its commit."""
+        if self.master.failover:
+            return (yield from self.one_push())
+        if self.master.cleaning.rest:
+            return (yield from self.one_copy())
+        if self.next_seal() is not None:
+            return (yield from self.one_seal())
+        return (yield from self.one_push()) if self.master.is_rolling else (yield from self.begun())
+
     def next_seal(self):
         """The survivor of which the next replica is sealed, and the backup; or None."""
         cleaning = self.master.cleaning
-        if not cleaning or cleaning.rest or self.master.is_ready(self.options):
-            return None
-        place, replica = divmod(cleaning.sealed, self.options.replicas)
-        return cleaning.survivors[place], self.homes(cleaning.survivors[place].id)[replica]
+        return self.master.next_seal(self.options) if cleaning and not cleaning.rest else None
 
-    def one_seal(self):
+    def one_seal(self, goes_on=True):
         if self.fleet.left == 0:
             yield self.stopped()
             return None
@@ -1007,27 +1105,32 @@ class Store:
         holding = Holding(home, self.master.number, survivor.id, survivor.text, False)
         fleet = self.fleet.took(holding)
         if self.fleet.due == 1:
-            yield self.halted(fleet)
-            return None
-        master = replace(self.master, cleaning=replace(cleaning, sealed=cleaning.sealed + 1))
+            return (yield from self.lost(home, fleet, goes_on))
+        master = replace(self.master, cleaning=replace(cleaning, sealed=cleaning.sealed | {(survivor.id, home)}))
         return replace(self, fleet=fleet, master=master)
 
     def next_free(self):
         """The backup on which the next replica of what waits is freed, or None."""
-        return self.homes(self.master.waiting[0])[self.master.freed] if self.master.waiting else None
+        return self.holders(self.master.waiting[0])[0] if self.master.waiting else None
 
-    def one_free(self):
+    def holders(self, segment):
+        """The backups that haven't failed and hold a replica of this segment, in its order."""
+        return [backup for backup in self.master.backups(segment, self.options) if self.replica(backup, segment)]
+
+    def waited(self):
+        """The store without what waits and has no replica left."""
+        waiting = tuple(it for it in self.master.waiting if self.holders(it))
+        return replace(self, master=replace(self.master, waiting=waiting))
+
+    def one_free(self, goes_on=True):
         if self.fleet.left == 0:
             yield self.stopped()
             return None
-        first, *others = self.master.waiting
-        fleet, freed = self.fleet.freed(self.replica(self.next_free(), first)), self.master.freed + 1
+        home = self.next_free()
+        fleet = self.fleet.freed(self.replica(home, self.master.waiting[0]))
         if self.fleet.due == 1:
-            yield self.halted(fleet)
-            return None
-        if freed == self.options.replicas:
-            return replace(self, fleet=fleet, master=replace(self.master, waiting=tuple(others), freed=0))
-        return replace(self, fleet=fleet, master=replace(self.master, freed=freed))
+            return (yield from self.lost(home, fleet, goes_on))
+        return replace(self, fleet=fleet).waited()
 
     def stopped(self):
         """What a line prints if the fleet takes no more ops, and the store then."""
@@ -1038,8 +1141,21 @@ class Store:
         master = replace(self.master, is_halted=True)
         return "refused Halted\n", 0, replace(self, master=master, fleet=self.fleet.faulted(taken))
 
+    def lost(self, backup, taken, goes_on):
+        """What a take does that ends in a fault of this backup. If the op is taken, the fleet is `taken`."""
+        if not self.master.may_lose(self.options):
+            yield self.halted(taken)
+            return None
+        is_first = self.master.is_rolling and len(self.master.segments) == 1
+        master = self.master.without(backup, 0 if is_first else self.durable())
+        store = replace(self, master=master, fleet=self.fleet.faulted(taken)).waited()
+        if goes_on:
+            return store
+        yield f"refused Lost {backup}\n", 0, store
+        return None
+
     def begun(self):
-        if self.master.is_rolling:
+        if not self.master.is_working():
             yield "refused Rolling\n", 0, self
         elif not self.master.may_roll(self.options, 2):
             yield "refused Full\n", 0, self
@@ -1049,63 +1165,123 @@ class Store:
         return None
 
     def rolled(self):
-        """Begins a roll if the head is open, and pushes until it is open."""
-        store = self if self.master.is_rolling else (yield from self.begun())
-        while store and store.master.is_rolling:
+        """Begins a roll if the head is open, and pushes until it is open and no failover is."""
+        store = self if not self.master.is_working() else (yield from self.begun())
+        while store and not store.master.is_working():
             store = yield from store.one_push()
         return store
 
-    def one_push(self):
+    def one_push(self, goes_on=True):
+        is_turn = self.is_turn()
+        if is_turn and not self.master.failover.is_first and not self.master.has_room(self.options):
+            yield "refused Halted\n", 0, replace(self, master=replace(self.master, is_halted=True))
+            return None
         if self.fleet.left == 0:
             yield self.stopped()
             return None
         yield REFUSED, 1, self
-        if self.fleet.due == 1:
-            yield self.halted(self.pushed()[1].fleet)
+        if self.fleet.due != 1:
+            return self.pushed()[1]
+        taken, (_, what) = self.pushed()[1].fleet, self.next_op()
+        if is_turn:
+            # The first Open may have been taken, so the new head has its id.
+            yield replace(self, master=self.master.turned(self.options)).halted(self.fleet.faulted(taken))
             return None
-        return self.pushed()[1]
+        return (yield from self.lost(what.backup if isinstance(what, Holding) else None, taken, goes_on))
 
     # Pushes.
 
     def homes(self, segment):
         """The backups of a segment's replicas."""
-        options = self.options
-        return [(segment * options.step + replica) % options.backups for replica in range(options.replicas)]
+        return self.master.homes(segment, self.options)
 
     def replica(self, backup, segment):
         """The master's replica of a segment on this backup, or None."""
         return self.fleet.replica(backup, self.master.number, segment)
 
     def next_op(self):
-        """What the next push hands to which backup: the act, and the replica then. None if nothing waits."""
+        """What the next push hands to which backup: the act, and the replica then. For a raise it is the head's id. None if
+        nothing waits."""
+        if self.master.failover:
+            return self.next_mend()
         log, opening = self.master.log(), self.master.segments[-1]
         head = log[-1]
-        held = [self.replica(backup, head.id) for backup in self.homes(head.id)]
-        if head is not opening or not self.master.is_rolling:
-            shortest = min(held, key=lambda replica: len(replica.text))
-            if len(shortest.text) < len(head.text):
-                return "extend", replace(shortest, text=head.text)
+        if (head is not opening or not self.master.is_rolling) and self.next_extend(head):
+            return self.next_extend(head)
         if not self.master.is_rolling:
             return None
-        for backup in self.homes(opening.id):
-            if not self.replica(backup, opening.id):
-                return "open", Holding(backup, self.master.number, opening.id, opening.text, True)
-        return next(("close", replace(replica, is_open=False)) for replica in held if replica.is_open)
+        return self.next_open(opening) or self.next_close(head)
+
+    def next_extend(self, head):
+        """The Extend of the replica of this head that lacks the most, or None."""
+        held = [replica for backup in self.homes(head.id) if (replica := self.replica(backup, head.id))]
+        lagging = [replica for replica in held if len(replica.text) < len(head.text)]
+        return ("extend", replace(min(lagging, key=lambda it: len(it.text)), text=head.text)) if lagging else None
+
+    def next_open(self, head):
+        """The Open of a replica of this head, with all that it has, or None."""
+        homes = (backup for backup in self.homes(head.id) if not self.replica(backup, head.id))
+        return next((("open", Holding(backup, self.master.number, head.id, head.text, True)) for backup in homes), None)
+
+    def next_close(self, head):
+        """The Close of a replica of this head, or None."""
+        held = (self.replica(backup, head.id) for backup in self.homes(head.id))
+        return next((("close", replace(replica, is_open=False)) for replica in held if replica.is_open), None)
+
+    def next_repair(self):
+        """The Seal of a lost replica of a closed segment of the log, or None."""
+        lost = ((it, backup) for it in self.master.log()[:-1] for backup in self.homes(it.id) if not self.replica(backup, it.id))
+        return next((("repair", Holding(backup, self.master.number, it.id, it.text, False)) for it, backup in lost), None)
+
+    def next_mend(self):
+        """What the next push of a failover does."""
+        master, head, part = self.master, self.master.log()[-1], self.master.failover.part
+        if part == "mends":
+            new = master.turned(self.options).segments[-1]
+            op = None if master.failover.is_first else self.next_extend(head) or self.next_open(head)
+            return op or self.next_open(new)
+        if part == "opens":
+            new = master.segments[-1]
+            return self.next_open(new) or ("raise", new.id)
+        return self.next_close(head) if part == "closes" else self.next_repair()
+
+    def is_turn(self):
+        """Whether the next push is the first Open of a failover's new head."""
+        failover = self.master.failover
+        return bool(failover) and failover.part == "mends" and self.next_op()[1].segment == self.master.next
 
     def pushed(self):
         """What a push prints, and the store after it."""
-        act, holding = self.next_op()
-        store = replace(self, fleet=self.fleet.took(holding))
-        old, new = self.master.log()[-1], self.master.segments[-1]
-        if self.master.is_rolling:
-            is_opened = all(store.replica(backup, new.id) for backup in self.homes(new.id))
-            is_closed = old is new or not any(store.replica(backup, old.id).is_open for backup in self.homes(old.id))
-            if is_opened and is_closed:
-                store = replace(store, master=self.master.rolled())
-        return f"{act} {holding.backup} {holding.segment}", store
+        act, what = self.next_op()
+        if act == "raise":
+            fleet = self.fleet.raised(self.master.number, what)
+            is_first = self.master.failover.is_first
+            master = replace(self.master, failover=None, is_rolling=False) if is_first else self.master.in_part("closes")
+            return f"raise {what}", replace(self, fleet=fleet, master=master)
+        store = replace(self, fleet=self.fleet.took(what))
+        if self.master.failover:
+            store = store.mended_by(self.is_turn())
+        elif self.master.is_rolling:
+            old, new = self.master.log()[-1], self.master.segments[-1]
+            if not store.next_open(new) and (old is new or not store.next_close(old)):
+                store = replace(store, master=self.master.rolled()).waited()
+        return f"{act} {what.backup} {what.segment}", store
+
+    def mended_by(self, is_turn):
+        """The store after an op of a failover, with the part that comes next."""
+        store = self
+        if is_turn:
+            store = replace(store, master=store.master.turned(store.options))
+        if store.master.failover.part == "closes" and not store.next_close(store.master.log()[-1]):
+            store = replace(store, master=store.master.rolled().in_part("repairs")).waited()
+        if store.master.failover.part == "repairs" and not store.next_repair():
+            store = replace(store, master=replace(store.master, failover=None))
+        return store
 
     def durable(self):
         """How many records each replica of the log has."""
+        if self.master.failover:
+            return self.master.failover.frozen
         head = self.master.log()[-1]
         length = min(len(self.replica(backup, head.id).text) for backup in self.homes(head.id))
         return next((record for record, end in head.units if end > length), self.master.records)
@@ -1170,7 +1346,7 @@ class Store:
     def recovered(self):
         yield REFUSED, 1, self
         try:
-            objects, safe = rebuilt(plan(self.fleet.holdings, self.last))
+            objects, safe = rebuilt(plan(self.fleet.holdings, self.last, self.fleet.least(self.last)))
         except Refusal as refusal:
             yield f"refused {refusal}\n", 0, self
             return

@@ -244,6 +244,11 @@ FORMS = {
     "log": r"log( \d+)+",
     "hex": r"([0-9a-f]{2})+|refused NotInLog \d+",
 }
+# What they may print besides, if a failover was open when the clients began: it may be open still.
+MENDING_FORMS = {
+    "push": r"repair \d+ \d+|raise \d+",
+    **dict.fromkeys(("beginroll", "compact", "begin", "copy", "seal", "free"), "refused Rolling"),
+}
 # Lines that a spent fleet may stop.
 TAKING = (*COMMANDS, "roll", "push", "clean", "seal", "free", "clients", "recover")
 
@@ -275,6 +280,8 @@ class Follower:
         self.records = None
         # The format of the masters that start from then on.
         self.format = options.format
+        # How many backups failed for the master, and whether a failover was open when the clients began.
+        self.failed, self.is_mending = 0, False
 
     def wrong(self, line, answer):
         """What is wrong with the answer to this line, or None."""
@@ -295,6 +302,7 @@ class Follower:
         self.is_up = True
         self.is_unlimited = self.store.fleet.left == NO_LIMIT
         self.greatest, self.records, self.format = self.store.greatest, self.store.master.records, self.store.format
+        self.failed, self.is_mending = len(self.store.master.failed), bool(self.store.master.failover)
         self.store = None
 
     def wrong_unseen(self, line, answer):
@@ -309,10 +317,13 @@ class Follower:
         elif name in COMMANDS:
             may_be = self.may_command(line, answer[0])
         elif name in FORMS:
-            may_be = len(answer) == 1 and re.fullmatch(FORMS[name], answer[0])
+            may_be = len(answer) == 1 and (re.fullmatch(FORMS[name], answer[0]) or self.may_mend(name, answer[0]))
         else:
             may_be = getattr(self, f"may_{name}")(line, answer)
         return None if may_be else f"{line} printed {answer}, which isn't possible behind clients"
+
+    def may_mend(self, name, row):
+        return self.is_mending and name in MENDING_FORMS and re.fullmatch(MENDING_FORMS[name], row)
 
     def stop(self, name):
         self.is_up, self.is_unlimited = False, True
@@ -380,14 +391,16 @@ class Follower:
 
     def may_hold(self, backup, master, segment):
         options = self.options
-        is_home = (backup - segment * options.step) % options.backups < options.replicas
+        # Each backup that failed made one behind it a home.
+        is_home = (backup - segment * options.step) % options.backups < options.replicas + self.failed
         return backup < options.backups and 1 <= master <= self.greatest and is_home
 
     def may_recover(self, _, answer):
         """A recovery that came to its end was judged by the witness; the new master's layout is known then."""
         if answer[-1].startswith("refused "):
             self.greatest += answer == ["refused Full"]
-            return re.fullmatch(r"refused (Full|NoHead|(HeadClosed|Missing) \d+)", answer[-1])
+            too_old = "HeadTooOld|" if self.failed else ""
+            return re.fullmatch(rf"refused (Full|NoHead|({too_old}HeadClosed|Missing) \d+)", answer[-1])
         found = self.witness.answered
         down = Store(self.options, Fleet(), None, greatest=self.greatest, format=self.format)
         store = end_of(down.adopted(found.objects(), found.safe))

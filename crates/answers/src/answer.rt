@@ -64,6 +64,10 @@ pub enum Answer {
     Opened(u64, u64),
     /// The backup and the segment of a push that closed a replica.
     Closed(u64, u64),
+    /// The head to which a push raised the registry.
+    Raised(u64),
+    /// The backup and the segment of a push that sealed a lost replica anew.
+    Repaired(u64, u64),
     /// The survivors of the pass that began.
     Begun(Survivors),
     /// An object that is live was copied to a survivor.
@@ -130,6 +134,8 @@ pub fn write_answer<W: Write>(writer: &mut W, answer: &Answer) -> io::Result<()>
         Answer::Extended(backup, segment) => write_op(writer, b"extend ", *backup, *segment),
         Answer::Opened(backup, segment) => write_op(writer, b"open ", *backup, *segment),
         Answer::Closed(backup, segment) => write_op(writer, b"close ", *backup, *segment),
+        Answer::Raised(id) => write_number(writer, b"raise ", *id, b'\n'),
+        Answer::Repaired(backup, segment) => write_op(writer, b"repair ", *backup, *segment),
         Answer::Begun(survivors) => write_begun(writer, *survivors),
         Answer::Moved => writer.write_all(b"moved\n"),
         Answer::Carried => writer.write_all(b"carried\n"),

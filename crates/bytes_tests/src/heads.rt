@@ -32,7 +32,7 @@ fn is_settled(head: &mut Head, object: &[u8]) -> bool {
 #[test]
 fn a_settled_head_has_no_units(rt: HostRuntime) -> Result<(), Fail> {
     let object = bytes_of(rt.alloc(), &[OBJECT]).ok_or("no memory")?;
-    let mut head = Head::begin(rt.alloc(), 1, 1, 1, SafeVersion::first(), 0)?;
+    let mut head = Head::begin(rt.alloc(), 1, 1, 1, 1, SafeVersion::first(), 0)?;
     head.open();
     assert!(rt; is_settled(&mut head, object.as_slice()));
     Ok(())

@@ -11,8 +11,8 @@ pub mod Reading
 pub mod Ends
 pub mod Leaving
 pub mod RoomLaws
-pub mod SealOrder
 pub mod Rooms
 pub mod Batches
 pub mod Copying
 pub mod Steps
+pub mod Lacking

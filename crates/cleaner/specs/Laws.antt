@@ -1,6 +1,6 @@
 -- What is true of a pass as it goes on.
 use Rattle.std.specs.Prelude.{◌≡◌, ℕ, zero, suc, ◌+◌, ◌<◌, ◌≤◌, ◌↔◌, ◌==◌, if◌then◌else◌, true}
-use Rattle.std.specs.Prelude.{List, [], ◌∷◌, ◌++◌, length, drop, Option, Some}
+use Rattle.std.specs.Prelude.{List, [], ◌∷◌, ◌++◌, length, drop, Option, Some, None, IsSome}
 use Rattle.std.specs.List.{AllByRecursion}
 use Rattle.entry.specs.declared.entry.Entry.{Entry}
 use Rattle.entry.specs.Bag.{IsAmong}
@@ -9,16 +9,16 @@ use Rattle.segment.specs.Bytes.{standing_at}
 use Rattle.places.specs.declared.place.Place.{Place}
 use Rattle.places.specs.Map.{Places}
 use Rattle.images.specs.Image.{Image}
-use Rattle.images.specs.Sorted.{IsWhole, segment_of}
+use Rattle.images.specs.Sorted.{IsWhole, image_of, segment_of, replicas_of, changed}
+use Rattle.images.specs.Steps.{more_replicas}
 use Rattle.compactor.specs.Kept.{kept}
 use Rattle.cleaner.specs.declared.pass.Pass.{Pass}
 use Rattle.cleaner.specs.declared.pass.Copied.{Copied}
-use Rattle.cleaner.specs.declared.survivors.Sealed.{Sealed}
 use Rattle.cleaner.specs.Filling.{survivors_for, total, AreSome}
 use Rattle.cleaner.specs.KeptLengths.{kept_lengths, survivors_over, segment_lengths, HasRoomsIn}
 use Rattle.cleaner.specs.Passes.{images_in, ids_in, survivor_ids, places_from, places_of, rest_of, is_at_end}
 use Rattle.cleaner.specs.Passes.{IsCursorAt, IsPass, CopiesOne}
-use Rattle.cleaner.specs.Seals.{sealed_one, sealed_at, sealed_of, IsSealed}
+use Rattle.cleaner.specs.Seals.{first_lacking}
 
 -- ---- the places of a pass
 
@@ -142,22 +142,27 @@ RoomsStay = (segment : ℕ) (ids again : List ℕ) (p : Pass) (images after : Li
 
 -- ---- seals
 
--- One seal more is still right, if one is left.
-abbrev pub SealStaysWithin : Type 0
-SealStaysWithin = (replicas count : ℕ) (z : Sealed) → IsSealed replicas count z → z.survivors < count
-    → IsSealed replicas count (sealed_one replicas z)
+-- The first that lacks a replica is one of these segments, and this is how many it has.
+abbrev pub LackingIsOne : Type 0
+LackingIsOne = (replicas : ℕ) (images : List Image) (ids : List ℕ) (s n : ℕ)
+    → first_lacking replicas images ids ≡ Some (s, n)
+    → IsAmong s ids × (n ≡ replicas_of images s) × (n < replicas)
 
--- All survivors are sealed whole exactly if each has all its replicas.
-abbrev pub SealedIsAll : Type 0
-SealedIsAll = (replicas count : ℕ) (z : Sealed) → IsSealed replicas count z
-    → (z.survivors ≡ count) ↔ ((i : ℕ) → i < count → sealed_at replicas z i ≡ replicas)
+-- There is none exactly if each of them has as many.
+abbrev pub NoneIsLacking : Type 0
+NoneIsLacking = (replicas : ℕ) (images : List Image) (ids : List ℕ)
+    → (first_lacking replicas images ids ≡ None)
+    ↔ ((s : ℕ) → IsAmong s ids → replicas ≤ replicas_of images s)
 
--- The survivor that is sealed next has as many replicas as say which one is next.
-abbrev pub SealIsNext : Type 0
-SealIsNext = (replicas first : ℕ) (z : Sealed) → sealed_of replicas z first (first + z.survivors) ≡ z.replicas
-
--- One seal more is one replica more of that survivor, and of no other.
+-- A segment that has an image gets one replica more, and no other does.
 abbrev pub SealAddsOne : Type 0
-SealAddsOne = (replicas first s : ℕ) (z : Sealed) → first ≤ s
-    → sealed_of replicas (sealed_one replicas z) first s
-    ≡ (if s == first + z.survivors then suc z.replicas else sealed_of replicas z first s)
+SealAddsOne = (images : List Image) (s other : ℕ) → IsSome (image_of images s)
+    → replicas_of (changed images s more_replicas) other
+    ≡ (if other == s then suc (replicas_of images s) else replicas_of images other)
+
+-- A step of a pass leaves each segment the replicas that it has.
+abbrev pub CopyKeepsReplicas : Type 0
+CopyKeepsReplicas = (segment : ℕ) (ids : List ℕ) (p q : Pass) (images images_after : List Image)
+    (held held_after : Places) (copied : Copied)
+    → CopiesOne segment ids p images held copied q images_after held_after
+    → (s : ℕ) → replicas_of images_after s ≡ replicas_of images s

@@ -1,6 +1,6 @@
 -- A pass over victims: the places that it has before it, and what it does at one of them.
-use Rattle.std.specs.Prelude.{◌≡◌, ℕ, ◌+◌, ◌^◌, ◌≤◌, ◌<◌, ◌==◌, Bool, true, false, ◌&&◌, if◌then◌else◌, nat_le, nat_lt}
-use Rattle.std.specs.Prelude.{List, [], ◌∷◌, ◌++◌, length, map, drop, filter, Option, Some, None, IsSome, unwrap_or}
+use Rattle.std.specs.Prelude.{◌≡◌, ℕ, ◌+◌, ◌^◌, ◌≤◌, ◌<◌, ◌==◌, Bool, true, false, ◌&&◌, if◌then◌else◌, nat_le}
+use Rattle.std.specs.Prelude.{List, [], ◌∷◌, ◌++◌, length, map, drop, filter, Option, Some, None, IsSome, is_none, unwrap_or}
 use Rattle.std.specs.List.{AllByRecursion, range_with_len}
 use Rattle.std.specs.Option.{option_to_list}
 use Rattle.entry.specs.declared.entry.Entry.{Entry}
@@ -26,6 +26,7 @@ use Rattle.cleaner.specs.declared.pass.Pass.{Pass}
 use Rattle.cleaner.specs.declared.pass.Copied.{Copied}
 use Rattle.cleaner.specs.declared.pass.Copied.TheVariants.{Moved, Carried, Dropped}
 use Rattle.cleaner.specs.Filling.{filled_one}
+use Rattle.cleaner.specs.Seals.{first_lacking}
 
 -- ---- images
 
@@ -83,15 +84,14 @@ rest_of images p = places_on images (drop p.cursor.victim p.victims) p.cursor.at
 abbrev pub is_at_end : Pass → Bool
 is_at_end p = p.cursor.victim == length p.victims
 
--- nothing is left to copy, and each survivor is sealed whole
-abbrev pub is_ready : Pass → Bool
-is_ready p = is_at_end p && (p.sealed.survivors == p.survivors.count)
+-- nothing is left to copy, and each survivor has all its replicas
+abbrev pub is_ready : ℕ → List Image → Pass → Bool
+is_ready replicas images p = is_at_end p && is_none (first_lacking replicas images (survivor_ids p.survivors))
 
 -- the survivor that is sealed next, and which of its replicas; none before all is copied, nor once all is sealed
-abbrev pub next_seal : Pass → Option (ℕ × ℕ)
-next_seal p =
-    if is_at_end p && nat_lt p.sealed.survivors p.survivors.count
-    then Some (p.survivors.first + p.sealed.survivors, p.sealed.replicas) else None
+abbrev pub next_seal : ℕ → List Image → Pass → Option (ℕ × ℕ)
+next_seal replicas images p =
+    if is_at_end p then first_lacking replicas images (survivor_ids p.survivors) else None
 
 -- which survivor is filled, and how many bytes it has
 abbrev pub level_at : Survivors → ℕ → List Image → Level

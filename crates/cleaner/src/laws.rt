@@ -4,7 +4,7 @@ ghost use Rattle.cleaner.specs.Laws.{RestsAgree, CursorsAgree, PassesAgree, EndH
 ghost use Rattle.cleaner.specs.Laws.{FewerFillNoMore, OneIfAllFit, MoreFillNoFewer, SegmentFillsOneMore, HundredsFill};
 ghost use Rattle.cleaner.specs.Laws.{LengthsOfSegment, SegmentFits, BeginHasRoomsIn, CopyLeavesRooms, CopyKeepsIds};
 ghost use Rattle.cleaner.specs.Laws.{SurvivorsDoNotGrow, RoomsStay};
-ghost use Rattle.cleaner.specs.Laws.{SealStaysWithin, SealedIsAll, SealIsNext, SealAddsOne};
+ghost use Rattle.cleaner.specs.Laws.{LackingIsOne, NoneIsLacking, SealAddsOne, CopyKeepsReplicas};
 
 /// The places that a pass has before it: whose they are, when there is none, and which images they depend on.
 pub fn rests_agree()
@@ -36,10 +36,10 @@ pub fn rest_fits()
     ensures stay { RoomsStay }
 {}
 
-/// Seals go by survivor, and then by replica.
+/// Which segment lacks replicas first, and what a seal and a copy make of them.
 pub fn seals_in_order()
-    ensures within { SealStaysWithin }
-    ensures all { SealedIsAll }
-    ensures next { SealIsNext }
+    ensures first { LackingIsOne }
+    ensures none { NoneIsLacking }
     ensures one { SealAddsOne }
+    ensures copy { CopyKeepsReplicas }
 {}

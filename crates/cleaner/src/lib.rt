@@ -3,8 +3,8 @@
 //! The kept entries fill the survivors in order (`specs/Filling.antt`). How many survivors a pass has is counted once,
 //! when it begins (`fit`); they are enough whatever dies before it is copied (`rest_fits`). A pass goes on by one object
 //! or tombstone a step. `specs/Passes.antt` says which places it has before it, and what a step does to the images and
-//! the index. Then its survivors are sealed, one after the other (`specs/Seals.antt`). Why a pass is refused is
-//! `PassFault`.
+//! the index. Then its survivors are sealed, one after the other (*next_seal*), until each has all its replicas
+//! (`specs/Seals.antt`). Why a pass is refused is `PassFault`.
 #![tactic(auto)]
 
 mod ahead;
@@ -25,4 +25,4 @@ pub use fitting::{MAX_SURVIVORS, MAX_VICTIMS, PassSize, fit};
 pub use laws::{rest_fits, rests_agree, seals_in_order, survivors_are_counted};
 pub use level::Level;
 pub use pass::{Copied, Cursor, Pass};
-pub use survivors::{Sealed, Survivors};
+pub use survivors::Survivors;

@@ -7,11 +7,10 @@ ghost use Rattle.images.specs.Sorted.{segment_of};
 ghost use Rattle.cleaner.specs.Passes.{images_in, ids_in, AreVictims, AreIds, places_of, rest_of, is_at_end, is_ready};
 ghost use Rattle.cleaner.specs.Passes.{next_seal, seen_len, IsCursorAt, IsPass, CopiesOne};
 ghost use Rattle.cleaner.specs.KeptLengths.{HasRoomsIn};
-ghost use Rattle.cleaner.specs.Seals.{none_sealed, sealed_one, IsSealed};
 ghost use Rattle.cleaner.specs.Walks.{IsPositionBetween, GoesTo};
 
 use crate::ahead::Ahead;
-use crate::survivors::{Sealed, Survivors};
+use crate::survivors::{Survivors, first_lacking};
 use crate::treating::treat;
 use crate::walking::{WalkPosition, next_position};
 use entry::Row;
@@ -51,8 +50,6 @@ pub struct Pass {
     pub survivors: Survivors,
     /// How many survivors are full: the place of the one that is filled.
     pub filling: usize,
-    /// How far the survivors are sealed.
-    pub sealed: Sealed,
     /// Whether the roll that is under way is the pass's commit.
     pub is_committing: bool,
 }
@@ -115,7 +112,6 @@ impl Pass {
           cursor = result.cursor;
           survivors = survivors;
           filling = 0;
-          sealed = none_sealed;
           is_committing = false;
         } }
         ensures rest { let images = images_in images.now.images in rest_of images result ≡ places_of images victims }
@@ -135,10 +131,6 @@ impl Pass {
             cursor,
             survivors,
             filling: 0,
-            sealed: Sealed {
-                survivors: 0,
-                replicas: 0,
-            },
             is_committing: false,
         }
     }
@@ -150,38 +142,25 @@ impl Pass {
         self.cursor.victim == self.victims.as_slice().len()
     }
 
-    /// Whether the pass may be committed: each entry was treated, and each survivor is sealed whole.
-    pub fn is_ready(&self) -> bool
-        ensures { result ≡ is_ready self.now }
+    /// Whether the pass may be committed: each entry was treated, and each survivor has that many replicas.
+    pub fn is_ready(&self, replicas: usize, images: &Images) -> bool
+        requires { AreIds self.now.survivors }
+        ensures { result ≡ is_ready replicas images.now.images self.now }
     {
-        self.is_at_end() && self.sealed.survivors == self.survivors.count
+        self.is_at_end() && first_lacking(self.survivors, replicas, images).is_none()
     }
 
     /// The survivor that is sealed next, and which of its replicas: survivor by survivor, once each entry was treated.
-    /// `None` before, and once all are sealed.
-    pub fn next_seal(&self) -> Option<(u64, usize)>
+    /// `None` before, and once each has that many replicas.
+    pub fn next_seal(&self, replicas: usize, images: &Images) -> Option<(u64, usize)>
         requires { AreIds self.now.survivors }
-        ensures { result ≡ next_seal self.now }
+        ensures { result ≡ next_seal replicas images.now.images self.now }
     {
-        if self.is_at_end() && self.sealed.survivors < self.survivors.count {
-            Some((
-                self.survivors.id(self.sealed.survivors),
-                self.sealed.replicas,
-            ))
+        if self.is_at_end() {
+            first_lacking(self.survivors, replicas, images)
         } else {
             None
         }
-    }
-
-    /// The replica that `next_seal` names is sealed. Each survivor has so many replicas.
-    pub fn seal_taken(&mut self, replicas: usize)
-        requires ids { AreIds self.old.survivors }
-        requires sealed { IsSealed replicas self.old.survivors.count self.old.sealed }
-        requires more { self.old.sealed.survivors < self.old.survivors.count }
-        ensures next { self.new ≡ record self.old { sealed = sealed_one replicas self.old.sealed } }
-        ensures sealed { IsSealed replicas self.new.survivors.count self.new.sealed }
-    {
-        self.sealed = self.sealed.with_one(replicas);
     }
 
     /// Treats the next object or tombstone. If it is kept, it is copied to the end of the survivor that is filled, or

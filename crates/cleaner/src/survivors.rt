@@ -1,9 +1,11 @@
-//! The survivors of a pass, and how far they are sealed.
+//! The survivors of a pass, and which of them is sealed next.
 
 ghost use Rattle.std.specs.Prelude.{◌≡◌, ◌+◌, ◌<◌};
 ghost use Rattle.compactor.specs.Kept.{has_id};
 ghost use Rattle.cleaner.specs.Passes.{survivor_ids, AreIds};
-ghost use Rattle.cleaner.specs.Seals.{sealed_one, IsSealed};
+ghost use Rattle.cleaner.specs.Seals.{first_lacking};
+
+use images::Images;
 
 /// The segments to which a pass copies. Their numbers follow one another.
 #[derive(Clone, Copy)]
@@ -33,32 +35,25 @@ impl Survivors {
     }
 }
 
-/// How far the survivors of a pass are sealed.
-#[derive(Clone, Copy)]
-pub struct Sealed {
-    /// How many survivors are sealed whole.
-    pub survivors: usize,
-    /// How many replicas of the next one are sealed.
-    pub replicas: usize,
-}
-
-impl Sealed {
-    /// With one replica more, of so many that each survivor has.
-    pub(crate) fn with_one(self, replicas: usize) -> Sealed
-        requires more { self.replicas < replicas }
-        requires few { self.survivors < usize.MAX }
-        ensures { result ≡ sealed_one replicas self }
-    {
-        if self.replicas + 1 == replicas {
-            Sealed {
-                survivors: self.survivors + 1,
-                replicas: 0,
-            }
-        } else {
-            Sealed {
-                survivors: self.survivors,
-                replicas: self.replicas + 1,
-            }
-        }
+/// The first of the survivors that has fewer replicas than that many: its number, and how many it has.
+pub(crate) fn first_lacking(
+    survivors: Survivors,
+    replicas: usize,
+    images: &Images,
+) -> Option<(u64, usize)>
+    requires { AreIds survivors }
+    ensures { result ≡ first_lacking replicas images.now.images (survivor_ids survivors) }
+{
+    if survivors.count == 0 {
+        return None;
     }
+    let sealed = images.replicas(survivors.first);
+    if sealed < replicas {
+        return Some((survivors.first, sealed));
+    }
+    let others = Survivors {
+        first: survivors.first + 1,
+        count: survivors.count - 1,
+    };
+    first_lacking(others, replicas, images)
 }

@@ -16,7 +16,8 @@ pub(crate) const AFTER_HELP: &str = "Lines of a script:
   del T K      Deletes the object of a key: 'ok VERSION', or 'none'
   roll         Opens the next segment of the log: 'head ID'
   beginroll    Begins that: 'opening ID'
-  push         Hands one piece of the log to one backup: 'extend B ID', 'open B ID' or 'close B ID'
+  push         Hands one piece of the log to one backup: 'extend B ID', 'open B ID', 'close B ID' or 'repair B ID'; or,
+               once a backup has failed, makes older heads useless: 'raise ID'
   compact ID   Drops what segment ID doesn't keep from the master's memory: 'compacted ID LENGTH'
   clean ID ..  Copies what is kept of up to 32 segments to up to 4 new ones, and frees them: 'cleaned ID .. HEAD'
   begin ID ..  Begins that: 'begun ID ..'. Then 'copy' treats one entry, 'seal' and 'free' one replica each

@@ -1,11 +1,14 @@
+pub mod Outlines
 pub mod MasterSteps
 pub mod PassSteps
 pub mod AnyStep
 pub mod Ops
+pub mod Losses
 pub mod Heads
 pub mod Pushes
 pub mod Tries
-pub mod Parts
-pub mod Listings
-pub mod Cleaned
 pub mod LeastHeads
+pub mod Turns
+pub mod Digests
+pub mod Calm
+pub mod Cleaned

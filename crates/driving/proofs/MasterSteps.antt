@@ -1,38 +1,36 @@
 -- What a step adds to a master.
-use Rattle.std.proofs.Common.{◌≡◌, ◌<◌, ◌≤◌, ℕ, suc, Bool, true, false, [], ◌++◌, length, refl, sym, ap, subst, inl}
+use Rattle.std.proofs.Common.{◌≡◌, ◌<◌, ◌≤◌, ℕ, Bool, true, false, List, [], ◌++◌, length, refl, sym, ap, subst, inl}
 use Rattle.std.proofs.Common.{inr, ◌∙◌, arith}
 use Rattle.std.proofs.lemmas.Bool.{and_parts}
 use Rattle.std.proofs.lemmas.List.{append-nil}
-use Rattle.std.specs.Option.{option_map_or}
-use Rattle.std.specs.Prelude.{Option, Some, None, Result, Ok, Err, is_none, ◌==◌, if◌then◌else◌, unwrap_or}
+use Rattle.std.specs.Prelude.{Option, Some, None, Result, Ok, Err, is_none, is_some, ◌&&◌, if◌then◌else◌}
+use Rattle.std.specs.Prelude.{unwrap_or, ◌⊎◌}
 use Rattle.cleaner.specs.declared.fault.PassFault.TheVariants.{IsHead, NotInLog, PassOpen}
-use Rattle.cleaner.specs.declared.pass.Pass.{Pass}
 use Rattle.replica.specs.Picture.{FleetState}
 use Rattle.versioned_map.specs.declared.command.Command.{Command}
+use Rattle.versioned_map.specs.declared.command.Record.{Record}
 use Rattle.versioned_map.specs.declared.command.Reply.{Reply}
-use Rattle.log_head.specs.declared.head.Roll.{Roll}
-use Rattle.log_head.specs.declared.next.Next.{Next}
-use Rattle.log_head.specs.declared.next.Next.TheVariants as next
 use Rattle.log_head.specs.Head.{is_open}
-use Rattle.log_head.specs.Steps.{old_image, with_closed_replica, with_new_replica}
 use Rattle.failover_model.specs.Data.{FailData, durable_of}
 use Rattle.failover_model.specs.Shown.{Op}
+use Rattle.master_state.specs.declared.config.Config.{Config}
 use Rattle.master_state.specs.declared.step.Refusal.{Refusal}
 use Rattle.master_state.specs.declared.step.Refusal.TheVariants as refusal
 use Rattle.master_state.specs.declared.step.Step.TheVariants.{Apply, Push, BeginRoll, Compact}
 use Rattle.master_state.specs.declared.step.StepAnswer.{StepAnswer}
 use Rattle.master_state.specs.declared.step.StepAnswer.TheVariants.{Applied}
-use Rattle.master_state.specs.Causes.{is_pushed, command_refusal, early_refusal, late_refusal}
+use Rattle.master_state.specs.Budget.{is_working}
+use Rattle.master_state.specs.Causes.{is_done, is_pushed, command_refusal, early_refusal, late_refusal, step_refusal}
 use Rattle.master_state.specs.Data.{MasterData}
 use Rattle.master_state.specs.Log.{log_of}
-use Rattle.master_state.specs.Images.{with_closed}
-use Rattle.master_state.specs.Steps.{closed_data, ledger_after, pass_ended, roll_ended, taken_data}
 use Rattle.master.specs.Keeps.{Keeps}
-use Rattle.master.specs.Steps.{Steps, Declines, FailsTake, IsPushOp}
+use Rattle.master.specs.Steps.{Accepts, Steps, Declines, FailsTake, IsPushOp}
 use Rattle.master.specs.Valid.{IsValid}
 use Rattle.master.specs.World.{World}
+use Rattle.driving.specs.Rolls.{is_lost}
 use Rattle.driving.specs.Served.{LivesOn, IsSpent, record_of, is_of_push}
 pub use Rattle.driving.specs.GoesOn.{goes_nowhere}
+use Rattle.driving.proofs.Outlines.{fixed, mended_fixed, pushed_fixed, turned_fixed}
 
 -- ---- a push
 
@@ -40,55 +38,31 @@ pub refused_history : (IsOp : Op → Type 0) (old new : World) (r : Refusal) →
     → new.knows.history ≡ old.knows.history
 refused_history IsOp old new refusal.NoMemory h = ap (λ (w : World). w.knows.history) h
 refused_history IsOp old new refusal.Spent h = ap (λ (w : World). w.knows.history) h.1
-refused_history IsOp old new refusal.Halted h = ap (λ (d : MasterData). d.history) h.0
+refused_history IsOp old new refusal.Halted h = ap (λ (d : MasterData). d.history) h.1
+refused_history IsOp old new (refusal.Lost b) h = ap (λ (d : MasterData). d.history) h.1
 refused_history IsOp old new r h = absurd h
 
 -- the take of an op fails as spent at a fleet that is
 pub spent_take : (IsOp : Op → Type 0) (old new : World) → FailsTake IsOp old refusal.Spent new → IsSpent new.fleet
 spent_take IsOp old new h = subst (λ (w : World). IsSpent w.fleet) (sym h.1) h.0
 
--- what a push leaves of the history
-ended_history : (pass : Option Pass) (d : MasterData) → (roll_ended pass d).history ≡ d.history
-ended_history None d = refl
-ended_history (Some p) d = go p.is_committing
-  where
-    go : (commits : Bool) → (if commits then pass_ended p d else d).history ≡ d.history
-    go true = refl
-    go false = refl
+abbrev history_in : Config × List Record × List ℕ → List Record
+history_in f = f.1
 
-closed_history : (d : MasterData) (r : Roll) → (closed_data d r).history ≡ d.history
-closed_history d r = go (record d {
-  head = with_closed_replica d.head r;
-  closed = with_closed d.closed d.head.id (old_image d.head r);
-}) refl (suc r.closed == d.head.replicas)
-  where
-    go : (e : MasterData) → e.history ≡ d.history → (last : Bool)
-        → (if last then roll_ended d.pass e else e).history ≡ d.history
-    go e same true = ended_history d.pass e ∙ same
-    go e same false = same
-
-taken_history : (d : MasterData) (push : Next) → (taken_data d push).history ≡ d.history
-taken_history d (next.OpenFirst j) = refl
-taken_history d (next.Extend j) = refl
-taken_history d (next.OpenNew j) = go d.head.roll
-  where
-    go : (o : Option Roll) → (option_map_or (λ (r : Roll). record d { head = with_new_replica d.head r }) o d).history
-        ≡ d.history
-    go None = refl
-    go (Some r) = refl
-taken_history d (next.CloseOld j) = go d.head.roll
-  where
-    go : (o : Option Roll) → (option_map_or (closed_data d) o d).history ≡ d.history
-    go None = refl
-    go (Some r) = closed_history d r
+-- a push that is accepted leaves the configuration, the history, and which backups failed
+pub accepted_fixed : (old new : World) (a : StepAnswer) → Accepts old Push a new
+    → fixed new.knows ≡ fixed old.knows
+accepted_fixed old new a (inl h) = ap fixed h.rest ∙ pushed_fixed old.knows h.push
+accepted_fixed old new a (inr h) = ap fixed h.rest ∙ mended_fixed old.knows h.mend
 
 pub pushed_history : (old new : World) (r : Result StepAnswer Refusal) → Steps old Push r new
     → new.knows.history ≡ old.knows.history
-pushed_history old new (Ok a) h =
-    ap (λ (d : MasterData). d.history) h.rest
-    ∙ taken_history (record old.knows { ledger = ledger_after old.knows h.push }) h.push
+pushed_history old new (Ok a) h = ap history_in (accepted_fixed old new a h)
 pushed_history old new (Err r) (inl h) = ap (λ (w : World). w.knows.history) h.1
-pushed_history old new (Err r) (inr h) = refused_history (IsPushOp old) old new r h.1
+pushed_history old new (Err r) (inr (test, inl h)) = ap (λ (w : World). w.knows.history) h.3
+pushed_history old new (Err r) (inr (test, inr (inl h))) =
+    ap (λ (d : MasterData). d.history) h.2 ∙ ap history_in (turned_fixed old.knows)
+pushed_history old new (Err r) (inr (test, inr (inr h))) = refused_history (IsPushOp old) old new r h
 
 pub push_goes_on : (from : MasterData) (old new : World) (r : Result StepAnswer Refusal) → LivesOn from old.knows []
     → Steps old Push r new
@@ -103,67 +77,78 @@ push_goes_on from old new r before push kept =
       history = pushed_history old new r push ∙ before.history;
     }
 
--- why it was refused, if something waited
-pub refused_push : (old new : World) (r : Refusal) → Declines old Push r new → (is_pushed old.knows.head ≡ true → ⊥)
-    → is_of_push r ≡ true
-refused_push old new r (inl h) waits = tested old.knows.is_halted (is_pushed old.knows.head) waits h.0
-  where
-    tested : (halted pushed : Bool) → (pushed ≡ true → ⊥)
-        → (if halted then Some refusal.Halted else if pushed then Some refusal.Nothing else None) ≡ Some r
-        → is_of_push r ≡ true
-    tested true pushed waits e = ap (λ (x : Option Refusal). is_of_push (unwrap_or x r)) (sym e)
-    tested false true waits e = absurd (waits refl)
-    tested false false waits e = absurd (cc)
-refused_push old new refusal.NoMemory (inr h) waits = refl
-refused_push old new refusal.Spent (inr h) waits = refl
-refused_push old new refusal.Halted (inr h) waits = refl
-refused_push old new r (inr h) waits = absurd h.1
+-- what the test of a push refuses as
+pub push_tested : (halted done : Bool) (r : Refusal)
+    → (if halted then Some refusal.Halted else if done then Some refusal.Nothing else None) ≡ Some r
+    → (r ≡ refusal.Halted) ⊎ ((r ≡ refusal.Nothing) × (done ≡ true))
+push_tested true done r e = inl (sym (ap (λ (x : Option Refusal). unwrap_or x r) e))
+push_tested false true r e = inr (sym (ap (λ (x : Option Refusal). unwrap_or x r) e), refl)
+push_tested false false r e = absurd (cc)
+
+-- why it was refused for good, if something waited
+pub refused_push : (old new : World) (r : Refusal) → Declines old Push r new → is_lost r ≡ false
+    → (is_done old.knows ≡ true → ⊥) → is_of_push r ≡ true
+refused_push old new r (inl h) kept waits =
+    elim (push_tested old.knows.is_halted (is_done old.knows) r h.0) as (λ _. is_of_push r ≡ true) [
+      | inl is ↦ ap is_of_push is
+      | inr both ↦ absurd (waits both.1)
+    ]
+refused_push old new r (inr (test, inl h)) kept waits = ap is_of_push h.2
+refused_push old new r (inr (test, inr (inl h))) kept waits = ap is_of_push h.1
+refused_push old new refusal.NoMemory (inr (test, inr (inr h))) kept waits = refl
+refused_push old new refusal.Spent (inr (test, inr (inr h))) kept waits = refl
+refused_push old new refusal.Halted (inr (test, inr (inr h))) kept waits = refl
+refused_push old new (refusal.Lost b) (inr (test, inr (inr h))) kept waits = absurd (cc)
+refused_push old new r (inr (test, inr (inr h))) kept waits = absurd h
 
 -- something waits as long as a record isn't durable
 pub record_waits : (old now : MasterData) (f : FleetState) (place : ℕ) → IsValid now f → LivesOn old now []
     → place < length old.history
-    → durable_of (log_of now) ≤ place → is_pushed now.head ≡ true → ⊥
-record_waits old now f place valid on within short pushed =
-    let all = valid.pushed pushed in
+    → durable_of (log_of now) ≤ place → is_done now ≡ true → ⊥
+record_waits old now f place valid on within short done =
+    let all = valid.pushed done in
     let same = ap length (on.history ∙ append-nil old.history) in
     absurd (omega arith)
 
 -- a push is refused as Nothing where nothing waits
 pub nothing_waits : (old new : World) → Declines old Push refusal.Nothing new
-    → (new ≡ old) × (is_pushed new.knows.head ≡ true)
+    → (new ≡ old) × (is_done new.knows ≡ true)
 nothing_waits old new (inl h) =
-    let pushed = tested old.knows.is_halted (is_pushed old.knows.head) h.0 in
-    (h.1, ap (λ (w : World). is_pushed w.knows.head) h.1 ∙ pushed)
+    (h.1, ap (λ (w : World). is_done w.knows) h.1 ∙ tested (push_tested old.knows.is_halted (is_done old.knows) _ h.0))
   where
-    tested : (halted pushed : Bool)
-        → (if halted then Some refusal.Halted else if pushed then Some refusal.Nothing else None)
-        ≡ Some refusal.Nothing → pushed ≡ true
-    tested true pushed e = absurd (cc)
-    tested false true e = refl
-    tested false false e = absurd (cc)
-nothing_waits old new (inr h) = absurd h.1
+    tested : (refusal.Nothing ≡ refusal.Halted) ⊎ ((refusal.Nothing ≡ refusal.Nothing) × (is_done old.knows ≡ true))
+        → is_done old.knows ≡ true
+    tested (inl is) = absurd (cc)
+    tested (inr both) = both.1
+nothing_waits old new (inr (test, inl h)) = let never = h.2 in absurd (cc)
+nothing_waits old new (inr (test, inr (inl h))) = let never = h.1 in absurd (cc)
+nothing_waits old new (inr (test, inr (inr h))) = absurd h
 
--- and nothing waits only where the head is open
+-- and nothing waits only where the head is open and no failover is
+pub done_works : (d : MasterData) → is_done d ≡ true → is_working d ≡ true
+done_works d done =
+    let both = and_parts (is_none d.failover) (is_pushed d.head) done in
+    let opened = (and_parts (is_open d.head) _ both.1).0 in
+    ap (λ (b : Bool). b && is_none d.failover) opened ∙ both.0
+
 pub open_push : (old new : World) (r : Refusal) → Declines old Push r new → r ≡ refusal.Nothing
-    → is_open new.knows.head ≡ true
+    → is_working new.knows ≡ true
 open_push old new r h is =
-    let done = nothing_waits old new (subst (λ (x : Refusal). Declines old Push x new) is h) in
-    (and_parts (is_open new.knows.head) _ done.1).0
+    done_works new.knows (nothing_waits old new (subst (λ (x : Refusal). Declines old Push x new) is h)).1
 
 -- a push is refused as spent by a fleet that is
 pub spent_push : (old new : World) (r : Refusal) → Declines old Push r new → r ≡ refusal.Spent → IsSpent new.fleet
 spent_push old new r h is = go (subst (λ (x : Refusal). Declines old Push x new) is h)
   where
-    tested : (halted pushed : Bool)
-        → (if halted then Some refusal.Halted else if pushed then Some refusal.Nothing else None) ≡ Some refusal.Spent
-        → ⊥
-    tested true pushed e = cc
-    tested false true e = cc
-    tested false false e = cc
+    tested : (refusal.Spent ≡ refusal.Halted) ⊎ ((refusal.Spent ≡ refusal.Nothing) × (is_done old.knows ≡ true)) → ⊥
+    tested (inl is) = cc
+    tested (inr both) = let never = both.0 in cc
 
     go : Declines old Push refusal.Spent new → IsSpent new.fleet
-    go (inl h) = absurd (tested old.knows.is_halted (is_pushed old.knows.head) h.0)
-    go (inr h) = spent_take (IsPushOp old) old new h.1
+    go (inl h) = absurd (tested (push_tested old.knows.is_halted (is_done old.knows) _ h.0))
+    go (inr (test, inl h)) = let never = h.2 in absurd (cc)
+    go (inr (test, inr (inl h))) = let never = h.1 in absurd (cc)
+    go (inr (test, inr (inr h))) = spent_take (IsPushOp old) old new h
 
 -- ---- a roll that begins
 
@@ -190,6 +175,28 @@ spent_begin old new r h is = go (subst (λ (x : Refusal). Declines old BeginRoll
     go (same, inl test) = tested _ _ _ _ test
     go (same, inr memory) = let none = memory.1 in cc
 
+-- ---- the test that comes before all others
+
+-- it refuses as Halted or as Rolling
+pub first_never : (r : Refusal) → (r ≡ refusal.Halted → ⊥) → (r ≡ refusal.Rolling → ⊥) → (d : MasterData)
+    (rest : Option Refusal) → (rest ≡ Some r → ⊥)
+    → (if is_some (step_refusal d) then step_refusal d else rest) ≡ Some r → ⊥
+first_never r halts rolls d rest others e = go d.is_halted (is_some d.failover) e
+  where
+    test : Bool → Bool → Option Refusal
+    test halted failing =
+        if halted then Some refusal.Halted else if failing then Some refusal.Rolling else None
+
+    go : (halted failing : Bool)
+        → (if is_some (test halted failing) then test halted failing else rest) ≡ Some r → ⊥
+    go true failing e = halts (sym (ap (λ (x : Option Refusal). unwrap_or x r) e))
+    go false true e = rolls (sym (ap (λ (x : Option Refusal). unwrap_or x r) e))
+    go false false e = others e
+
+pub first_unspent : (d : MasterData) (rest : Option Refusal) → (rest ≡ Some refusal.Spent → ⊥)
+    → (if is_some (step_refusal d) then step_refusal d else rest) ≡ Some refusal.Spent → ⊥
+first_unspent d rest others e = first_never refusal.Spent (λ h. cc) (λ h. cc) d rest others e
+
 -- ---- a compaction
 
 pub compacted_history : (old new : World) (id : ℕ) (r : Result StepAnswer Refusal) → Steps old (Compact id) r new
@@ -201,18 +208,16 @@ compacted_history old new id (Err r) h = ap (λ (w : World). w.knows.history) h.
 pub spent_compact : (old new : World) (id : ℕ) (r : Refusal) → Declines old (Compact id) r new → r ≡ refusal.Spent → ⊥
 spent_compact old new id r h is = go (subst (λ (x : Refusal). Declines old (Compact id) x new) is h)
   where
-    tested : (halted head listed victim : Bool)
-        → (if halted then Some refusal.Halted else if head then Some (refusal.Pass (IsHead id))
-        else if listed then Some (refusal.Pass (NotInLog id)) else if victim then Some (refusal.Pass PassOpen)
-        else None) ≡ Some refusal.Spent → ⊥
-    tested true head listed victim e = cc
-    tested false true listed victim e = cc
-    tested false false true victim e = cc
-    tested false false false true e = cc
-    tested false false false false e = cc
+    tested : (head listed victim : Bool)
+        → (if head then Some (refusal.Pass (IsHead id)) else if listed then Some (refusal.Pass (NotInLog id))
+        else if victim then Some (refusal.Pass PassOpen) else None) ≡ Some refusal.Spent → ⊥
+    tested true listed victim e = cc
+    tested false true victim e = cc
+    tested false false true e = cc
+    tested false false false e = cc
 
     go : Declines old (Compact id) refusal.Spent new → ⊥
-    go (same, inl test) = tested _ _ _ _ test
+    go (same, inl test) = first_unspent old.knows _ (tested _ _ _) test
     go (same, inr memory) = let none = memory.1 in cc
 
 -- ---- a command

@@ -1,25 +1,15 @@
--- What an op that was taken, or that failed, leaves of a fleet.
-use Rattle.std.proofs.Common.{◌≡◌, ◌<◌, ◌+◌, ◌-◌, ℕ, Bool, true, false, sym, ap, inl, inr, subst, ◌∙◌}
+-- What an op that was taken, or that failed, leaves of a fleet's counts.
+use Rattle.std.proofs.Common.{◌≡◌, ◌<◌, ◌≤◌, ◌+◌, ◌-◌, ℕ, Bool, true, false, sym, ap, inl, inr, ◌∙◌}
 use Rattle.std.proofs.Common.{arith}
 use Rattle.std.specs.Prelude.{Option, Some, None, if◌then◌else◌, nat_lt, unwrap_or}
 use Rattle.replica.specs.declared.op.TakeFault.TheVariants as take_fault
 use Rattle.replica.specs.Op.{OpValue}
 use Rattle.replica.specs.Picture.{Replica, FleetState}
+use Rattle.replica.specs.Registry.{RefusesRaise}
 use Rattle.replica.specs.Take.{Refuses, effect, taken, with_effect}
 use Rattle.log_model.specs.Ops.{op_of}
-use Rattle.failover_model.specs.Data.{FailData}
 use Rattle.failover_model.specs.Shown.{Op, On, Raise}
 use Rattle.failover_bytes.specs.Ops.{RefusesOp, TakesOp, log_op_for}
-use Rattle.master_state.specs.declared.step.StepAnswer.{StepAnswer}
-use Rattle.master_state.specs.declared.step.StepAnswer.TheVariants as answer
-use Rattle.master_state.specs.Data.{MasterData}
-use Rattle.master.specs.Passes.{IsFreeOp, IsSealOp}
-use Rattle.master.specs.Pushes.{IsNextOp, IsOpOn}
-use Rattle.master.specs.Steps.{IsPushOp}
-use Rattle.master.specs.World.{World}
-use Rattle.master.proofs.Keeping.{IsBeside, fault_beside, taken_beside}
-
--- ---- counts
 
 -- what an op leaves of the counts
 pub record IsCounted (old new : FleetState) : Type 0 where
@@ -65,57 +55,47 @@ fewer_to_take master old o new takes =
     let left = op_left master old o new takes in
     omega arith
 
--- ---- ops on replicas
+-- ---- a fault
 
--- the op is on a replica, and not on the registry
-abbrev pub IsOnReplica : Op → Type 0
-IsOnReplica (On b s act) = Unit {0}
-IsOnReplica (Raise id) = ⊥
+-- what a fault leaves of the counts
+pub record IsFaulted (old new : FleetState) : Type 0 where
+  pub backups : new.backups ≡ old.backups
+  pub end : new.end ≡ old.end
+  pub takes : old.takes ≤ new.takes
 
-named : (o : Op) (backup segment : ℕ) → IsOpOn o backup segment → IsOnReplica o
-named (On b s act) backup segment is = tt
-named (Raise id) backup segment is = is
-
-pub next_on_replica : (d : MasterData) (o : Op) (a : StepAnswer) (e : FailData) → IsNextOp d o a e → IsOnReplica o
-next_on_replica d o (answer.Opened b s) e is = named o b s is.1
-next_on_replica d o (answer.Extended b s) e is = named o b s is.1
-next_on_replica d o (answer.Closed b s) e is = named o b s is.1
-next_on_replica d o a e is = absurd is
-
-pub push_on_replica : (w : World) (o : Op) → IsPushOp w o → IsOnReplica o
-push_on_replica w o is = next_on_replica w.knows o is.0 is.1 is.2
-
-pub seal_on_replica : (d : MasterData) (o : Op) → IsSealOp d o → IsOnReplica o
-seal_on_replica d o is = subst IsOnReplica (sym is.is) tt
-
-pub free_on_replica : (d : MasterData) (o : Op) → IsFreeOp d o → IsOnReplica o
-free_on_replica d o is = subst IsOnReplica (sym is.is) tt
-
--- ---- an op on a replica leaves the rest
-
-pub op_beside : (master : ℕ) (old : FleetState) (o : Op) (new : FleetState) → IsOnReplica o
-    → TakesOp master old o new → IsBeside master old new
-op_beside master old (On b s act) new on takes =
-    taken_beside old b (op_of master (log_op_for master b s act)) new takes.1
-op_beside master old (Raise id) new on takes = absurd on
-
-pub failed_beside : (master : ℕ) (old : FleetState) (o : Op) (new : FleetState) → IsOnReplica o
-    → RefusesOp master old o take_fault.Fault new → IsBeside master old new
-failed_beside master old (On b s act) new on refuses =
-    fault_beside old b (op_of master (log_op_for master b s act)) new refuses
-failed_beside master old (Raise id) new on refuses = absurd on
+fault_same : (old mid new : FleetState) → IsCounted old mid → new.backups ≡ mid.backups → new.end ≡ mid.end
+    → new.takes ≡ mid.takes → IsFaulted old new
+fault_same old mid new counts backups end takes =
+    let more = counts.takes in
+    record { backups = backups ∙ counts.backups; end = end ∙ counts.end; takes = omega arith }
 
 fault_counts : (old : FleetState) (b : ℕ) (op : OpValue) (new : FleetState) → Refuses old b op take_fault.Fault new
-    → (new.backups ≡ old.backups) × (new.end ≡ old.end)
-fault_counts old b op new (inl same) = (ap (λ (f : FleetState). f.backups) same, ap (λ (f : FleetState). f.end) same)
+    → IsFaulted old new
+fault_counts old b op new (inl same) =
+    let takes = ap (λ (f : FleetState). f.takes) same in record {
+      backups = ap (λ (f : FleetState). f.backups) same;
+      end = ap (λ (f : FleetState). f.end) same;
+      takes = omega arith;
+    }
 fault_counts old b op new (inr took) =
-    let counts = taken_counts old b op took.0 took.1.1 in (
-      ap (λ (f : FleetState). f.backups) took.2 ∙ counts.backups,
-      ap (λ (f : FleetState). f.end) took.2 ∙ counts.end,
-    )
+    fault_same old took.0 new (taken_counts old b op took.0 took.1.1) (ap (λ (f : FleetState). f.backups) took.2)
+    (ap (λ (f : FleetState). f.end) took.2) (ap (λ (f : FleetState). f.takes) took.2)
 
-pub failed_counts : (master : ℕ) (old : FleetState) (o : Op) (new : FleetState) → IsOnReplica o
-    → RefusesOp master old o take_fault.Fault new → (new.backups ≡ old.backups) × (new.end ≡ old.end)
-failed_counts master old (On b s act) new on refuses =
+raise_counts : (master : ℕ) (old : FleetState) (id : ℕ) (new : FleetState)
+    → RefusesRaise old master id take_fault.Fault new → IsFaulted old new
+raise_counts master old id new (inl same) =
+    let takes = ap (λ (f : FleetState). f.takes) same in record {
+      backups = ap (λ (f : FleetState). f.backups) same;
+      end = ap (λ (f : FleetState). f.end) same;
+      takes = omega arith;
+    }
+raise_counts master old id new (inr took) =
+    fault_same old took.0 new (op_counts master old (Raise id) took.0 took.1)
+    (ap (λ (f : FleetState). f.backups) took.2) (ap (λ (f : FleetState). f.end) took.2)
+    (ap (λ (f : FleetState). f.takes) took.2)
+
+pub failed_counts : (master : ℕ) (old : FleetState) (o : Op) (new : FleetState)
+    → RefusesOp master old o take_fault.Fault new → IsFaulted old new
+failed_counts master old (On b s act) new refuses =
     fault_counts old b (op_of master (log_op_for master b s act)) new refuses
-failed_counts master old (Raise id) new on refuses = absurd on
+failed_counts master old (Raise id) new refuses = raise_counts master old id new refuses

@@ -1,20 +1,24 @@
 -- What a step of a pass adds to a master.
-use Rattle.std.proofs.Common.{◌≡◌, ℕ, suc, Bool, true, false, List, drop, refl, ap, subst, inl, inr, ◌∙◌}
+use Rattle.std.proofs.Common.{◌≡◌, ℕ, Bool, true, false, List, ap, subst, inl, inr, ◌∙◌}
 use Rattle.std.specs.Option.{option_map_or}
-use Rattle.std.specs.Prelude.{Option, Some, None, Result, Ok, Err, ◌==◌, if◌then◌else◌}
+use Rattle.std.specs.Prelude.{Option, Some, None, Result, Ok, Err, if◌then◌else◌}
 use Rattle.cleaner.specs.declared.fault.PassFault.{PassFault}
 use Rattle.cleaner.specs.declared.fault.PassFault.TheVariants.{TooMuch}
+use Rattle.master_state.specs.declared.ledger.Posting.TheVariants as posting
 use Rattle.master_state.specs.declared.step.Refusal.{Refusal}
 use Rattle.master_state.specs.declared.step.Refusal.TheVariants as refusal
 use Rattle.master_state.specs.declared.step.Step.TheVariants.{BeginClean, Copy, Seal, Free}
 use Rattle.master_state.specs.declared.step.StepAnswer.{StepAnswer}
 use Rattle.master_state.specs.Causes.{space_refusal}
 use Rattle.master_state.specs.Data.{MasterData}
-use Rattle.master.specs.Passes.{IsSealOp, IsFreeOp}
+use Rattle.master_state.specs.Ledger.{posted}
+use Rattle.master_state.specs.Log.{home}
+use Rattle.master.specs.Passes.{IsSealOp, IsFreeOp, Seals}
 use Rattle.master.specs.Steps.{Steps, Declines}
 use Rattle.master.specs.World.{World}
 use Rattle.driving.specs.Served.{IsSpent}
-use Rattle.driving.proofs.MasterSteps.{refused_history, spent_take}
+use Rattle.driving.proofs.MasterSteps.{first_unspent, refused_history, spent_take}
+use Rattle.driving.proofs.Outlines.{Outline, outline, sealed_outline}
 
 -- ---- the history stays
 
@@ -28,22 +32,21 @@ pub copied_history : (old new : World) (r : Result StepAnswer Refusal) → Steps
 copied_history old new (Ok a) h = ap (λ (d : MasterData). d.history) h.0.rest
 copied_history old new (Err r) h = ap (λ (w : World). w.knows.history) h.0
 
+-- a seal leaves the outline
+pub seals_outline : (old new : World) (a : StepAnswer) → Seals old a new → outline new.knows ≡ outline old.knows
+seals_outline old new a h =
+    ap outline h.rest ∙ sealed_outline (posted old.knows
+    (posting.Took h.next.segment (home old.knows.config old.knows.failed h.next.segment h.next.replica)))
+
 pub sealed_history : (old new : World) (r : Result StepAnswer Refusal) → Steps old Seal r new
     → new.knows.history ≡ old.knows.history
-sealed_history old new (Ok a) h = ap (λ (d : MasterData). d.history) h.rest
+sealed_history old new (Ok a) h = ap (λ (o : Outline). o.history) (seals_outline old new a h)
 sealed_history old new (Err r) (inl h) = ap (λ (w : World). w.knows.history) h.1
 sealed_history old new (Err r) (inr h) = refused_history (IsSealOp old.knows) old new r h.1
 
-freed_as : (d : MasterData) (last : Bool)
-    → (if last then record d { waiting = drop 1 d.waiting; freed = 0 } else record d { freed = suc d.freed }).history
-    ≡ d.history
-freed_as d true = refl
-freed_as d false = refl
-
 pub freed_history : (old new : World) (r : Result StepAnswer Refusal) → Steps old Free r new
     → new.knows.history ≡ old.knows.history
-freed_history old new (Ok a) h =
-    ap (λ (d : MasterData). d.history) h.rest ∙ freed_as old.knows (suc old.knows.freed == old.knows.config.replicas)
+freed_history old new (Ok a) h = ap (λ (d : MasterData). d.history) h.rest
 freed_history old new (Err r) (inl h) = ap (λ (w : World). w.knows.history) h.1
 freed_history old new (Err r) (inr h) = refused_history (IsFreeOp old.knows) old new r h.1
 
@@ -61,47 +64,42 @@ pub spent_clean : (old new : World) (ids : List ℕ) (r : Refusal) → Declines 
     → r ≡ refusal.Spent → ⊥
 spent_clean old new ids r h is = go (subst (λ (x : Refusal). Declines old (BeginClean ids) x new) is h)
   where
-    tested : (halted : Bool) (fault : Option PassFault) → (if halted then Some refusal.Halted
-        else option_map_or (λ (f : PassFault). Some (refusal.Pass f)) fault (space_refusal old.knows ids))
+    tested : (fault : Option PassFault)
+        → option_map_or (λ (f : PassFault). Some (refusal.Pass f)) fault (space_refusal old.knows ids)
         ≡ Some refusal.Spent → ⊥
-    tested true fault e = cc
-    tested false (Some f) e = cc
-    tested false None e = space_unspent _ _ _ e
+    tested (Some f) e = cc
+    tested None e = space_unspent _ _ _ e
 
     go : Declines old (BeginClean ids) refusal.Spent new → ⊥
-    go (same, inl test) = tested _ _ test
+    go (same, inl test) = first_unspent old.knows _ (tested _) test
     go (same, inr memory) = let none = memory.1 in cc
 
 -- nor a copy
-waits_unspent : (halted waits : Bool)
-    → (if halted then Some refusal.Halted else if waits then None else Some refusal.Nothing) ≡ Some refusal.Spent → ⊥
-waits_unspent true waits e = cc
-waits_unspent false true e = cc
-waits_unspent false false e = cc
+waits_unspent : (waits : Bool) → (if waits then None else Some refusal.Nothing) ≡ Some refusal.Spent → ⊥
+waits_unspent true e = cc
+waits_unspent false e = cc
 
 pub spent_copy : (old new : World) (r : Refusal) → Declines old Copy r new → r ≡ refusal.Spent → ⊥
 spent_copy old new r h is = go (subst (λ (x : Refusal). Declines old Copy x new) is h)
   where
     go : Declines old Copy refusal.Spent new → ⊥
-    go (same, test) = waits_unspent _ _ test
+    go (same, test) = first_unspent old.knows _ (waits_unspent _) test
 
 -- nor does what a seal or a free is tested by, but a fleet that is spent refuses it so
-idle_unspent : (halted none : Bool)
-    → (if halted then Some refusal.Halted else if none then Some refusal.Nothing else None) ≡ Some refusal.Spent → ⊥
-idle_unspent true none e = cc
-idle_unspent false true e = cc
-idle_unspent false false e = cc
+idle_unspent : (none : Bool) → (if none then Some refusal.Nothing else None) ≡ Some refusal.Spent → ⊥
+idle_unspent true e = cc
+idle_unspent false e = cc
 
 pub spent_seal : (old new : World) (r : Refusal) → Declines old Seal r new → r ≡ refusal.Spent → IsSpent new.fleet
 spent_seal old new r h is = go (subst (λ (x : Refusal). Declines old Seal x new) is h)
   where
     go : Declines old Seal refusal.Spent new → IsSpent new.fleet
-    go (inl h) = absurd (idle_unspent _ _ h.0)
+    go (inl h) = absurd (first_unspent old.knows _ (idle_unspent _) h.0)
     go (inr h) = spent_take (IsSealOp old.knows) old new h.1
 
 pub spent_free : (old new : World) (r : Refusal) → Declines old Free r new → r ≡ refusal.Spent → IsSpent new.fleet
 spent_free old new r h is = go (subst (λ (x : Refusal). Declines old Free x new) is h)
   where
     go : Declines old Free refusal.Spent new → IsSpent new.fleet
-    go (inl h) = absurd (idle_unspent _ _ h.0)
+    go (inl h) = absurd (first_unspent old.knows _ (idle_unspent _) h.0)
     go (inr h) = spent_take (IsFreeOp old.knows) old new h.1

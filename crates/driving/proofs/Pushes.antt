@@ -1,21 +1,19 @@
 -- Pushes that are made for a record.
 use Rattle.std.proofs.Common.{◌≡◌, ℕ, zero, suc, Bool, true, false, subst}
-use Rattle.std.specs.Prelude.{Result, Ok}
+use Rattle.std.specs.Prelude.{Ok}
 use Rattle.master_state.specs.declared.step.Refusal.{Refusal}
 use Rattle.master_state.specs.declared.step.Step.TheVariants.{Push}
 use Rattle.master_state.specs.declared.step.StepAnswer.{StepAnswer}
-use Rattle.master.specs.Steps.{Accepts, PushesFor, Steps}
+use Rattle.master.specs.Steps.{Accepts, PushesFor}
 use Rattle.master.specs.World.{World}
 use Rattle.driving.specs.Commands.{ArePushedFor, IsAwaited, IsDurable, StopsShort}
-use Rattle.driving.specs.Rolls.{ArePushed, PushesUntil}
+use Rattle.driving.specs.Rolls.{Advances, ArePushed, PushesUntil}
 
 -- one push more
-pub one_more_for : (place : ℕ) (from old new : World) (r : Result StepAnswer Refusal) (a : StepAnswer)
-    → IsAwaited place old → r ≡ Ok a
-    → Steps old Push r new → ((count : ℕ) × ArePushedFor place count from old)
+pub one_more_for : (place : ℕ) (from old new : World) → IsAwaited place old → Advances Push old new
+    → ((count : ℕ) × ArePushedFor place count from old)
     → (count : ℕ) × ArePushedFor place count from new
-one_more_for place from old new r a awaited is push (count, before) =
-    (suc count, (old, before, awaited, a, subst (λ (x : Result StepAnswer Refusal). Steps old Push x new) is push))
+one_more_for place from old new awaited push (count, before) = (suc count, (old, before, awaited, push))
 
 -- what a push for a record did
 module _ (place : ℕ) (old new : World) where
@@ -28,9 +26,9 @@ module _ (place : ℕ) (old new : World) where
 
 pushed_for : (place count : ℕ) (old new : World) → ArePushedFor place count old new → ArePushed count old new
 pushed_for place zero old new same = same
-pushed_for place (suc count) old new (mid, before, awaited, a, push) =
-    (mid, pushed_for place count old mid before, a, push)
+pushed_for place (suc count) old new (mid, before, awaited, push) =
+    (mid, pushed_for place count old mid before, push)
 
 pub stops_until : (place : ℕ) (old new : World) (r : Refusal) → StopsShort place old r new → PushesUntil old r new
-stops_until place old new r (count, mid, before, awaited, declines) =
-    (count, mid, pushed_for place count old mid before, declines)
+stops_until place old new r (count, mid, before, awaited, declines, lost) =
+    (count, mid, pushed_for place count old mid before, declines, lost)

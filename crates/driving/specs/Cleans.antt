@@ -1,103 +1,92 @@
 -- What a whole cleaning makes of a master and its fleet, from the begin of its pass to the last free.
-use Rattle.std.specs.Prelude.{◌≡◌, ◌⊎◌, ℕ, List, [], ◌∷◌, ◌++◌, Result, Ok, Err, None}
+use Rattle.std.specs.Prelude.{◌≡◌, ◌⊎◌, ℕ, zero, suc, List, [], ◌∷◌, ◌++◌, false, Result, Ok, Err}
+use Rattle.std.specs.Prelude.{Some, None, IsSome}
 use Rattle.cleaner.specs.declared.survivors.Survivors.{Survivors}
 use Rattle.cleaner.specs.Passes.{survivor_ids}
 use Rattle.log_head.specs.Head.{digest_of}
 use Rattle.log_model.specs.Ids.{all_inserted, without}
+use Rattle.master_space.specs.Choosing.{pending_step}
 use Rattle.master_state.specs.Budget.{newest_digest}
 use Rattle.master_state.specs.declared.step.Refusal.{Refusal}
-use Rattle.master_state.specs.declared.step.Refusal.TheVariants.{Nothing}
 use Rattle.master_state.specs.declared.step.Step.{Step}
-use Rattle.master_state.specs.declared.step.Step.TheVariants.{BeginClean, Copy, Seal, Push, Free}
+use Rattle.master_state.specs.declared.step.Step.TheVariants.{BeginClean, Push}
+use Rattle.master_state.specs.declared.step.StepAnswer.{StepAnswer}
 use Rattle.master_state.specs.declared.step.StepAnswer.TheVariants.{Begun}
 use Rattle.master.specs.Steps.{Accepts, Declines}
 use Rattle.master.specs.World.{World}
-use Rattle.driving.specs.declared.whole_pass.Phase.{Phase}
-use Rattle.driving.specs.declared.whole_pass.Phase.TheVariants as phase
-use Rattle.driving.specs.Rolls.{StepsUntil, IsRolled, IsNotRolled}
+use Rattle.driving.specs.Rolls.{Advances, is_lost}
 
--- ---- a part
+-- ---- an open failover
 
--- the steps of a part
-abbrev pub step_of : Phase → Step
-step_of phase.Copies = Copy
-step_of phase.Seals = Seal
-step_of phase.Frees = Free
+-- so many pushes of an open failover were accepted, one after another
+abbrev pub AreMended : ℕ → World → World → Type 0
+AreMended zero old new = new ≡ old
+AreMended (suc count) old new = (mid : World) × AreMended count old mid × IsSome mid.knows.failover
+    × (answer : StepAnswer) × Accepts mid Push answer new
 
--- steps of one kind were made until one was refused, and something was left to do
-abbrev pub StopsAt : Step → World → Refusal → World → Type 0
-StopsAt step old r new = StepsUntil step old r new × (r ≡ Nothing → ⊥)
+-- a failover that is open is pushed to its end
+abbrev pub IsMended : World → World → Type 0
+IsMended old new = (count : ℕ) × AreMended count old new × (new.knows.failover ≡ None)
 
--- steps of one kind were made until nothing was left to do, or until another refusal came
-abbrev pub MakesAll : Step → World → Result (Unit {0}) Refusal → World → Type 0
-MakesAll step old (Ok done) new = StepsUntil step old Nothing new
-MakesAll step old (Err r) new = StopsAt step old r new
+-- or one of its pushes is refused
+abbrev pub IsNotMended : World → Refusal → World → Type 0
+IsNotMended old r new =
+    (count : ℕ) × (mid : World) × AreMended count old mid × IsSome mid.knows.failover × Declines mid Push r new
 
--- ---- up to the commit
+-- ---- what is under way
 
--- All entries were copied, then all replicas of the survivors were sealed, and then pushes were taken until nothing
--- waited.
-pub record IsPrepared (old new : World) : Type 0 where
-  pub copied : World
-  pub copies : StepsUntil Copy old Nothing copied
-  pub sealed : World
-  pub seals : StepsUntil Seal copied Nothing sealed
-  pub pushes : StepsUntil Push sealed Nothing new
+-- So many steps were made, each the one that was under way: an open failover goes on, then what a pass has left to copy
+-- and to seal, then a roll, or the pass's commit begins; and then what waits is freed.
+abbrev pub AreTurned : ℕ → World → World → Type 0
+AreTurned zero old new = new ≡ old
+AreTurned (suc count) old new = (mid : World) × AreTurned count old mid
+    × (step : Step) × (pending_step mid.knows ≡ Some step) × Advances step mid new
 
--- the copies stopped at a refusal, or the seals after them, or the pushes after these
-abbrev pub IsNotPrepared : World → Refusal → World → Type 0
-IsNotPrepared old r new = StopsAt Copy old r new
-    ⊎ ((copied : World) × StepsUntil Copy old Nothing copied × (StopsAt Seal copied r new
-    ⊎ ((sealed : World) × StepsUntil Seal copied Nothing sealed × StopsAt Push sealed r new)))
+-- they were made until nothing was under way
+abbrev pub TurnsOut : World → World → Type 0
+TurnsOut old new = (count : ℕ) × AreTurned count old new × (pending_step new.knows ≡ None)
 
-abbrev pub Prepares : World → Result (Unit {0}) Refusal → World → Type 0
-Prepares old (Ok done) new = IsPrepared old new
-Prepares old (Err r) new = IsNotPrepared old r new
+-- they were made until one was refused for good
+abbrev pub TurnsUntil : World → Refusal → World → Type 0
+TurnsUntil old r new = (count : ℕ) × (mid : World) × AreTurned count old mid
+    × (step : Step) × (pending_step mid.knows ≡ Some step) × Declines mid step r new × (is_lost r ≡ false)
 
 -- ---- whole
 
--- All of a pass that had begun was made: what comes before its commit, then a roll, whose head has this id, and then
--- all replicas that waited were freed.
-pub record IsFinished (old : World) (head : ℕ) (new : World) : Type 0 where
+-- the ids of a digest once a commit replaced these victims by these survivors, with heads after them
+abbrev pub digest_after : List ℕ → List ℕ → List ℕ → List ℕ → List ℕ
+digest_after ids victims survivors heads = all_inserted survivors (without victims ids) ++ heads
+
+-- A failover that was open was pushed to its end. Then a pass over these victims began with these survivors, and all of
+-- it was made. A roll was its commit: the digest in force lists the survivors in place of the victims, the pass has
+-- ended, and nothing waits to be freed. The head in force has this id.
+pub record IsCleaned (old : World) (victims : List ℕ) (survivors : Survivors) (id : ℕ) (new : World) : Type 0 where
   pub ready : World
-  pub prepared : IsPrepared old ready
-  pub mid : World
-  pub rolled : IsRolled ready head mid
-  pub frees : StepsUntil Free mid Nothing new
-
--- it stopped at a refusal: before the roll, in the roll, or in the frees after it; what was done stays done
-abbrev pub IsNotFinished : World → Refusal → World → Type 0
-IsNotFinished old r new = IsNotPrepared old r new
-    ⊎ ((ready : World) × IsPrepared old ready × (IsNotRolled ready r new
-    ⊎ ((mid : World) × (head : ℕ) × IsRolled ready head mid × StopsAt Free mid r new)))
-
-abbrev pub Finishes : World → Result ℕ Refusal → World → Type 0
-Finishes old (Ok head) new = IsFinished old head new
-Finishes old (Err r) new = IsNotFinished old r new
-
--- the ids of a digest once a commit replaced these victims by these survivors, under this head
-abbrev pub digest_after : List ℕ → List ℕ → List ℕ → ℕ → List ℕ
-digest_after ids victims survivors head = all_inserted survivors (without victims ids) ++ head ∷ []
-
--- A pass over these victims began with these survivors, and all of it was made. The roll was its commit: the digest in
--- force lists the survivors in place of the victims, the pass has ended, and nothing waits to be freed.
-pub record IsCleaned (old : World) (victims : List ℕ) (survivors : Survivors) (head : ℕ) (new : World) : Type 0 where
+  pub mended : IsMended old ready
   pub begun : World
-  pub begins : Accepts old (BeginClean victims) (Begun survivors) begun
-  pub finished : IsFinished begun head new
-  -- a head that a roll was opening then is listed too
+  pub begins : Accepts ready (BeginClean victims) (Begun survivors) begun
+  pub turned : TurnsOut begun new
+  pub head : id ≡ new.knows.head.id
+  -- some heads came before the commit, and some after it, as rolls or failovers brought them
+  pub before : List ℕ
+  pub after : List ℕ
   pub digest : digest_of new.knows.head.image
-      ≡ digest_after (newest_digest old.knows.head) victims (survivor_ids survivors) head
+      ≡ digest_after (digest_of ready.knows.head.image ++ before) victims (survivor_ids survivors)
+      (after ++ id ∷ [])
+  -- if no backup fails meanwhile, the commit's head is the last; a head that a roll was opening then is listed too
+  pub calm : new.knows.failed ≡ old.knows.failed → digest_of new.knows.head.image
+      ≡ digest_after (newest_digest ready.knows.head) victims (survivor_ids survivors) (id ∷ [])
   pub ended : new.knows.pass ≡ None
   pub freed : new.knows.waiting ≡ []
 
--- The pass couldn't begin, or what came after its begin stopped at a refusal.
+-- The failover's pushes were refused, or the pass couldn't begin, or what came after its begin stopped at a refusal.
 abbrev pub IsNotCleaned : World → List ℕ → Refusal → World → Type 0
-IsNotCleaned old victims r new = Declines old (BeginClean victims) r new
-    ⊎ ((survivors : Survivors) × (begun : World) × Accepts old (BeginClean victims) (Begun survivors) begun
-    × IsNotFinished begun r new)
+IsNotCleaned old victims r new = IsNotMended old r new
+    ⊎ ((ready : World) × IsMended old ready × (Declines ready (BeginClean victims) r new
+    ⊎ ((survivors : Survivors) × (begun : World) × Accepts ready (BeginClean victims) (Begun survivors) begun
+    × TurnsUntil begun r new)))
 
--- a whole cleaning, by its survivors and the head that it ends with, or by its refusal
+-- a whole cleaning, by its survivors and the head that is in force then, or by its refusal
 abbrev pub Cleans : World → List ℕ → Result (Survivors × ℕ) Refusal → World → Type 0
 Cleans old victims (Ok (survivors, head)) new = IsCleaned old victims survivors head new
 Cleans old victims (Err r) new = IsNotCleaned old victims r new

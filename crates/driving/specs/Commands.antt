@@ -1,17 +1,16 @@
 -- What a command's line makes of a master and its fleet: these steps, in this order, and no other.
-use Rattle.std.specs.Prelude.{◌≡◌, ◌⊎◌, ◌<◌, ◌≤◌, ℕ, zero, suc, Result, Ok, Err}
+use Rattle.std.specs.Prelude.{◌≡◌, ◌⊎◌, ◌<◌, ◌≤◌, ℕ, zero, suc, false, Result, Ok, Err}
 use Rattle.versioned_map.specs.declared.command.Command.{Command}
 use Rattle.versioned_map.specs.declared.command.Reply.{Reply}
 use Rattle.failover_model.specs.Data.{durable_of}
 use Rattle.master_state.specs.declared.step.Refusal.{Refusal}
 use Rattle.master_state.specs.declared.step.Refusal.TheVariants.{Rolling}
 use Rattle.master_state.specs.declared.step.Step.TheVariants.{Apply, Push}
-use Rattle.master_state.specs.declared.step.StepAnswer.{StepAnswer}
 use Rattle.master_state.specs.declared.step.StepAnswer.TheVariants.{Applied}
 use Rattle.master_state.specs.Log.{log_of}
 use Rattle.master.specs.Steps.{Accepts, Declines}
 use Rattle.master.specs.World.{World}
-use Rattle.driving.specs.Rolls.{Rolls}
+use Rattle.driving.specs.Rolls.{Advances, Rolls, is_lost}
 
 -- ---- pushes for a record
 
@@ -23,20 +22,20 @@ IsDurable place w = place < durable_of (log_of w.knows)
 abbrev pub IsAwaited : ℕ → World → Type 0
 IsAwaited place w = durable_of (log_of w.knows) ≤ place
 
--- so many pushes were taken, one after another, each while the record was not durable
+-- so many pushes were made, one after another, each while the record was not durable
 abbrev pub ArePushedFor : ℕ → ℕ → World → World → Type 0
 ArePushedFor place zero old new = new ≡ old
 ArePushedFor place (suc count) old new = (mid : World) × ArePushedFor place count old mid
-    × IsAwaited place mid × (answer : StepAnswer) × Accepts mid Push answer new
+    × IsAwaited place mid × Advances Push mid new
 
--- pushes were taken until the record was durable
+-- pushes were made until the record was durable
 abbrev pub PushesTo : ℕ → World → World → Type 0
 PushesTo place old new = (count : ℕ) × ArePushedFor place count old new × IsDurable place new
 
--- pushes were taken until one was refused, before the record was durable
+-- pushes were made until one was refused for good, before the record was durable
 abbrev pub StopsShort : ℕ → World → Refusal → World → Type 0
 StopsShort place old r new = (count : ℕ) × (mid : World) × ArePushedFor place count old mid
-    × IsAwaited place mid × Declines mid Push r new
+    × IsAwaited place mid × Declines mid Push r new × (is_lost r ≡ false)
 
 -- ---- one try
 

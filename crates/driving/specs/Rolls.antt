@@ -1,8 +1,14 @@
 -- What pushes and a roll make of a master and its fleet.
-use Rattle.std.specs.Prelude.{◌≡◌, ◌⊎◌, ℕ, zero, suc, true, Some, Result, Ok, Err}
+use Rattle.std.specs.Prelude.{◌≡◌, ◌⊎◌, ℕ, zero, suc, ◌≤◌, Bool, true, false, Some, None, IfSome, Result, Ok}
+use Rattle.std.specs.Prelude.{Err}
 use Rattle.log_head.specs.declared.head.Roll.{Roll}
 use Rattle.log_head.specs.Head.{is_open}
+use Rattle.master_state.specs.declared.failover.Failover.{Failover}
+use Rattle.master_state.specs.declared.failover.Part.TheVariants as part
+use Rattle.master_state.specs.Budget.{is_working}
+use Rattle.master_state.specs.Data.{MasterData}
 use Rattle.master_state.specs.declared.step.Refusal.{Refusal}
+use Rattle.master_state.specs.declared.step.Refusal.TheVariants as refusal
 use Rattle.master_state.specs.declared.step.Refusal.TheVariants.{Rolling, Nothing}
 use Rattle.master_state.specs.declared.step.Step.{Step}
 use Rattle.master_state.specs.declared.step.Step.TheVariants.{Push, BeginRoll}
@@ -10,38 +16,50 @@ use Rattle.master_state.specs.declared.step.StepAnswer.{StepAnswer}
 use Rattle.master.specs.Steps.{Accepts, Declines}
 use Rattle.master.specs.World.{World}
 
--- so many steps of one kind were accepted, one after another
-abbrev pub AreStepped : Step → ℕ → World → World → Type 0
-AreStepped step zero old new = new ≡ old
-AreStepped step (suc count) old new =
-    (mid : World) × AreStepped step count old mid × (answer : StepAnswer) × Accepts mid step answer new
+-- the refusal tells of a failed backup, without which the master goes on
+abbrev pub is_lost : Refusal → Bool
+is_lost (refusal.Lost b) = true
+is_lost _ = false
 
--- steps of one kind were made until one was refused
-abbrev pub StepsUntil : Step → World → Refusal → World → Type 0
-StepsUntil step old r new = (count : ℕ) × (mid : World) × AreStepped step count old mid × Declines mid step r new
+-- the step was accepted; or a backup failed in it, and a failover is open since
+abbrev pub Advances : Step → World → World → Type 0
+Advances step old new = ((answer : StepAnswer) × Accepts old step answer new)
+    ⊎ ((b : ℕ) × Declines old step (refusal.Lost b) new)
 
--- the same of pushes
+-- so many pushes were made, one after another
 abbrev pub ArePushed : ℕ → World → World → Type 0
-ArePushed count old new = AreStepped Push count old new
+ArePushed zero old new = new ≡ old
+ArePushed (suc count) old new = (mid : World) × ArePushed count old mid × Advances Push mid new
 
+-- pushes were made until one was refused for good
 abbrev pub PushesUntil : World → Refusal → World → Type 0
-PushesUntil old r new = StepsUntil Push old r new
+PushesUntil old r new =
+    (count : ℕ) × (mid : World) × ArePushed count old mid × Declines mid Push r new × (is_lost r ≡ false)
 
--- a roll begins; or none may begin, since the head isn't open yet
+-- a roll begins; or none may begin, since the head isn't open yet or a failover is open
 abbrev pub GoesRolling : World → World → Type 0
 GoesRolling old new = ((answer : StepAnswer) × Accepts old BeginRoll answer new) ⊎ Declines old BeginRoll Rolling new
 
--- A roll began if the head was open, and pushes were taken until nothing waited. The head has this id now.
+-- a failover that is open has made its new head
+abbrev pub HasTurned : MasterData → Type 0
+HasTurned d = IfSome d.failover (λ (f : Failover). f.part ≡ part.Mends → ⊥)
+
+-- A roll began if the head was open and no failover was, and pushes were made until nothing waited. The head has this
+-- id now.
 pub record IsRolled (old : World) (id : ℕ) (new : World) : Type 0 where
   pub mid : World
   pub rolling : GoesRolling old mid
   pub pushed : PushesUntil mid Nothing new
   pub opened : is_open new.knows.head ≡ true
+  pub calm : new.knows.failover ≡ None
   pub head : id ≡ new.knows.head.id
-  -- after an open head comes the first id that no segment had
-  pub next : is_open old.knows.head ≡ true → id ≡ old.knows.next
-  -- after a roll that was under way comes the head of that roll
-  pub awaited : (roll : Roll) → old.knows.head.roll ≡ Some roll → id ≡ roll.id
+  -- after an open head comes a new one
+  pub later : is_working old.knows ≡ true → old.knows.next ≤ id
+  -- if no backup fails meanwhile, it has the first id that no segment had
+  pub next : new.knows.failed ≡ old.knows.failed → is_working old.knows ≡ true → id ≡ old.knows.next
+  -- and after a roll that was under way, or that a failover has made, comes the head of that roll
+  pub awaited : new.knows.failed ≡ old.knows.failed → HasTurned old.knows → (roll : Roll)
+      → old.knows.head.roll ≡ Some roll → id ≡ roll.id
 
 -- A roll couldn't begin, or one of its pushes was refused.
 abbrev pub IsNotRolled : World → Refusal → World → Type 0

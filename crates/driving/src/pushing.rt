@@ -2,7 +2,7 @@
 
 ghost use Rattle.std.specs.Prelude.{◌≡◌, ◌<◌, [], length, true, IfOk, IfErr};
 ghost use Rattle.failover_model.specs.Data.{durable_of};
-ghost use Rattle.log_head.specs.Head.{is_open};
+ghost use Rattle.master_state.specs.Budget.{is_working};
 ghost use Rattle.master_state.specs.Log.{log_of};
 ghost use Rattle.master.specs.World.{world};
 ghost use Rattle.driving.specs.Commands.{PushesTo, StopsShort};
@@ -13,10 +13,11 @@ use crate::driven::Driven;
 use master::{Master, Refusal};
 use replica::Fleet;
 
-/// Pushes until nothing waits, or a push is refused.
+/// Pushes until nothing waits, or a push is refused for good. A backup that failed is no end: its failover is pushed
+/// too.
 pub fn push_all<D: Driven>(master: &mut D) -> Result<(), Refusal>
     ensures goes_on { D.goes_on (D.world master.old) (D.world master.new) }
-    ensures open { IfOk result (λ _. is_open (D.world master.new).knows.head ≡ true) }
+    ensures open { IfOk result (λ _. is_working (D.world master.new).knows ≡ true) }
     ensures pushed { IfOk result (λ _. PushesUntil (D.world master.old) Refusal.Nothing (D.world master.new)) }
     ensures refused { IfErr result (λ r. PushesUntil (D.world master.old) r (D.world master.new)) }
     ensures waits { IfErr result (λ r. r ≡ Refusal.Nothing → ⊥) }
@@ -24,15 +25,16 @@ pub fn push_all<D: Driven>(master: &mut D) -> Result<(), Refusal>
 {
     loop {
         if let Err(refusal) = master.push() {
-            return match refusal {
-                Refusal::Nothing => Ok(()),
-                _ => Err(refusal),
-            };
+            match refusal {
+                Refusal::Nothing => return Ok(()),
+                Refusal::Lost(_) => {}
+                _ => return Err(refusal),
+            }
         }
     }
 }
 
-/// Begins a roll if none is under way, and pushes until nothing waits.
+/// Begins a roll if none is under way and no failover is open, and pushes until nothing waits.
 pub fn roll_all<D: Driven>(master: &mut D) -> Result<(), Refusal>
     ensures goes_on { D.goes_on (D.world master.old) (D.world master.new) }
     ensures rolled { IfOk result (λ _.
@@ -49,8 +51,8 @@ pub fn roll_all<D: Driven>(master: &mut D) -> Result<(), Refusal>
     }
 }
 
-/// Pushes until the record at this place is durable, or a push is refused. Something waits until then, so no push is
-/// refused as Nothing.
+/// Pushes until the record at this place is durable, or a push is refused for good. Something waits until then, so no
+/// push is refused as Nothing. A backup that failed is no end.
 #[inline(always)]
 pub fn push_until<F: Fleet>(master: &mut Master<F>, place: u64) -> Result<(), Refusal>
     requires { place < length master.old.knows.history }
@@ -65,7 +67,10 @@ pub fn push_until<F: Fleet>(master: &mut Master<F>, place: u64) -> Result<(), Re
         match master.push_for(place) {
             Ok(true) => return Ok(()),
             Ok(false) => {}
-            Err(refusal) => return Err(refusal),
+            Err(refusal) => match refusal {
+                Refusal::Lost(_) => {}
+                _ => return Err(refusal),
+            },
         }
     }
 }

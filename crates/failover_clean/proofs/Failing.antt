@@ -29,8 +29,8 @@ use Rattle.failover_clean.proofs.Taking.{moved_on}
 module _ (log : LogSet) (left : List ℕ) (within : (s : ℕ) → IsAmong s left → IsAmong s log.ids)
     (stays : (s : ℕ) → IsAmong s log.ids
     → IsAmong s left ⊎ ((e : Entry) (k : Key) → IsOfKey k e → IsAmong e (log.image s) → ⊥)) where
-  was_in : (s : ℕ) (e : Entry) → SegmentHas (counting log left) s e → SegmentHas log s e
-  was_in s e m = record { counts = within s m.counts; among = m.among }
+  pub left_had : (s : ℕ) (e : Entry) → SegmentHas (counting log left) s e → SegmentHas log s e
+  left_had s e m = record { counts = within s m.counts; among = m.among }
 
   -- what has an entry of some key stays
   has_stays : (s : ℕ) (e : Entry) (k : Key) → IsAmong s log.ids → IsOfKey k e → IsAmong e (log.image s) → IsAmong s left
@@ -42,8 +42,8 @@ module _ (log : LogSet) (left : List ℕ) (within : (s : ℕ) → IsAmong s left
   pub left_tracked : (pass : Pass) (index : Index) (contents : Contents) → IsTracked log pass index contents
       → IsTracked (counting log left) pass index contents
   left_tracked pass index contents is = record {
-    clean = λ o p a b. is.clean o p (a.0, was_in a.0 (Object o) a.1) (b.0, was_in b.0 (Object p) b.1);
-    highest = λ k x h s f m. is.highest k x h s f (was_in s f m);
+    clean = λ o p a b. is.clean o p (a.0, left_had a.0 (Object o) a.1) (b.0, left_had b.0 (Object p) b.1);
+    highest = λ k x h s f m. is.highest k x h s f (left_had s f m);
     found = λ k x h. let f = is.found k x h in record {
       place = f.place;
       indexed = f.indexed;
@@ -51,9 +51,9 @@ module _ (log : LogSet) (left : List ℕ) (within : (s : ℕ) → IsAmong s left
       stands = f.stands;
     };
     unindexed = is.unindexed;
-    lies = λ k x p h at s o m. is.lies k x p h at s o (was_in s (Object o) m);
+    lies = λ k x p h at s o m. is.lies k x p h at s o (left_had s (Object o) m);
     buried = λ s o m dead.
-        let b = is.buried s o (was_in s (Object o) m) dead in
+        let b = is.buried s o (left_had s (Object o) m) dead in
         buried_again log.ids left log.image log.image pass pass s o b (
           b.stands.0,
           record {
@@ -68,7 +68,7 @@ module _ (log : LogSet) (left : List ℕ) (within : (s : ℕ) → IsAmong s left
   left_around pass contents safe next is = record {
     below = λ s c. is.below s (within s c);
     named_below = λ s t c. is.named_below s t (within s c);
-    versions = λ k h s f m. is.versions k h s f (was_in s f m);
+    versions = λ k h s f m. is.versions k h s f (left_had s f m);
     texted = λ s e k c. is.texted s e k (within s c);
   }
 
@@ -160,7 +160,7 @@ fail_keeps d m p b i may = failed d m p b i may
 
 pub mend_keeps : MendKeeps
 mend_keeps d m p i known repairs =
-    moved_on d m p i d.counts d.shut d.took Calm p (sym (ap new_of repairs)) (λ _. inr repairs) (λ never. absurd (cc))
+    moved_on d m p i d.counts d.shut d.took Calm 0 p (sym (ap new_of repairs)) (λ _. inr repairs) (λ never. absurd (cc))
     (λ never. absurd (cc)) (λ s b no took. took) (λ b s no. refl)
     (mended_is_held d i.log.texts p i.log.held known repairs)
     (mended_is_standing d i.log.texts p i.log.held i.log.standing known repairs)

@@ -14,7 +14,7 @@ use Rattle.failover_bytes.proofs.Keeping.{new_holds_log}
 use Rattle.failover_bytes.specs.Runs.{read_fleet}
 use Rattle.failover_clean.specs.Fleet.{read_of, KeepsAll, HoldsAll, FreshHoldsAll, ApplyHoldsAll, CompactHoldsAll}
 use Rattle.failover_clean.specs.Fleet.{BeginHoldsAll, CopyHoldsAll, RollHoldsAll, CommitHoldsAll, EndHoldsAll}
-use Rattle.failover_clean.specs.Fleet.{FinishHoldsAll, SameHoldsAll}
+use Rattle.failover_clean.specs.Fleet.{FinishHoldsAll, MendHoldsAll, SameHoldsAll}
 use Rattle.failover_clean.specs.Intact.{IsIntact}
 use Rattle.failover_clean.specs.Memory.{FailMemory, log_ids}
 use Rattle.failover_clean.specs.Steps.{compacted, ids_taken, with_copy, copy_done}
@@ -24,9 +24,10 @@ use Rattle.failover_clean.proofs.Committing.{commit_keeps, finish_keeps}
 use Rattle.failover_clean.proofs.Compacting.{compact_keeps}
 use Rattle.failover_clean.proofs.Copying.{copy_keeps}
 use Rattle.failover_clean.proofs.Ending.{end_keeps}
+use Rattle.failover_clean.proofs.Failing.{mend_keeps}
 use Rattle.failover_clean.proofs.KeptFleets.{holds_at}
 use Rattle.failover_clean.proofs.Knowing.{fresh_knows, apply_knows, waiting_knows, begin_knows, roll_knows}
-use Rattle.failover_clean.proofs.Knowing.{commit_knows, end_knows, finish_knows}
+use Rattle.failover_clean.proofs.Knowing.{commit_knows, end_knows, finish_knows, mend_knows}
 use Rattle.failover_clean.proofs.NewMaster.{fresh_is_intact}
 use Rattle.failover_clean.proofs.Rolling.{roll_keeps}
 use Rattle.failover_clean.proofs.SameMemories.{same_is_intact, same_knows}
@@ -169,3 +170,15 @@ finish_holds_all d m f n mode holds ends commits =
       };
       knows = finish_knows d m (read_of d f) n mode holds.keeps.intact holds.knows ends commits;
     }
+
+-- ---- a failover ends
+
+pub mend_holds_all : MendHoldsAll
+mend_holds_all d m f holds repairs = record {
+  keeps = record {
+    spelled = holds.keeps.spelled;
+    heads = (others_have_segments d.config.master d holds.keeps.heads).2;
+    intact = mend_keeps d m (read_of d f) holds.keeps.intact holds.knows.log repairs;
+  };
+  knows = mend_knows d m (read_of d f) holds.knows;
+}

@@ -30,5 +30,7 @@ pub mod OpsKeep
 pub mod FleetAnswers
 pub mod LoadingOps
 pub mod LoadingRolls
+pub mod LoadingRepairs
+pub mod LoadingFails
 pub mod Loading
 pub mod LoadingFleets

@@ -30,7 +30,7 @@ use Rattle.clean_model.proofs.Premises.{IsAdded, IsSet}
 use Rattle.clean_model.proofs.TrackedBags.{of_same}
 use Rattle.failover_model.specs.Text.{Text}
 use Rattle.failover_model.specs.Shown.{Shown}
-use Rattle.failover_model.specs.Data.{front_entries, FailData, new_of}
+use Rattle.failover_model.specs.Data.{front_entries, Calm, Repairs, FailData, new_of}
 use Rattle.failover_model.specs.Log.{Texts, IsBase, AreOfTablets, IsLogHeld}
 use Rattle.failover_model.specs.Steps.{texts_appended, IsKnown}
 use Rattle.failover_model.proofs.Adopting.{opening_held, opening_is_apart}
@@ -39,6 +39,7 @@ use Rattle.failover_model.proofs.Images.{base_out}
 use Rattle.failover_model.proofs.KnownSteps.{appended_known}
 use Rattle.failover_model.proofs.States.{whole_front}
 use Rattle.failover_model.proofs.Texts.{base_moves, at_text, variant_back}
+use Rattle.failover_clean.specs.Intact.{AreRepaired}
 use Rattle.failover_clean.specs.Loading.{with_object, object_loaded, MayLoad, IsLoading, LoadKeeps}
 use Rattle.failover_clean.specs.Memory.{FailMemory, entries_in, log_set_of, AreImages}
 use Rattle.failover_clean.proofs.Appending.{appended_from, appended_texted, appended_images}
@@ -89,7 +90,7 @@ module _ (d : FailData) (m : FailMemory) (p : Shown) (o : ObjectValue) (i : IsLo
   new = log_set_of e (object_loaded d m o) now
 
   some : id ≡ 0 → ⊥
-  some = i.real may.calm
+  some = i.real (inl may.calm)
 
   -- ---- texts
 
@@ -213,6 +214,14 @@ module _ (d : FailData) (m : FailMemory) (p : Shown) (o : ObjectValue) (i : IsLo
   images : AreImages e (object_loaded d m o) now
   images = appended_images d m i.texts i.held.logged unit refl i.images
 
+  -- the head has no image
+  repaired : AreRepaired (object_loaded d m o) now
+  repaired z es k f image at l = elim (grown_out m.images id (Object o) z f l) as (λ _. IsAmong f es) [
+    | inl a ↦ i.repaired z es k f image at a
+    | inr w ↦ absurd (subst (λ (l : List (List Entry)). IsAmong es l) (ap i.texts.images w.0 ∙ i.held.logged.one)
+        image)
+  ]
+
   loading : IsLoading e (object_loaded d m o) p
   loading = record {
     texts = now;
@@ -223,14 +232,16 @@ module _ (d : FailData) (m : FailMemory) (p : Shown) (o : ObjectValue) (i : IsLo
     new = λ n is. absurd (no_new n is);
     rolling = λ n is. absurd (no_new n is);
     empty = λ none. absurd (some none);
+    blank = λ none. absurd (some none);
     real = i.real;
     only = only;
     tracked = tracked;
     around = around;
     recorded = λ n is. absurd (no_new n is);
+    repairs = λ is. absurd (let never : Calm ≡ Repairs = sym may.calm ∙ is in cc);
     images = images;
+    repaired = repaired;
     whole = record { one = i.whole.one; failed = i.whole.failed };
-    working = i.working;
     idle = record { pass = i.idle.pass; rest = i.idle.rest; commits = i.idle.commits; waiting = i.idle.waiting };
   }
 

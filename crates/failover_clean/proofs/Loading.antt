@@ -1,7 +1,6 @@
 -- Another memory serves a master that is loading as well, and it finishes.
 use Rattle.std.proofs.Common.{◌≡◌, ℕ, inl, true, false, List, [], ◌∷◌, length, refl, sym, subst, ap, ◌∙◌, arith}
 use Rattle.std.specs.Prelude.{Some, None}
-use Rattle.entry.specs.declared.entry.Entry.{Entry}
 use Rattle.entry.specs.Bag.{IsAmong}
 use Rattle.versioned_map.specs.Versioned.{State}
 use Rattle.log_model.specs.Data.{Start}
@@ -60,6 +59,7 @@ module _ (d : FailData) (m n : FailMemory) (p : Shown) (i : IsLoading d m p) (sa
     new = i.new;
     rolling = i.rolling;
     empty = i.empty;
+    blank = i.blank;
     real = i.real;
     only = λ k s f none l at. i.only k s f none (was_in log new more s f k at l) at;
     tracked = subst (λ (st : State). IsTracked new m.pass n.index st.contents) (sym state_is)
@@ -67,9 +67,10 @@ module _ (d : FailData) (m n : FailMemory) (p : Shown) (i : IsLoading d m p) (sa
         (subst (λ (st : State). IsTracked log m.pass m.index st.contents) state_is i.tracked));
     around = same_around d m n same i.texts (none_survive d m p i) d.opening.contents d.opening.safe i.around;
     recorded = i.recorded;
+    repairs = i.repairs;
     images = images_too d m n same i.texts i.images;
+    repaired = λ s es k f image at l. i.repaired s es k f image at (same.fewer s f l);
     whole = i.whole;
-    working = i.working;
     idle = record {
       pass = i.idle.pass;
       rest = same.done i.idle.rest;
@@ -90,7 +91,7 @@ module _ (d : FailData) (m : FailMemory) (p : Shown) (i : IsLoading d m p) (calm
   then_master = adopted d d.opening
 
   some : d.head.start.id ≡ 0 → ⊥
-  some = i.real calm
+  some = i.real (inl calm)
 
   abbrev loaded : IsLoaded d p d.opening
   loaded = record {
@@ -107,9 +108,6 @@ module _ (d : FailData) (m : FailMemory) (p : Shown) (i : IsLoading d m p) (calm
 
   none_survives : (s : ℕ) → IsAmong s m.pass.survivors → ⊥
   none_survives s c = subst (λ (x : Pass). IsAmong s x.survivors) i.idle.pass c
-
-  no_image : (s : ℕ) (es : List Entry) → IsAmong es (i.texts.images s) → ⊥
-  no_image s es c = subst (λ (l : List (List Entry)). IsAmong es l) (i.whole.one i.working s) c
 
   sealing : AreSealed then_master m i.texts p
   sealing = record {
@@ -135,7 +133,7 @@ module _ (d : FailData) (m : FailMemory) (p : Shown) (i : IsLoading d m p) (calm
         (none_passing (log_ids d m) m.images m.index m.rest);
     around = i.around;
     images = i.images;
-    repaired = λ s es k e sealed. absurd (no_image s es sealed);
+    repaired = i.repaired;
     whole = record { one = i.whole.one; failed = i.whole.failed };
     chosen = subst (λ (x : Pass). IsPassOf d.head.start (new_of d.mode) x) (sym i.idle.pass)
         (none_chosen d.head.start (new_of d.mode));

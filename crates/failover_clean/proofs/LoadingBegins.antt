@@ -82,7 +82,8 @@ module _ (c : FailConfig) (safe : ℕ) (p : Shown) (may : MayBegin c p) where
         (λ base at. subst (λ (es : List Entry). Represents safe es d.opening) (sym at) nothing_stands);
     rolling = λ n is. ap (λ (x : Start). x.others) (sym (only n is));
     empty = λ _. (refl, refl);
-    real = λ never. absurd (cc);
+    blank = λ none k. refl;
+    real = λ is. absurd (elim is as (λ _. ⊥) [ inl calm ↦ cc | inr repairs ↦ cc ]);
     only = λ k s e none l at. no_entry s e k at l;
     tracked = record {
       clean = λ o q a b. absurd (no_entry a.0 (Object o) o.key refl a.1);
@@ -99,9 +100,10 @@ module _ (c : FailConfig) (safe : ℕ) (p : Shown) (may : MayBegin c p) where
       texted = λ s e k l not at a. absurd (no_keys c.master first e k a at);
     };
     recorded = λ n is. ap (λ (x : Start). x.safe) (sym (only n is));
+    repairs = λ never. absurd (cc);
     images = images;
+    repaired = λ s es k e never. absurd never;
     whole = record { one = λ none s. refl; failed = λ fails. absurd (cc) };
-    working = refl;
     idle = record { pass = refl; rest = refl; commits = refl; waiting = refl };
   }
 

@@ -1,31 +1,38 @@
 -- What a fleet holds of a master that is loading.
-use Rattle.std.proofs.Common.{◌≡◌, ℕ, refl, sym, ap, subst, ◌∙◌}
+use Rattle.std.proofs.Common.{◌≡◌, ℕ, inl, inr, refl, sym, ap, subst, ◌∙◌}
 use Rattle.std.proofs.lemmas.Option.{same_Some}
 use Rattle.replica.specs.Picture.{FleetState, shown_of}
 use Rattle.failover_model.specs.Shown.{Shown as ModelShown, Op}
 use Rattle.failover_model.specs.Data.{FailConfig, FailData}
-use Rattle.failover_model.specs.Steps.{next_start}
-use Rattle.failover_bytes.specs.Keeping.{IsAsked}
+use Rattle.failover_model.specs.Runs.{IsThere, IsFaulted}
+use Rattle.failover_model.specs.Steps.{with_taken, next_start, failing, Reseals}
+use Rattle.failover_model.proofs.Runs.{elsewhere}
+use Rattle.failover_bytes.specs.Keeping.{IsFreedThere, IsAsked}
 use Rattle.failover_bytes.specs.Runs.{read_fleet}
-use Rattle.failover_bytes.specs.Segments.{HeadsAreSegments}
+use Rattle.failover_bytes.specs.Segments.{HeadsAreSegments, SealsSegment, IsHeldOp}
 use Rattle.failover_bytes.specs.Spelled.{IsSpelled}
 use Rattle.failover_bytes.proofs.FleetRuns.{nothing_spelled}
 use Rattle.failover_bytes.proofs.Heads.{rolling_has_segments, ended_has_segments, others_have_segments}
-use Rattle.failover_bytes.proofs.Keeping.{ok_is_spelled, held_op_is_never_wrong}
+use Rattle.failover_bytes.proofs.Keeping.{ok_is_spelled, fault_is_either, held_op_is_never_wrong}
 use Rattle.failover_bytes.proofs.Reading.{spelled_is_read}
 use Rattle.failover_clean.specs.Fleet.{read_of, HoldsLoading, RestoredHoldsLoading, LoadHoldsLoading, OkHoldsLoading}
 use Rattle.failover_clean.specs.Fleet.{LoadingIsNeverWrong, RollHoldsLoading, EndHoldsLoading, SameHoldsLoading}
+use Rattle.failover_clean.specs.Fleet.{RepairHoldsLoading, RepairIsNeverWrong, FaultFailsLoading, MendHoldsLoading}
 use Rattle.failover_clean.specs.Fleet.{OthersLeaveLoading, FinishedHoldsAll}
 use Rattle.failover_clean.specs.Intact.{Knows}
-use Rattle.failover_clean.specs.Loading.{IsLoading}
+use Rattle.failover_clean.specs.Loading.{IsLoadingOp, IsLoading}
 use Rattle.failover_clean.specs.Memory.{FailMemory}
-use Rattle.failover_clean.specs.Ops.{IsHeadOp}
+use Rattle.failover_clean.specs.Ops.{IsHeadOp, RepairsImage}
+use Rattle.failover_clean.specs.Steps.{stopped}
 use Rattle.failover_clean.proofs.FleetAnswers.{head_held, head_plain}
 use Rattle.failover_clean.proofs.FleetSteps.{begins_new, ends_new}
+use Rattle.failover_clean.proofs.Knowing.{fail_knows}
 use Rattle.failover_clean.proofs.LoadedObjects.{load_keeps}
 use Rattle.failover_clean.proofs.Loading.{same_is_loading, finish_is_intact}
 use Rattle.failover_clean.proofs.LoadingBegins.{restored_is_loading}
+use Rattle.failover_clean.proofs.LoadingFails.{loading_fails, loading_mends}
 use Rattle.failover_clean.proofs.LoadingOps.{loading_op_keeps, loading_op_fits}
+use Rattle.failover_clean.proofs.LoadingRepairs.{loading_reseals, loading_repair_keeps, loading_repair_fits}
 use Rattle.failover_clean.proofs.LoadingRolls.{loading_roll_keeps, loading_end_keeps}
 use Rattle.failover_clean.proofs.SameMemories.{same_knows}
 
@@ -70,9 +77,9 @@ load_holds_loading d m f o holds may whole =
 
 -- ---- ops
 
-asked : (d e : FailData) (m : FailMemory) (f : FleetState) (o : Op) (holds : HoldsLoading d m f) → IsHeadOp d o e
+head_asked : (d e : FailData) (m : FailMemory) (f : FleetState) (o : Op) (holds : HoldsLoading d m f) → IsHeadOp d o e
     → IsAsked d.config.master d holds.loading.texts f (read_of d f) o e
-asked d e m f o holds op = record {
+head_asked d e m f o holds op = record {
   spelled = holds.spelled;
   held = holds.loading.held;
   heads = holds.heads;
@@ -80,25 +87,101 @@ asked d e m f o holds op = record {
   seals = (head_plain d.config.master d e (read_of d f) o op).seals;
 }
 
+-- the repair, as the model has it
+repair_held : (d e : FailData) (m : FailMemory) (p : ModelShown) (o : Op) (i : IsLoading d m p) → RepairsImage d m o e
+    → IsHeldOp d i.texts p o e
+repair_held d e m p o i is =
+    let then : FailData = record d { took = with_taken d.took is.s is.b } in
+    inr (inr (inr (inr (inr (inl
+    (subst (λ (x : FailData). Reseals d i.texts o x) (sym is.gives)
+    (subst (λ (x : Op). Reseals d i.texts x then) (sym is.op) (loading_reseals d m p i o e is))))))))
+
+repair_asked : (d e : FailData) (m : FailMemory) (f : FleetState) (o : Op) (holds : HoldsLoading d m f)
+    → RepairsImage d m o e → IsAsked d.config.master d holds.loading.texts f (read_of d f) o e
+repair_asked d e m f o holds is = record {
+  spelled = holds.spelled;
+  held = holds.loading.held;
+  heads = holds.heads;
+  op = repair_held d e m (read_of d f) o holds.loading is;
+  seals = subst (SealsSegment d.config.master) (sym is.op) is.whole;
+}
+
 pub ok_holds_loading : OkHoldsLoading
 ok_holds_loading d e m f g o holds op there took =
     let p = read_of d f in
     let i = holds.loading in
-    let then = ok_is_spelled d.config.master d e i.texts f g p o (asked d e m f o holds op) took in
+    let then = ok_is_spelled d.config.master d e i.texts f g p o (head_asked d e m f o holds op) took in
     let fits = loading_op_fits d e m p o i holds.knows op in
     let one : fits.0 ≡ then.0 = same_Some fits.0 then.0 (sym fits.1 ∙ then.1) in
     loading_at d.config.master e m g then.0
     (ap (λ (c : FailConfig). c.master) (head_plain d.config.master d e p o op).config) (record {
       spelled = then.2;
       heads = then.3;
-      loading = loading_op_keeps d e m p then.0 o i op there then.1;
+      loading = (loading_op_keeps d e m p then.0 o i op there then.1).1;
       knows = subst (Knows e m) one fits.2;
     })
 
 pub loading_is_never_wrong : LoadingIsNeverWrong
 loading_is_never_wrong d e m f g o holds op on refused =
-    held_op_is_never_wrong d.config.master d e holds.loading.texts f g (read_of d f) o (asked d e m f o holds op)
+    held_op_is_never_wrong d.config.master d e holds.loading.texts f g (read_of d f) o (head_asked d e m f o holds op)
     holds.knows.log on (head_plain d.config.master d e (read_of d f) o op).freed refused
+
+-- ---- repairs
+
+pub repair_holds_loading : RepairHoldsLoading
+repair_holds_loading d e m f g o holds is there took =
+    let p = read_of d f in
+    let i = holds.loading in
+    let then = ok_is_spelled d.config.master d e i.texts f g p o (repair_asked d e m f o holds is) took in
+    let fits = loading_repair_fits d e m p o i holds.knows is in
+    let one : fits.0 ≡ then.0 = same_Some fits.0 then.0 (sym fits.1 ∙ then.1) in
+    loading_at d.config.master e m g then.0 (ap (λ (x : FailData). x.config.master) is.gives) (record {
+      spelled = then.2;
+      heads = then.3;
+      loading = (loading_repair_keeps d e m p then.0 o i is there then.1).1;
+      knows = subst (Knows e m) one fits.2;
+    })
+
+pub repair_is_never_wrong : RepairIsNeverWrong
+repair_is_never_wrong d e m f g o holds is on refused =
+    held_op_is_never_wrong d.config.master d e holds.loading.texts f g (read_of d f) o (repair_asked d e m f o holds is)
+    holds.knows.log on (subst (IsFreedThere (read_of d f)) (sym is.op) tt) refused
+
+-- ---- a failover
+
+asked : (d e : FailData) (m : FailMemory) (f : FleetState) (o : Op) (holds : HoldsLoading d m f) → IsLoadingOp d m o e
+    → IsAsked d.config.master d holds.loading.texts f (read_of d f) o e
+asked d e m f o holds (inl op) = head_asked d e m f o holds op
+asked d e m f o holds (inr is) = repair_asked d e m f o holds is
+
+-- it goes on as it was, whatever the op has done
+still_loading : (d e : FailData) (m : FailMemory) (p q : ModelShown) (o : Op) → IsLoading d m p → IsLoadingOp d m o e
+    → IsThere d.config o → IsFaulted p o q → IsLoading d m q
+still_loading d e m p q o i op at (inl same) = subst (IsLoading d m) (sym same) i
+still_loading d e m p q o i (inl op) at (inr took) = (loading_op_keeps d e m p q o i op at took).0
+still_loading d e m p q o i (inr is) at (inr took) = (loading_repair_keeps d e m p q o i is at took).0
+
+pub fault_fails_loading : FaultFailsLoading
+fault_fails_loading d e m f g o b holds op at on may refused =
+    let p = read_of d f in
+    let i = holds.loading in
+    let then = fault_is_either d.config.master d e i.texts f g p o (asked d e m f o holds op) refused in
+    loading_at d.config.master (failing d b) (stopped m) g then.0 refl (record {
+      spelled = then.2;
+      heads = (others_have_segments d.config.master d holds.heads).1 b;
+      loading = loading_fails d m then.0 b (still_loading d e m p then.0 o i op at then.1) may;
+      knows = fail_knows d m p then.0 b holds.knows (elsewhere p then.0 o b on then.1);
+    })
+
+pub mend_holds_loading : MendHoldsLoading
+mend_holds_loading d m f holds repairs =
+    let is = loading_mends d m (read_of d f) holds.loading holds.knows repairs in
+    record {
+      spelled = holds.spelled;
+      heads = (others_have_segments d.config.master d holds.heads).2;
+      loading = is.0;
+      knows = is.1;
+    }
 
 -- ---- rolls
 

@@ -23,7 +23,7 @@ use Rattle.clean_model.proofs.Lists.{image_here, image_there}
 use Rattle.clean_model.proofs.LogSetChanges.{IsMore, more_tracked, more_around, was_in}
 use Rattle.failover_model.specs.Text.{Text}
 use Rattle.failover_model.specs.Shown.{Shown}
-use Rattle.failover_model.specs.Data.{bare, front_entries, Mode, Calm, Rolls, FailData, new_of, is_failing, state_of}
+use Rattle.failover_model.specs.Data.{bare, front_entries, Mode, Calm, Repairs, FailData, new_of, is_failing, state_of}
 use Rattle.failover_model.specs.Log.{Texts, IsBase, BasesStand}
 use Rattle.failover_model.specs.Steps.{rolling, texts_rolling, ids_now, next_start, MayTurn, IsRoll, ended, EndsRoll}
 use Rattle.failover_model.proofs.Ending.{ending_is_held}
@@ -31,12 +31,12 @@ use Rattle.failover_model.proofs.KnownSteps.{rolling_known, ending_known}
 use Rattle.failover_model.proofs.Rolling.{rolling_is_held}
 use Rattle.failover_model.proofs.Texts.{base_moves, variant_back, at_new, new_there, new_other, new_images, new_none}
 use Rattle.failover_model.proofs.Turning.{base_push, ordinary_is_roll}
-use Rattle.failover_clean.specs.Intact.{Knows}
+use Rattle.failover_clean.specs.Intact.{AreRepaired, Knows}
 use Rattle.failover_clean.specs.Loading.{IsLoading, LoadingRollKeeps, LoadingEndKeeps}
 use Rattle.failover_clean.specs.Memory.{FailMemory, entries_in, log_ids, log_set_of, AreImages}
 use Rattle.failover_clean.specs.Steps.{rolled}
 use Rattle.failover_clean.proofs.Ids.{ids_out, in_digest, in_survivors, now_is, now_out, now_own, now_others, new_in}
-use Rattle.failover_clean.proofs.Ids.{new_one}
+use Rattle.failover_clean.proofs.Ids.{now_none, new_one}
 use Rattle.failover_clean.proofs.LoadingOps.{knows_log}
 use Rattle.failover_clean.proofs.Openings.{IsImage, beginning, no_keys, image_bare, image_still}
 
@@ -79,21 +79,30 @@ module _ (d : FailData) (m : FailMemory) (p : Shown) (mode : Mode) (i : IsLoadin
   roll : IsRoll d i.texts p n mode
   roll = ordinary_is_roll d i.texts p mode i.held may
 
-  -- no failover is open
-  which : (d.mode ≡ Calm) × (mode ≡ Rolls n)
-  which = elim may.may as (λ _. (d.mode ≡ Calm) × (mode ≡ Rolls n)) [
-    | inl calm ↦ calm
-    | inr mends ↦ absurd (i.whole.failed (ap is_failing mends.0) i.working)
+  is_new : new_of mode ≡ Some n
+  is_new = elim may.may as (λ _. new_of mode ≡ Some n) [
+    | inl calm ↦ ap new_of calm.1
+    | inr mends ↦ ap new_of mends.1
   ]
 
-  some : id ≡ 0 → ⊥
-  some = i.real which.0
-
-  is_new : new_of mode ≡ Some n
-  is_new = ap new_of which.1
-
   no_new : new_of d.mode ≡ None
-  no_new = ap new_of which.0
+  no_new = elim may.may as (λ _. new_of d.mode ≡ None) [
+    | inl calm ↦ ap new_of calm.0
+    | inr mends ↦ ap new_of mends.0
+  ]
+
+  -- no roll is under way before, nor is a failover ending then
+  not_calm : mode ≡ Calm → ⊥
+  not_calm is = let never : None ≡ Some n = sym (ap new_of is) ∙ is_new in cc
+
+  not_repairs : mode ≡ Repairs → ⊥
+  not_repairs is = let never : None ≡ Some n = sym (ap new_of is) ∙ is_new in cc
+
+  was_failing : is_failing mode ≡ true → is_failing d.mode ≡ true
+  was_failing fails = elim may.may as (λ _. is_failing d.mode ≡ true) [
+    | inl calm ↦ absurd (let never : false ≡ true = sym (ap is_failing calm.1) ∙ fails in cc)
+    | inr mends ↦ ap is_failing mends.0
+  ]
 
   new_is : (x : Start) → new_of mode ≡ Some x → n ≡ x
   new_is x is = same_Some n x (sym is_new ∙ is)
@@ -114,13 +123,30 @@ module _ (d : FailData) (m : FailMemory) (p : Shown) (mode : Mode) (i : IsLoadin
       let lt = below_at id d.head.start.others s i.held.logged.head.below c in
       let next = i.held.logged.head.next in omega arith
 
-  stands : (base : List Entry) → IsBase now d.head.start.others base
+  stands : (id ≡ 0 → ⊥) → (base : List Entry) → IsBase now d.head.start.others base
       → Represents d.head.start.safe (base ++ front_entries d.head (length d.head.units)) d.opening
-  stands base at = i.stands some base (base_before d.head.start.others old_below base at)
+  stands some base at = i.stands some base (base_before d.head.start.others old_below base at)
+
+  -- before the first head nothing was loaded
+  blank_stands : id ≡ 0 → BasesStand now n d.opening
+  blank_stands none base at =
+      let contents : (k : Key) → d.opening.contents k ≡ None = i.blank none in
+      let nothing : base ≡ [] =
+      subst (λ (ids : List ℕ). IsBase now ids base) (now_none d.head.start none) at in
+      subst (λ (safe : ℕ). Represents safe base d.opening) (sym safe_is)
+      (subst (λ (bag : List Entry). Represents d.opening.safe bag d.opening) (sym nothing) (record {
+        meaning = λ k x. (
+          λ h. absurd (let never : None ≡ Some x = sym (contents k) ∙ h in cc),
+          λ top. absurd top.held,
+        );
+        clean = λ o q a b at v. absurd a;
+        below = λ k e no l of. absurd l;
+        safe = omega arith;
+      }))
 
   -- the new base is all that the log holds
-  new_stands : BasesStand now n d.opening
-  new_stands base at =
+  some_stands : (id ≡ 0 → ⊥) → BasesStand now n d.opening
+  some_stands some base at =
       let front = front_entries d.head (length d.head.units) in
       let before = base_before n.others (λ s c. below_at n.id n.others s roll.below c) base at in
       let parts = base_push i.texts d.head.start.others id base
@@ -133,6 +159,12 @@ module _ (d : FailData) (m : FailMemory) (p : Shown) (mode : Mode) (i : IsLoadin
       (subst (λ (bag : List Entry). Represents d.opening.safe bag d.opening)
       (ap (λ (es : List Entry). parts.1 ++ es) (sym own) ∙ sym parts.4)
       (recorded_anew d.head.start.safe (parts.1 ++ front) d.opening (i.stands some parts.1 parts.3)))
+
+  new_stands : BasesStand now n d.opening
+  new_stands = elim (cases_eq id 0) as (λ _. BasesStand now n d.opening) [
+    | inl none ↦ blank_stands none
+    | inr some ↦ some_stands some
+  ]
 
   -- ---- the log set
 
@@ -192,10 +224,19 @@ module _ (d : FailData) (m : FailMemory) (p : Shown) (mode : Mode) (i : IsLoadin
         (image_bare d.config.master n.id (bare n)))
   ]
 
-  no_image : (s : ℕ) → now.images s ≡ []
-  no_image s = elim (cases_eq s n.id) as (λ _. now.images s ≡ []) [
+  no_image : d.failed ≡ [] → (s : ℕ) → now.images s ≡ []
+  no_image working s = elim (cases_eq s n.id) as (λ _. now.images s ≡ []) [
     | inl same ↦ ap now.images same ∙ new_none i.texts n.id (bare n)
-    | inr other ↦ new_images i.texts n.id (bare n) s other ∙ i.whole.one i.working s
+    | inr other ↦ new_images i.texts n.id (bare n) s other ∙ i.whole.one working s
+  ]
+
+  repaired : AreRepaired memory now
+  repaired s es k f image at l = elim (cases_eq s n.id) as (λ _. IsAmong f es) [
+    | inl same ↦ absurd (subst (λ (l : List (List Entry)). IsAmong es l)
+        (ap now.images same ∙ new_none i.texts n.id (bare n)) image)
+    | inr other ↦ i.repaired s es k f
+        (subst (λ (l : List (List Entry)). IsAmong es l) (new_images i.texts n.id (bare n) s other) image) at
+        (subst (λ (l : List Entry). IsAmong f l) (image_there m.images n.id opening s other) l)
   ]
 
   begun : IsLoading e memory p
@@ -204,11 +245,12 @@ module _ (d : FailData) (m : FailMemory) (p : Shown) (mode : Mode) (i : IsLoadin
     held = rolling_is_held d i.texts p n mode i.held roll;
     begins = i.begins;
     numbers = i.numbers;
-    stands = λ _. stands;
+    stands = stands;
     new = λ x is. subst (λ (y : Start). BasesStand now y d.opening) (new_is x is) new_stands;
     rolling = λ x is. ap (λ (y : Start). y.others) (sym (new_is x is));
     empty = i.empty;
-    real = λ calm. absurd (let never : Rolls n ≡ Calm = sym which.1 ∙ calm in cc);
+    blank = i.blank;
+    real = λ is. absurd (elim is as (λ _. ⊥) [ inl calm ↦ not_calm calm | inr repairs ↦ not_repairs repairs ]);
     only = only;
     tracked = more_tracked log new more m.pass (none_survive d m p i) m.index contents i.tracked;
     around = more_around log new more m.pass (none_survive d m p i) contents d.opening.safe d.next e.next i.around
@@ -218,12 +260,10 @@ module _ (d : FailData) (m : FailMemory) (p : Shown) (mode : Mode) (i : IsLoadin
           | inr same ↦ inr (omega arith)
         ]);
     recorded = λ x is. ap (λ (y : Start). y.safe) (sym (new_is x is)) ∙ safe_is;
+    repairs = λ is. absurd (not_repairs is);
     images = images;
-    whole = record {
-      one = λ _. no_image;
-      failed = λ fails. absurd (let never : false ≡ true = sym (ap is_failing which.1) ∙ fails in cc);
-    };
-    working = i.working;
+    repaired = repaired;
+    whole = record { one = no_image; failed = λ fails. i.whole.failed (was_failing fails) };
     idle = record { pass = i.idle.pass; rest = i.idle.rest; commits = refl; waiting = i.idle.waiting };
   }
 
@@ -307,6 +347,7 @@ module _ (d : FailData) (m : FailMemory) (p : Shown) (n : Start) (mode : Mode) (
     new = λ x is. absurd (never_new x is);
     rolling = λ x is. absurd (never_new x is);
     empty = λ none. absurd (real none);
+    blank = λ none. absurd (real none);
     real = λ _. real;
     only = λ k s f none l at. i.only k s f none (was_in old_log last_log last_more s f k at l) at;
     tracked = more_tracked old_log last_log last_more m.pass (none_survive d m p i) m.index d.opening.contents
@@ -314,7 +355,9 @@ module _ (d : FailData) (m : FailMemory) (p : Shown) (n : Start) (mode : Mode) (
     around = more_around old_log last_log last_more m.pass (none_survive d m p i) d.opening.contents d.opening.safe
         d.next d.next i.around (omega arith) (λ s c. inl (from_last s c));
     recorded = λ x is. absurd (never_new x is);
+    repairs = λ _. let same = i.recorded n old_new in omega arith;
     images = λ s c. i.images s (from_last s c);
+    repaired = i.repaired;
     whole = record {
       one = i.whole.one;
       failed = λ fails. elim ends.may as (λ _. d.failed ≡ [] → ⊥) [
@@ -322,7 +365,6 @@ module _ (d : FailData) (m : FailMemory) (p : Shown) (n : Start) (mode : Mode) (
         | inr closes ↦ i.whole.failed (ap is_failing closes.0)
       ];
     };
-    working = i.working;
     idle = i.idle;
   }
 

@@ -33,7 +33,7 @@ there : (c : FailConfig) (o : Op) (b s : ℕ) (act : Act) → o ≡ On b s act �
 there c o b s act is at = subst (IsThere c) is at
 
 -- the op that was taken is this one
-taken_so : (p q : Shown) (o n : Op) → o ≡ n → taken p o ≡ Some q → taken p n ≡ Some q
+pub taken_so : (p q : Shown) (o n : Op) → o ≡ n → taken p o ≡ Some q → taken p n ≡ Some q
 taken_so p q o n is took = subst (λ (x : Op). taken p x ≡ Some q) is took
 
 -- what an op seals, and where
@@ -50,7 +50,7 @@ segment_of (On b s act) = s
 segment_of (Raise id) = id
 
 -- what is sealed in a repair is the image
-repair_image : (d e : FailData) (m : FailMemory) (texts : Texts) (s b : ℕ) (is : Reseals d texts (seal_op m s b) e)
+pub repair_image : (d e : FailData) (m : FailMemory) (texts : Texts) (s b : ℕ) (is : Reseals d texts (seal_op m s b) e)
     → is.image ≡ data_of m is.s
 repair_image d e m texts s b is = sym (ap sealed_entries is.op) ∙ ap (data_of m) (ap segment_of is.op)
 

@@ -1,6 +1,6 @@
 -- A lost replica of another segment is sealed anew from its image.
-use Rattle.std.proofs.Common.{◌≡◌, ℕ, ◌<◌, ◌⊎◌, inl, inr, true, false, List, [], ◌∷◌, ◌++◌, Some, refl, sym, ap, subst}
-use Rattle.std.proofs.Common.{◌∙◌, arith}
+use Rattle.std.proofs.Common.{◌≡◌, ℕ, ◌<◌, ◌≤◌, ◌⊎◌, inl, inr, true, false, List, [], ◌∷◌, ◌++◌, Some, refl, sym, ap}
+use Rattle.std.proofs.Common.{subst, ◌∙◌, arith}
 use Rattle.std.specs.Prelude.{Option, None, ◌==◌}
 use Rattle.std.proofs.lemmas.Bool.{cases_eq}
 use Rattle.std.proofs.lemmas.Bool.Decides.{nat_tests}
@@ -11,20 +11,24 @@ use Rattle.entry.specs.Meaning.{IsOfKey}
 use Rattle.entry.proofs.BagLemmas.{among_push, among_left}
 use Rattle.log_model.specs.Data.{Start, entries_of}
 use Rattle.log_model.specs.Ids.{has}
+use Rattle.clean_model.specs.Intact.{IsPassOf}
 use Rattle.clean_model.specs.Memory.{LogSet, new_ids}
+use Rattle.clean_model.specs.Tracked.{IsTracked, IsPassing, IsAround}
 use Rattle.failover_model.specs.Text.{Text}
 use Rattle.failover_model.specs.Shown.{Shown, Seal, Op, On, taken}
-use Rattle.failover_model.specs.Data.{FailData, new_of, is_failing, state_of}
+use Rattle.failover_model.specs.Data.{Repairs, FailData, new_of, is_failing, state_of}
 use Rattle.failover_model.specs.Log.{Texts, BasesStand, IsLogHeld, IsStanding}
-use Rattle.failover_model.specs.Steps.{with_taken, Reseals, texts_resealed}
+use Rattle.failover_model.specs.Steps.{with_taken, MayRepair, Reseals, texts_resealed}
 use Rattle.failover_model.proofs.Images.{between_stands}
 use Rattle.failover_model.proofs.Lists.{taken_either}
 use Rattle.failover_model.proofs.Resealing.{reseals_held, reseals_standing}
 use Rattle.failover_model.proofs.States.{own_entries}
+use Rattle.failover_clean.specs.Covered.{map_of}
 use Rattle.failover_clean.specs.Intact.{AreRepaired, IsIntact}
 use Rattle.failover_clean.specs.Laws.{ImageIsRepair, RepairKeeps}
-use Rattle.failover_clean.specs.Memory.{FailMemory, entries_in, log_ids, log_set_of, data_of}
+use Rattle.failover_clean.specs.Memory.{FailMemory, entries_in, log_ids, log_set_of, data_of, AreImages}
 use Rattle.failover_clean.specs.Past.{ArePast}
+use Rattle.failover_clean.specs.Steps.{seal_op}
 use Rattle.failover_clean.proofs.Ids.{ids_out, in_digest, now_out, now_others}
 use Rattle.failover_clean.proofs.Openings.{data_in}
 use Rattle.failover_clean.proofs.Pasts.{resealed_past}
@@ -32,47 +36,61 @@ use Rattle.failover_clean.proofs.Sealed.{still_sealed}
 use Rattle.failover_clean.proofs.Taking.{apart}
 use Rattle.failover_clean.proofs.TextsIn.{data_keyed, image_text}
 
-module _ (d : FailData) (m : FailMemory) (p : Shown) (i : IsIntact d m p) where
+-- ---- of a master that is loading too
+
+-- What a repair needs: images and index track the map over the texts that the backups hold.
+pub record IsRepairable (d : FailData) (m : FailMemory) (p : Shown) : Type 0 where
+  pub texts : Texts
+  pub held : IsLogHeld d texts p
+  pub tracked : IsTracked (log_set_of d m texts) m.pass m.index (map_of d)
+  pub passing : IsPassing (log_ids d m) m.images m.pass m.index m.rest
+  pub around : IsAround (log_set_of d m texts) m.pass (map_of d) (state_of d).safe d.next
+  pub images : AreImages d m texts
+  pub repaired : AreRepaired m texts
+  pub chosen : IsPassOf d.head.start (new_of d.mode) m.pass
+  pub repairs : d.mode ≡ Repairs → (state_of d).safe ≤ d.head.start.safe
+
+module _ (d : FailData) (m : FailMemory) (p : Shown) (i : IsRepairable d m p) where
   -- another segment of the digest in force is no survivor
   other_apart : (s : ℕ) → IsAmong s d.head.start.others → IsAmong s m.pass.survivors → ⊥
   other_apart s listed survivor =
       i.chosen.outside s survivor (among_left s d.head.start.others (d.head.start.id ∷ []) listed)
 
   other_counts : (s : ℕ) → IsAmong s d.head.start.others → IsAmong s (log_ids d m)
-  other_counts s listed = in_digest d m s (now_others d.head.start s i.log.held.logged.head.below listed)
+  other_counts s listed = in_digest d m s (now_others d.head.start s i.held.logged.head.below listed)
 
   -- what its image has of a key its text has
   image_within : (s : ℕ) → IsAmong s d.head.start.others → (e : Entry) (k : Key) → IsOfKey k e → IsAmong e (m.images s)
-      → IsAmong e (entries_in i.log.texts s)
+      → IsAmong e (entries_in i.texts s)
   image_within s listed e k at l = i.around.texted s e k (other_counts s listed) (other_apart s listed) at l
 
   data_within : (s : ℕ) → IsAmong s d.head.start.others → (e : Entry) → IsAmong e (data_of m s)
-      → IsAmong e (entries_in i.log.texts s)
+      → IsAmong e (entries_in i.texts s)
   data_within s listed e l =
       let is = data_keyed e (m.images s) l in image_within s listed e is.key is.of_key is.among
 
-pub image_is_repair : ImageIsRepair
-image_is_repair d m p s b i may = record {
-  b = b;
-  s = s;
-  image = data_of m s;
-  mode = may.mode;
-  listed = may.listed;
-  works = may.works;
-  apart = may.apart;
-  few = may.few;
-  within = data_within d m p i s may.listed;
-  op = ap (λ (t : Text). On b s (Seal t))
-      (image_text d.config.master s (i.log.texts.text s) (m.images s)
-      (i.images s (other_counts d m p i s may.listed)));
-  gives = refl;
-}
+  pub image_reseals : (s b : ℕ) → MayRepair d s b
+      → Reseals d i.texts (seal_op m s b) (record d { took = with_taken d.took s b })
+  image_reseals s b may = record {
+    b = b;
+    s = s;
+    image = data_of m s;
+    mode = may.mode;
+    listed = may.listed;
+    works = may.works;
+    apart = may.apart;
+    few = may.few;
+    within = data_within s may.listed;
+    op = ap (λ (t : Text). On b s (Seal t))
+        (image_text d.config.master s (i.texts.text s) (m.images s) (i.images s (other_counts s may.listed)));
+    gives = refl;
+  }
 
-module _ (d e : FailData) (m : FailMemory) (p q : Shown) (o : Op) (i : IsIntact d m p)
-    (is : Reseals d i.log.texts o e) (of_image : is.image ≡ data_of m is.s) (within : is.b < d.config.backups)
+module _ (d e : FailData) (m : FailMemory) (p q : Shown) (o : Op) (i : IsRepairable d m p)
+    (is : Reseals d i.texts o e) (of_image : is.image ≡ data_of m is.s) (within : is.b < d.config.backups)
     (took : taken p o ≡ Some q) where
   abbrev old : Texts
-  old = i.log.texts
+  old = i.texts
 
   abbrev now : Texts
   now = texts_resealed old is
@@ -83,11 +101,11 @@ module _ (d e : FailData) (m : FailMemory) (p q : Shown) (o : Op) (i : IsIntact 
   images_here : now.images s ≡ is.image ∷ old.images s
   images_here = let t : (s == s) ≡ true = grind (arith, nat_tests) in rw t refl
 
-  images_there : (z : ℕ) → (z ≡ s → ⊥) → now.images z ≡ old.images z
+  pub images_there : (z : ℕ) → (z ≡ s → ⊥) → now.images z ≡ old.images z
   images_there z other = let t : (z == s) ≡ false = grind (arith, nat_tests) in rw t refl
 
-  repaired : AreRepaired m now
-  repaired z xs k f at_one of l = elim (cases_eq z s) as (λ _. IsAmong f xs) [
+  pub repaired_now : AreRepaired m now
+  repaired_now z xs k f at_one of l = elim (cases_eq z s) as (λ _. IsAmong f xs) [
     | inl same ↦ elim (subst (λ (ys : List (List Entry)). IsAmong xs ys) (ap now.images same ∙ images_here) at_one)
         as (λ _. IsAmong f xs) [
           | inl new ↦ subst (λ (ys : List Entry). IsAmong f ys)
@@ -99,8 +117,8 @@ module _ (d e : FailData) (m : FailMemory) (p q : Shown) (o : Op) (i : IsIntact 
         (subst (λ (ys : List (List Entry)). IsAmong xs ys) (images_there z other) at_one) of l
   ]
 
-  both_held : IsLogHeld d now q × IsLogHeld e now q
-  both_held = reseals_held d e old p q o i.log.held is within took
+  pub both_held : IsLogHeld d now q × IsLogHeld e now q
+  both_held = reseals_held d e old p q o i.held is within took
 
   abbrev log : LogSet
   log = log_set_of d m old
@@ -108,15 +126,15 @@ module _ (d e : FailData) (m : FailMemory) (p q : Shown) (o : Op) (i : IsIntact 
   -- the head has nothing yet
   head_bare : entries_in old d.head.start.id ≡ []
   head_bare =
-      let none = i.log.held.logged.repairs is.mode in
-      own_entries d old i.log.held.logged
+      let none = i.held.logged.repairs is.mode in
+      own_entries d old i.held.logged
       ∙ ap (λ (es : List Entry). es ++ entries_of d.head.units) none.0 ∙ ap entries_of none.1
 
   no_new : new_of d.mode ≡ None
   no_new = ap new_of is.mode
 
-  stands : BasesStand now d.head.start (state_of d)
-  stands base at =
+  pub resealed_stands : BasesStand now d.head.start (state_of d)
+  resealed_stands base at =
       between_stands log m.pass m.index m.rest (state_of d) d.next d.head.start.safe now d.head.start.others base
       i.tracked i.passing i.around
       (record {
@@ -124,7 +142,7 @@ module _ (d e : FailData) (m : FailMemory) (p q : Shown) (o : Op) (i : IsIntact 
         image = λ z es k f c variant of l. elim variant as (λ _. IsAmong f es) [
           | inl text ↦ subst (λ (xs : List Entry). IsAmong f xs) (sym text)
               (image_within d m p i z c f k of l)
-          | inr image ↦ repaired z es k f image of l
+          | inr image ↦ repaired_now z es k f image of l
         ];
         text = λ z es k f c variant of l. elim variant as (λ _. IsAmong f (entries_in old z)) [
           | inl text ↦ subst (λ (xs : List Entry). IsAmong f xs) text l
@@ -151,32 +169,64 @@ module _ (d e : FailData) (m : FailMemory) (p q : Shown) (o : Op) (i : IsIntact 
       })
       (i.repairs is.mode) at
 
-  both_stand : IsStanding d now × IsStanding e now
-  both_stand = reseals_standing d e old p q o i.log.held i.log.standing is stands within took
+-- ---- of a master
 
-  survivor_apart : (z : ℕ) → IsAmong z m.pass.survivors → z ≡ s → ⊥
+abbrev repairable : (d : FailData) (m : FailMemory) (p : Shown) → IsIntact d m p → IsRepairable d m p
+repairable d m p i = record {
+  texts = i.log.texts;
+  held = i.log.held;
+  tracked = i.tracked;
+  passing = i.passing;
+  around = i.around;
+  images = i.images;
+  repaired = i.repaired;
+  chosen = i.chosen;
+  repairs = i.repairs;
+}
+
+pub image_is_repair : ImageIsRepair
+image_is_repair d m p s b i may = image_reseals d m p (repairable d m p i) s b may
+
+module _ (d e : FailData) (m : FailMemory) (p q : Shown) (o : Op) (i : IsIntact d m p)
+    (is : Reseals d i.log.texts o e) (of_image : is.image ≡ data_of m is.s) (within : is.b < d.config.backups)
+    (took : taken p o ≡ Some q) where
+  abbrev told : IsRepairable d m p
+  told = repairable d m p i
+
+  abbrev now_texts : Texts
+  now_texts = texts_resealed i.log.texts is
+
+  held_then : IsLogHeld d now_texts q × IsLogHeld e now_texts q
+  held_then = both_held d e m p q o told is of_image within took
+
+  both_stand : IsStanding d now_texts × IsStanding e now_texts
+  both_stand = reseals_standing d e i.log.texts p q o i.log.held i.log.standing is
+      (resealed_stands d e m p q o told is of_image within took) within took
+
+  survivor_apart : (z : ℕ) → IsAmong z m.pass.survivors → z ≡ is.s → ⊥
   survivor_apart z survivor same =
-      other_apart d m p i s is.listed (subst (λ (x : ℕ). IsAmong x m.pass.survivors) same survivor)
+      other_apart d m p told is.s is.listed (subst (λ (x : ℕ). IsAmong x m.pass.survivors) same survivor)
 
-  made : (taken_now : ℕ → List ℕ) → IsLogHeld (record d { took = taken_now }) now q
-      → IsStanding (record d { took = taken_now }) now
+  made : (taken_now : ℕ → List ℕ) → IsLogHeld (record d { took = taken_now }) now_texts q
+      → IsStanding (record d { took = taken_now }) now_texts
       → ((z b : ℕ) → IsAmong z m.pass.survivors → has (taken_now z) b ≡ true → has (d.took z) b ≡ true)
-      → ArePast (record d { took = taken_now }) now i.past → IsIntact (record d { took = taken_now }) m q
+      → ArePast (record d { took = taken_now }) now_texts i.past → IsIntact (record d { took = taken_now }) m q
   made taken_now held standing took_same before = record {
-    log = record { texts = now; held = held; standing = standing };
+    log = record { texts = now_texts; held = held; standing = standing };
     tracked = i.tracked;
     passing = i.passing;
     around = i.around;
     images = i.images;
-    repaired = repaired;
+    repaired = repaired_now d e m p q o told is of_image within took;
     whole = record {
       one = λ none. absurd (i.whole.failed (ap is_failing is.mode) none);
       failed = i.whole.failed;
     };
     chosen = i.chosen;
-    sealing = still_sealed d (record d { took = taken_now }) m old now p q m.images m.index m.commits i.sealing
-        (λ z survivor. refl) (λ z survivor. refl) (λ z survivor. images_there z (survivor_apart z survivor))
-        (λ b z survivor. apart p q is.b s _ o is.op took b z (survivor_apart z survivor)) took_same;
+    sealing = still_sealed d (record d { took = taken_now }) m i.log.texts now_texts p q m.images m.index m.commits
+        i.sealing (λ z survivor. refl) (λ z survivor. refl)
+        (λ z survivor. images_there d e m p q o told is of_image within took z (survivor_apart z survivor))
+        (λ b z survivor. apart p q is.b is.s _ o is.op took b z (survivor_apart z survivor)) took_same;
     rolling = i.rolling;
     committed = λ c.
         let was = i.committed c in record { real = was.real; done = was.done; images = was.images };
@@ -190,7 +240,7 @@ module _ (d e : FailData) (m : FailMemory) (p q : Shown) (o : Op) (i : IsIntact 
 
 pub repair_keeps : RepairKeeps
 repair_keeps d e m p q o i is of_image within took =
-    let held = both_held d e m p q o i is of_image within took in
+    let held = held_then d e m p q o i is of_image within took in
     let stand = both_stand d e m p q o i is of_image within took in
     let now = texts_resealed i.log.texts is in
     let before = resealed_past d e i.log.texts o i.past is i.before in (

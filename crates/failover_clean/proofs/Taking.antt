@@ -44,7 +44,8 @@ module _ (d : FailData) (m : FailMemory) (p : Shown) (i : IsIntact d m p) where
     among_own (t ∷ ids) s same = inr (among_own ids s same)
 
   -- what an op leaves: of a master with these counts and this mode, and a picture that has what it had elsewhere
-  module _ (counts : ℕ → ℕ) (shut : List ℕ) (took : ℕ → List ℕ) (mode : Mode) (q : Shown)
+  module _ (counts : ℕ → ℕ) (shut : List ℕ) (took : ℕ → List ℕ) (mode : Mode) (frozen : ℕ)
+      (q : Shown)
       (new : new_of mode ≡ new_of d.mode)
       (real : (mode ≡ Calm) ⊎ (mode ≡ Repairs) → (d.mode ≡ Calm) ⊎ (d.mode ≡ Repairs))
       (repairs : mode ≡ Repairs → d.mode ≡ Repairs)
@@ -52,7 +53,7 @@ module _ (d : FailData) (m : FailMemory) (p : Shown) (i : IsIntact d m p) where
       (took_same : (s b : ℕ) → IsNoHead d s → has (took s) b ≡ true → has (d.took s) b ≡ true)
       (held_same : (b s : ℕ) → IsNoHead d s → q.holds b s ≡ p.holds b s) where
     abbrev e : FailData
-    e = record d { counts = counts; shut = shut; took = took; mode = mode }
+    e = record d { counts = counts; shut = shut; took = took; mode = mode; frozen = frozen }
 
     abbrev ids_of : Option Start → List ℕ
     ids_of o = ids_now d.head.start ++ (new_ids o ++ m.pass.survivors)
@@ -100,7 +101,7 @@ module _ (d : FailData) (m : FailMemory) (p : Shown) (i : IsIntact d m p) where
   pub moved : (q : Shown) → ((b s : ℕ) → IsNoHead d s → q.holds b s ≡ p.holds b s) → IsLogHeld d i.log.texts q
       → IsIntact d m q
   moved q held_same held =
-      moved_on d.counts d.shut d.took d.mode q refl (λ is. is) (λ is. is) (λ is. is) (λ s b no has_it. has_it)
+      moved_on d.counts d.shut d.took d.mode d.frozen q refl (λ is. is) (λ is. is) (λ is. is) (λ s b no has_it. has_it)
       held_same held i.log.standing i.before
 
 -- an op on a backup that puts or changes a replica of one segment
@@ -134,7 +135,7 @@ extend_keeps d e m p q o i op took =
     let counts = with_count d.counts op.b op.to in (
       moved d m p i q same held.0,
       subst (λ (y : FailData). IsIntact y m q) (sym op.gives)
-          (moved_on d m p i counts d.shut d.took d.mode q refl (λ is. is) (λ is. is) (λ is. is)
+          (moved_on d m p i counts d.shut d.took d.mode d.frozen q refl (λ is. is) (λ is. is) (λ is. is)
           (λ s b no has_it. has_it) same (subst (λ (y : FailData). IsLogHeld y texts q) op.gives held.1)
           (subst (λ (y : FailData). IsStanding y texts) op.gives standing)
           (subst (λ (y : FailData). ArePast y texts i.past) op.gives before)),
@@ -156,7 +157,7 @@ open_keeps d e m p q o i op within took =
     let took_now = with_taken d.took n.id op.b in (
       moved d m p i q same held.0,
       subst (λ (y : FailData). IsIntact y m q) (sym op.gives)
-          (moved_on d m p i d.counts d.shut took_now d.mode q refl (λ is. is) (λ is. is) (λ is. is)
+          (moved_on d m p i d.counts d.shut took_now d.mode d.frozen q refl (λ is. is) (λ is. is) (λ is. is)
           (λ s b no has_it. elim (taken_either d.took n.id op.b s b has_it) as (λ _. has (d.took s) b ≡ true) [
             | inl at ↦ absurd (no.new n new at.0)
             | inr old ↦ old
@@ -178,7 +179,7 @@ replace_keeps d e m p q o i op within took =
     let counts = with_count d.counts op.b (length d.head.units) in (
       moved d m p i q same held.0,
       subst (λ (y : FailData). IsIntact y m q) (sym op.gives)
-          (moved_on d m p i counts d.shut took_now d.mode q refl (λ is. is) (λ is. is) (λ is. is)
+          (moved_on d m p i counts d.shut took_now d.mode d.frozen q refl (λ is. is) (λ is. is) (λ is. is)
           (λ s b no has_it. elim (taken_either d.took id op.b s b has_it) as (λ _. has (d.took s) b ≡ true) [
             | inl at ↦ absurd (no.head at.0)
             | inr old ↦ old
@@ -199,7 +200,7 @@ raise_keeps d e m p q o i op took =
     let before = raises_past d e p o i.log i.past i.before op in (
       moved d m p i q same held.0,
       subst (λ (y : FailData). IsIntact y m q) (sym op.gives)
-          (moved_on d m p i d.counts d.shut d.took (Closes op.n) q (sym (ap new_of op.mode))
+          (moved_on d m p i d.counts d.shut d.took (Closes op.n) d.frozen q (sym (ap new_of op.mode))
           (λ is. absurd (elim is as (λ _. ⊥) [ inl calm ↦ cc | inr repairs ↦ cc ])) (λ never. absurd (cc))
           (λ is. ap is_failing op.mode) (λ s b no has_it. has_it) same
           (subst (λ (y : FailData). IsLogHeld y texts q) op.gives held.1)
@@ -217,7 +218,7 @@ close_keeps d e m p q o i op took =
     let before = closes_past d e p o i.log i.past i.before op in (
       moved d m p i q same held.0,
       subst (λ (y : FailData). IsIntact y m q) (sym op.gives)
-          (moved_on d m p i d.counts (op.b ∷ d.shut) d.took d.mode q refl (λ is. is) (λ is. is) (λ is. is)
+          (moved_on d m p i d.counts (op.b ∷ d.shut) d.took d.mode d.frozen q refl (λ is. is) (λ is. is) (λ is. is)
           (λ s b no has_it. has_it) same (subst (λ (y : FailData). IsLogHeld y texts q) op.gives held.1)
           (subst (λ (y : FailData). IsStanding y texts) op.gives standing)
           (subst (λ (y : FailData). ArePast y texts i.past) op.gives before)),

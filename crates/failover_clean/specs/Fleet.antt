@@ -12,15 +12,15 @@ use Rattle.replica.specs.Picture.{Replica, Shown, FleetState, shown_of}
 use Rattle.versioned_map.specs.declared.command.Record.{Record}
 use Rattle.log_model.specs.Data.{Start, LogUnit}
 use Rattle.clean_model.specs.Memory.{Place}
-use Rattle.failover_model.specs.Data.{front, front_entries, bare, Calm, FailConfig, Mode, FailData, HasTaken, IsHome}
-use Rattle.failover_model.specs.Data.{homes}
+use Rattle.failover_model.specs.Data.{front, front_entries, bare, Calm, Repairs, FailConfig, Mode, FailData, HasTaken}
+use Rattle.failover_model.specs.Data.{IsHome, homes}
 use Rattle.failover_model.specs.Data.{is_failing, durable_of}
 use Rattle.failover_model.specs.Durable.{TakenHead, AreTaken, IsDurable}
 use Rattle.failover_model.specs.Log.{IsOther}
 use Rattle.failover_model.specs.Runs.{IsOn, IsThere}
 use Rattle.failover_model.specs.Shown.{Shown as ModelShown, Op}
 use Rattle.failover_model.specs.Steps.{fresh, restored, MayBegin, applied, MayApply, adopted, rolling, next_start}
-use Rattle.failover_model.specs.Steps.{MayTurn, ended, EndsRoll, failing, MayFail}
+use Rattle.failover_model.specs.Steps.{MayTurn, ended, EndsRoll, failing, MayFail, mended}
 use Rattle.failover_bytes.specs.Choice.{Counts, IsNewestCounted, newest_opened}
 use Rattle.failover_bytes.specs.Held.{HoldsUnit}
 use Rattle.failover_bytes.specs.Ops.{IsOnFleet, TakesOp, RefusesOp}
@@ -31,9 +31,9 @@ use Rattle.failover_bytes.specs.Spelled.{IsSpelled}
 use Rattle.failover_bytes.specs.Text.{bytes_for, IsWholeText}
 use Rattle.failover_clean.specs.Covered.{IsCovered}
 use Rattle.failover_clean.specs.Intact.{IsIntact, Knows}
-use Rattle.failover_clean.specs.Loading.{with_object, object_loaded, MayLoad, IsLoading}
+use Rattle.failover_clean.specs.Loading.{with_object, object_loaded, MayLoad, IsLoadingOp, IsLoading}
 use Rattle.failover_clean.specs.Memory.{FailMemory}
-use Rattle.failover_clean.specs.Ops.{IsHeadOp, IsOp}
+use Rattle.failover_clean.specs.Ops.{IsHeadOp, RepairsImage, IsOp}
 use Rattle.failover_clean.specs.Past.{past_ids}
 use Rattle.failover_clean.specs.Same.{IsSameMemory}
 use Rattle.failover_clean.specs.Steps.{first_memory, recorded, IsNamed, compacted, MayCompact, ids_taken, pass_begun}
@@ -177,6 +177,11 @@ abbrev pub FinishHoldsAll : Type 0
 FinishHoldsAll = (d : FailData) (m : FailMemory) (f : FleetState) (n : Start) (mode : Mode) → HoldsAll d m f
     → EndsRoll d n mode → m.commits ≡ true → HoldsAll (ended d n mode) (finished d m) f
 
+-- A failover ends.
+abbrev pub MendHoldsAll : Type 0
+MendHoldsAll = (d : FailData) (m : FailMemory) (f : FleetState) → HoldsAll d m f → d.mode ≡ Repairs
+    → HoldsAll (mended d) m f
+
 abbrev pub SameHoldsAll : Type 0
 SameHoldsAll = (d : FailData) (m n : FailMemory) (f : FleetState) → IsSameMemory d m n
     → (HoldsAll d m f → HoldsAll d n f) × (KeepsAll d m f → KeepsAll d n f)
@@ -207,6 +212,25 @@ OkHoldsLoading = (d e : FailData) (m : FailMemory) (f g : FleetState) (o : Op) �
 abbrev pub LoadingIsNeverWrong : Type 0
 LoadingIsNeverWrong = (d e : FailData) (m : FailMemory) (f g : FleetState) (o : Op) → HoldsLoading d m f
     → IsHeadOp d o e → IsOnFleet f o → RefusesOp d.config.master f o take_fault.Wrong g → ⊥
+
+-- So it is with a repair in a failover.
+abbrev pub RepairHoldsLoading : Type 0
+RepairHoldsLoading = (d e : FailData) (m : FailMemory) (f g : FleetState) (o : Op) → HoldsLoading d m f
+    → RepairsImage d m o e → IsThere d.config o → TakesOp d.config.master f o g → HoldsLoading e m g
+
+abbrev pub RepairIsNeverWrong : Type 0
+RepairIsNeverWrong = (d e : FailData) (m : FailMemory) (f g : FleetState) (o : Op) → HoldsLoading d m f
+    → RepairsImage d m o e → IsOnFleet f o → RefusesOp d.config.master f o take_fault.Wrong g → ⊥
+
+-- If an op ends in a fault, the fleet holds what was loaded of a master whose failover is open.
+abbrev pub FaultFailsLoading : Type 0
+FaultFailsLoading = (d e : FailData) (m : FailMemory) (f g : FleetState) (o : Op) (b : ℕ) → HoldsLoading d m f
+    → IsLoadingOp d m o e → IsThere d.config o → IsOn b o → MayFail d
+    → RefusesOp d.config.master f o take_fault.Fault g → HoldsLoading (failing d b) (stopped m) g
+
+abbrev pub MendHoldsLoading : Type 0
+MendHoldsLoading = (d : FailData) (m : FailMemory) (f : FleetState) → HoldsLoading d m f → d.mode ≡ Repairs
+    → HoldsLoading (mended d) m f
 
 abbrev pub RollHoldsLoading : Type 0
 RollHoldsLoading = (d : FailData) (m : FailMemory) (f : FleetState) (mode : Mode) → HoldsLoading d m f

@@ -1,5 +1,6 @@
 -- A master that is loading what was recovered, before its history begins.
-use Rattle.std.specs.Prelude.{◌≡◌, ℕ, ◌<◌, List, [], ◌∷◌, ◌++◌, length, true, false, Some, None}
+use Rattle.std.specs.Prelude.{◌≡◌, ℕ, ◌<◌, ◌≤◌, ◌⊎◌, List, [], ◌∷◌, ◌++◌, length, true, false, Some, None}
+use Rattle.entry.specs.declared.key.Key.{Key}
 use Rattle.entry.specs.declared.entry.Object.{Object}
 use Rattle.entry.specs.declared.entry.Entry.{Entry}
 use Rattle.entry.specs.declared.entry.Entry.TheVariants as entry
@@ -13,16 +14,16 @@ use Rattle.clean_model.specs.Memory.{no_pass, grown}
 use Rattle.clean_model.specs.Steps.{index_after}
 use Rattle.clean_model.specs.Tracked.{IsTracked, IsAround}
 use Rattle.failover_model.specs.Shown.{Shown, Op, taken}
-use Rattle.failover_model.specs.Data.{front_entries, Calm, Mode, FailConfig, FailData, HasTaken, new_of}
+use Rattle.failover_model.specs.Data.{front_entries, Calm, Repairs, Mode, FailConfig, FailData, HasTaken, new_of}
 use Rattle.failover_model.specs.Log.{Texts, IsBase, BasesStand, IsLogHeld}
 use Rattle.failover_model.specs.Runs.{IsThere}
 use Rattle.failover_model.specs.Steps.{restored, MayBegin, ids_now, adopted, rolling, next_start, MayTurn, ended}
-use Rattle.failover_model.specs.Steps.{EndsRoll}
-use Rattle.failover_clean.specs.Intact.{AreUnrepaired, IsIntact, Knows}
+use Rattle.failover_model.specs.Steps.{EndsRoll, failing, MayFail, mended}
+use Rattle.failover_clean.specs.Intact.{AreRepaired, AreUnrepaired, IsIntact, Knows}
 use Rattle.failover_clean.specs.Memory.{FailMemory, log_set_of, AreImages}
-use Rattle.failover_clean.specs.Ops.{IsHeadOp}
+use Rattle.failover_clean.specs.Ops.{IsHeadOp, RepairsImage}
 use Rattle.failover_clean.specs.Same.{IsSameMemory}
-use Rattle.failover_clean.specs.Steps.{first_memory, rolled}
+use Rattle.failover_clean.specs.Steps.{first_memory, rolled, stopped}
 
 -- ---- an object is loaded
 
@@ -48,6 +49,12 @@ pub record MayLoad (d : FailData) (o : Object) : Type 0 where
   pub absent : d.opening.contents o.key ≡ None
   pub low : o.version < d.opening.safe
 
+-- ---- ops
+
+-- the op is on a replica of the head in force or of a new one, or a repair
+abbrev pub IsLoadingOp : FailData → FailMemory → Op → FailData → Type 0
+IsLoadingOp d m o e = IsHeadOp d o e ⊎ RepairsImage d m o e
+
 -- ---- what holds while it loads
 
 -- No pass is open, nothing waits to be freed, and no roll is a commit.
@@ -58,7 +65,7 @@ pub record IsIdle (m : FailMemory) : Type 0 where
   pub waiting : m.waiting ≡ []
 
 -- The backups hold texts that stand for what was loaded so far, which is the opening; images and index track it, and no
--- pass is open.
+-- pass is open. A failover may be.
 pub record IsLoading (d : FailData) (m : FailMemory) (p : Shown) : Type 0 where
   pub texts : Texts
   pub held : IsLogHeld d texts p
@@ -73,15 +80,17 @@ pub record IsLoading (d : FailData) (m : FailMemory) (p : Shown) : Type 0 where
   -- before the first head nothing was loaded
   pub empty : d.head.start.id ≡ 0
       → (d.head.start.others ≡ []) × (front_entries d.head (length d.head.units) ≡ [])
-  pub real : d.mode ≡ Calm → d.head.start.id ≡ 0 → ⊥
+  pub blank : d.head.start.id ≡ 0 → (k : Key) → d.opening.contents k ≡ None
+  -- there is a head while no roll is under way and no new head is opened
+  pub real : (d.mode ≡ Calm) ⊎ (d.mode ≡ Repairs) → d.head.start.id ≡ 0 → ⊥
   pub only : HasOnly (log_set_of d m texts) d.opening.contents
   pub tracked : IsTracked (log_set_of d m texts) m.pass m.index d.opening.contents
   pub around : IsAround (log_set_of d m texts) m.pass d.opening.contents d.opening.safe d.next
   pub recorded : (n : Start) → new_of d.mode ≡ Some n → n.safe ≡ d.opening.safe
+  pub repairs : d.mode ≡ Repairs → d.opening.safe ≤ d.head.start.safe
   pub images : AreImages d m texts
+  pub repaired : AreRepaired m texts
   pub whole : AreUnrepaired d texts
-  -- no backup has failed
-  pub working : d.failed ≡ []
   pub idle : IsIdle m
 
 -- ---- laws
@@ -97,16 +106,34 @@ LoadKeeps = (d : FailData) (m : FailMemory) (p : Shown) (o : Object) → IsLoadi
     → IsLoading (with_object d o) (object_loaded d m o) p
     × (Knows d m p → Knows (with_object d o) (object_loaded d m o) p)
 
--- An op of the head that is taken fits, and it goes on.
+-- With an op of the head taken it goes on, whether the master knows it or not; and the op fits.
 abbrev pub LoadingOpKeeps : Type 0
 LoadingOpKeeps = (d e : FailData) (m : FailMemory) (p q : Shown) (o : Op) → IsLoading d m p → IsHeadOp d o e
-    → IsThere d.config o → taken p o ≡ Some q → IsLoading e m q
+    → IsThere d.config o → taken p o ≡ Some q → IsLoading d m q × IsLoading e m q
 
 abbrev pub LoadingOpFits : Type 0
 LoadingOpFits = (d e : FailData) (m : FailMemory) (p : Shown) (o : Op) → IsLoading d m p → Knows d m p
     → IsHeadOp d o e → (q : Shown) × (taken p o ≡ Some q) × Knows e m q
 
--- It goes on when a roll begins, and when one ends.
+-- So it does with a repair.
+abbrev pub LoadingRepairKeeps : Type 0
+LoadingRepairKeeps = (d e : FailData) (m : FailMemory) (p q : Shown) (o : Op) → IsLoading d m p → RepairsImage d m o e
+    → IsThere d.config o → taken p o ≡ Some q → IsLoading d m q × IsLoading e m q
+
+abbrev pub LoadingRepairFits : Type 0
+LoadingRepairFits = (d e : FailData) (m : FailMemory) (p : Shown) (o : Op) → IsLoading d m p → Knows d m p
+    → RepairsImage d m o e → (q : Shown) × (taken p o ≡ Some q) × Knows e m q
+
+-- It goes on when a backup fails, whatever the op that it was asked for has done, and when the failover ends.
+abbrev pub LoadingFails : Type 0
+LoadingFails = (d : FailData) (m : FailMemory) (p : Shown) (b : ℕ) → IsLoading d m p → MayFail d
+    → IsLoading (failing d b) (stopped m) p
+
+abbrev pub LoadingMends : Type 0
+LoadingMends = (d : FailData) (m : FailMemory) (p : Shown) → IsLoading d m p → Knows d m p → d.mode ≡ Repairs
+    → IsLoading (mended d) m p × Knows (mended d) m p
+
+-- It goes on when a roll begins, and when one ends, in a failover too.
 abbrev pub LoadingRollKeeps : Type 0
 LoadingRollKeeps = (d : FailData) (m : FailMemory) (p : Shown) (mode : Mode) → IsLoading d m p → MayTurn d mode
     → IsLoading (rolling d (next_start d) mode) (rolled d m (next_start d) false) p

@@ -5,7 +5,9 @@ ghost use Rattle.failover_clean.specs.Fleet.{OkHoldsAll, FaultKeepsAll, FaultFai
 ghost use Rattle.failover_clean.specs.Fleet.{FreshHoldsAll, ApplyHoldsAll, CompactHoldsAll, BeginHoldsAll};
 ghost use Rattle.failover_clean.specs.Fleet.{CopyHoldsAll, RollHoldsAll, CommitHoldsAll, EndHoldsAll, FinishHoldsAll};
 ghost use Rattle.failover_clean.specs.Fleet.{SameHoldsAll, RestoredHoldsLoading, LoadHoldsLoading, OkHoldsLoading};
-ghost use Rattle.failover_clean.specs.Fleet.{LoadingIsNeverWrong, RollHoldsLoading, EndHoldsLoading};
+ghost use Rattle.failover_clean.specs.Fleet.{LoadingIsNeverWrong, RollHoldsLoading, EndHoldsLoading, MendHoldsAll};
+ghost use Rattle.failover_clean.specs.Fleet.{RepairHoldsLoading, RepairIsNeverWrong, FaultFailsLoading};
+ghost use Rattle.failover_clean.specs.Fleet.{MendHoldsLoading};
 ghost use Rattle.failover_clean.specs.Fleet.{SameHoldsLoading, OthersLeaveLoading, FinishedHoldsAll};
 
 /// A fleet that keeps all shows a sound picture, which memory and replicas cover, and has each durable unit.
@@ -35,20 +37,25 @@ pub fn steps_hold()
     ensures same { SameHoldsAll }
 {}
 
-/// So it does as a roll begins and as it ends, an ordinary one or a pass's commit.
+/// So it does as a roll begins and as it ends, an ordinary one or a pass's commit, in a failover too, and as that ends.
 pub fn rolls_hold()
     ensures rolls { RollHoldsAll }
     ensures commits { CommitHoldsAll }
     ensures ends { EndHoldsAll }
     ensures finishes { FinishHoldsAll }
+    ensures mends { MendHoldsAll }
 {}
 
-/// What a fleet holds of a master that is loading.
+/// What a fleet holds of a master that is loading, also while a failover is open.
 pub fn loading_holds()
     ensures restored { RestoredHoldsLoading }
     ensures loads { LoadHoldsLoading }
     ensures ok { OkHoldsLoading }
     ensures right { LoadingIsNeverWrong }
+    ensures repairs { RepairHoldsLoading }
+    ensures right_repairs { RepairIsNeverWrong }
+    ensures fails { FaultFailsLoading }
+    ensures mends { MendHoldsLoading }
     ensures rolls { RollHoldsLoading }
     ensures ends { EndHoldsLoading }
     ensures same { SameHoldsLoading }

@@ -10,6 +10,7 @@ ghost use Rattle.failover_clean.specs.Ops.{OpKeeps, OpFits};
 ghost use Rattle.failover_clean.specs.Knowing.{FreshKnows, ApplyKnows, WaitingKnows, BeginKnows, RollKnows, CommitKnows};
 ghost use Rattle.failover_clean.specs.Knowing.{EndKnows, FinishKnows, FailKnows, MendKnows};
 ghost use Rattle.failover_clean.specs.Loading.{RestoredIsLoading, LoadKeeps, LoadingOpKeeps, LoadingOpFits};
+ghost use Rattle.failover_clean.specs.Loading.{LoadingRepairKeeps, LoadingRepairFits, LoadingFails, LoadingMends};
 ghost use Rattle.failover_clean.specs.Loading.{LoadingRollKeeps, LoadingEndKeeps, SameIsLoading, FinishIsIntact};
 
 /// If all is intact, images and replicas together keep the map, and the picture is sound.
@@ -110,12 +111,17 @@ pub fn knowing_stays()
     ensures mends { MendKnows }
 {}
 
-/// A master that is loading goes on with each object, op and roll; with all of it on the backups all is intact.
+/// A master that is loading goes on with each object, op and roll, and through a failover; with all of it on the
+/// backups all is intact.
 pub fn loading_keeps()
     ensures restored { RestoredIsLoading }
     ensures loads { LoadKeeps }
     ensures ops { LoadingOpKeeps }
     ensures fits { LoadingOpFits }
+    ensures repairs { LoadingRepairKeeps }
+    ensures repairs_fit { LoadingRepairFits }
+    ensures fails { LoadingFails }
+    ensures mends { LoadingMends }
     ensures rolls { LoadingRollKeeps }
     ensures ends { LoadingEndKeeps }
     ensures same { SameIsLoading }

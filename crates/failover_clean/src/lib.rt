@@ -12,8 +12,8 @@
 //!   failover. So it does with each op, also if nobody knows that it was taken (`OpKeeps`).
 //! - The master knows what backups that haven't failed hold (`Knows`), and so its ops fit (`OpFits`).
 //! - A repair may seal a segment's image at any time (`ImageIsRepair`, `RepairKeeps`).
-//! - A master that is loading goes on with each object, op and roll; once all of it is on the backups, all is intact
-//!   (`FinishIsIntact`).
+//! - A master that is loading goes on with each object, op and roll, and through a failover; once all of it is on the
+//!   backups, all is intact (`FinishIsIntact`).
 //! - A fleet *holds* all of a master (`HoldsAll`) if it spells a log with which all is intact, and if the master knows
 //!   what is held. It goes on so after each op that is answered Ok (`OkHoldsAll`), and after a fault with which a
 //!   failover opens (`FaultFailsOver`); if the master halts, it still *keeps* all (`FaultKeepsAll`). It never answers

@@ -243,7 +243,7 @@ failing d b = record d {
 
 -- the master once the failover has ended
 abbrev pub mended : FailData → FailData
-mended d = record d { mode = Calm }
+mended d = record d { mode = Calm; frozen = 0 }
 
 -- The master knows what backups that haven't failed hold: nothing that they didn't take. Those that failed hold nothing
 -- of heads that were opened later.

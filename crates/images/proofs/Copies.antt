@@ -22,7 +22,7 @@ use Rattle.images.specs.Sorted.{AreRising, IsWhole, image_of, segment_of, change
 use Rattle.images.specs.Place.{IsPlaceOf}
 use Rattle.images.specs.Steps.{with_unit, len_at, entry_at, StandsData, HasData}
 use Rattle.images.proofs.Adding.{ids_rise}
-use Rattle.images.proofs.Listing.{image_at, changed_at}
+use Rattle.images.proofs.Listing.{image_at, changed_by_id}
 use Rattle.images.proofs.Counts.{count_whole, not_full, text_more, set_valid, changed_is, read_count}
 use Rattle.images.proofs.Counts.{read_memory, len_is}
 
@@ -238,7 +238,7 @@ module _ (xs : List Image) (from to source target : ℕ) (rising : AreRising xs)
   copied_is (Some e) (Ok n) new zs is ok =
       is ∙ ap (λ (z : Image). set xs target z) ok
       ∙ ap (λ (z : Image). set xs target (with_unit (e ∷ []) z)) target_is
-      ∙ changed_at xs to target y (with_unit (e ∷ [])) rising second.within (second.is y)
+      ∙ changed_by_id xs to target y (with_unit (e ∷ [])) rising second.within (second.is y)
   copied_is o (Err fault) new zs is ok = tt
 
 -- the images stay valid, whatever comes of it

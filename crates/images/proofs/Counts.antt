@@ -21,7 +21,7 @@ use Rattle.images.specs.Images.{ImagesValue, IsImages, HaveMemory, count_of, cou
 use Rattle.images.specs.Sorted.{AreRising, IsWhole, image_of, added, changed, without}
 use Rattle.images.specs.Place.{IsPlaceOf}
 use Rattle.images.specs.Steps.{with_unit, trimmed, replaced_by, len_at}
-use Rattle.images.proofs.Listing.{all_at, all_set, all_without, absent_from_none, image_at, changed_at, without_at}
+use Rattle.images.proofs.Listing.{all_at, all_set, all_without, absent_from_none, image_at, changed_by_id, without_at}
 use Rattle.images.proofs.Listing.{rising_set, rising_without}
 use Rattle.images.proofs.Adding.{all_added, rising_added, sum_added}
 
@@ -79,7 +79,7 @@ module _ (v : ImagesValue) (valid : IsImages v) (id at : ℕ) (place : IsPlaceOf
 
   pub changed_is : (f : Image → Image) → set v.images at (f x) ≡ changed v.images id f
   changed_is f = ap (λ (y : Image). set v.images at (f y)) read
-      ∙ changed_at v.images id at x f valid.rising place.within (place.is x)
+      ∙ changed_by_id v.images id at x f valid.rising place.within (place.is x)
 
   pub without_is : remove v.images at ≡ without v.images id
   without_is = without_at v.images id at x valid.rising place.within (place.is x)
@@ -158,6 +158,18 @@ module _ (v : ImagesValue) (valid : IsImages v) (id at : ℕ) (place : IsPlaceOf
   trimmed_valid =
       let le = trimmed_le in let own = read_count in let most = valid.fits in
       set_valid (trimmed x) refl read_len (λ (e : false ≡ true). absurd (cc)) (omega arith)
+
+  -- with another number of replicas
+  pub replicas_valid : (n : ℕ) → (used_seglets v
+      ≡ sum_by (count_of v.segment v.seglet) (set v.images at (record x { replicas = n })))
+      × IsImages (record v { images = set v.images at (record x { replicas = n }) })
+  replicas_valid n =
+      let y : Image = record x { replicas = n } in
+      let same : count_of v.segment v.seglet y ≡ count_of v.segment v.seglet x = refl in
+      let own = read_count in let most = valid.fits in
+      let parts = set_valid y refl read_len read_memory (omega arith) in
+      let total = parts.0 in
+      (omega arith, parts.1)
 
   -- one that takes appends has memory for a whole segment
   pub read_room : IsWhole v.images id → v.segment ≤ x.room

@@ -4,4 +4,6 @@ pub mod Adding
 pub mod Finding
 pub mod Counts
 pub mod Copies
+pub mod Fronts
+pub mod Replicas
 pub mod Callers

@@ -97,17 +97,17 @@ image_at (x ∷ xs) id (suc at) d rising lt is =
     let test = later_is_other x xs id at d rising (omega arith) is in
     rw test (image_at xs id at d rising.1 (omega arith) is)
 
-pub changed_at : (xs : List Image) (id at : ℕ) (d : Image) (f : Image → Image) → AreRising xs → at < length xs
+pub changed_by_id : (xs : List Image) (id at : ℕ) (d : Image) (f : Image → Image) → AreRising xs → at < length xs
     → (get_or xs at d).id ≡ id
     → set xs at (f (get_or xs at d)) ≡ changed xs id f
-changed_at [] id at d f rising lt is = absurd (omega arith)
-changed_at (x ∷ xs) id zero d f rising lt is =
+changed_by_id [] id at d f rising lt is = absurd (omega arith)
+changed_by_id (x ∷ xs) id zero d f rising lt is =
     let test = same_id x.id id is in
     let rest = changed_absent xs id f (absent_above xs x.id id rising.0 (omega arith)) in
     rw test (ap (λ (ys : List Image). f x ∷ ys) (sym rest))
-changed_at (x ∷ xs) id (suc at) d f rising lt is =
+changed_by_id (x ∷ xs) id (suc at) d f rising lt is =
     let test = later_is_other x xs id at d rising (omega arith) is in
-    rw test (ap (λ (ys : List Image). x ∷ ys) (changed_at xs id at d f rising.1 (omega arith) is))
+    rw test (ap (λ (ys : List Image). x ∷ ys) (changed_by_id xs id at d f rising.1 (omega arith) is))
 
 pub without_at : (xs : List Image) (id at : ℕ) (d : Image) → AreRising xs → at < length xs → (get_or xs at d).id ≡ id
     → remove xs at ≡ without xs id

@@ -1,5 +1,5 @@
 -- What steps make of an image.
-use Rattle.std.specs.Prelude.{◌≡◌, ℕ, List, ◌++◌, drop, length, true, false, Option, IsSomeAnd}
+use Rattle.std.specs.Prelude.{◌≡◌, ℕ, suc, ◌-◌, List, ◌++◌, drop, length, true, false, Option, IsSomeAnd}
 use Rattle.std.specs.Option.{option_map_or, option_and_then}
 use Rattle.entry.specs.declared.entry.Entry.{Entry}
 use Rattle.entry.specs.Format.{Begins}
@@ -19,6 +19,14 @@ trimmed image = record image { is_whole = false; room = 0 }
 -- another image in its place
 abbrev pub replaced_by : List Entry → Image → Image
 replaced_by segment image = record image { segment = segment; is_whole = false; room = 0 }
+
+-- one more backup holds the segment
+abbrev pub more_replicas : Image → Image
+more_replicas image = record image { replicas = suc image.replicas }
+
+-- one fewer does
+abbrev pub fewer_replicas : Image → Image
+fewer_replicas image = record image { replicas = image.replicas - 1 }
 
 -- the bytes of the image of this id; 0 if there is none
 abbrev pub len_at : List Image → ℕ → ℕ

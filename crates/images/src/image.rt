@@ -20,6 +20,8 @@ pub struct Image {
     room: usize,
     /// Whether it still takes appends, so that its memory is taken whole.
     is_whole: bool,
+    /// How many backups hold the segment.
+    replicas: u8,
 }
 
 impl Model for Image {
@@ -35,6 +37,7 @@ impl Model for Image {
       segment = entries_in s.text.items;
       is_whole = s.is_whole;
       room = s.room;
+      replicas = s.replicas;
     } };
 
     ghost invariant = { λ s. IsSegmentBytes s.text.items × (s.room ≤ vec_capacity s.text) };
@@ -42,18 +45,20 @@ impl Model for Image {
 
 impl Image {
     ghost use Rattle.images.specs.Image.{closed_image, whole_image};
-    ghost use Rattle.images.specs.Steps.{with_unit, trimmed, replaced_by};
+    ghost use Rattle.images.specs.Steps.{with_unit, trimmed, replaced_by, more_replicas, fewer_replicas};
 
-    /// The image of a segment that takes no appends.
+    /// The image of a segment that takes no appends, and that so many backups hold.
     #[inline(always)]
-    pub(crate) fn closed(id: u64, segment: Segment) -> Image
-        ensures { result ≡ closed_image id segment }
+    pub(crate) fn closed(id: u64, segment: Segment, replicas: usize) -> Image
+        requires { replicas ≤ 64 }
+        ensures { result ≡ closed_image id segment replicas }
     {
         Image {
             id,
             text: segment.into_text(),
             room: 0,
             is_whole: false,
+            replicas: replicas as u8,
         }
     }
 
@@ -73,6 +78,7 @@ impl Image {
             text,
             room,
             is_whole: true,
+            replicas: 0,
         })
     }
 
@@ -98,6 +104,30 @@ impl Image {
         ensures { result ≡ self.now.is_whole }
     {
         self.is_whole
+    }
+
+    /// How many backups hold the segment.
+    #[inline(always)]
+    pub fn replicas(&self) -> usize
+        ensures replicas { result ≡ self.now.replicas }
+        ensures small { result ≤ 255 }
+    {
+        self.replicas as usize
+    }
+
+    /// One more backup holds the segment.
+    pub(crate) fn add_replica(&mut self)
+        requires { self.old.replicas < 64 }
+        ensures { self.new ≡ more_replicas self.old }
+    {
+        self.replicas += 1;
+    }
+
+    /// One backup fewer holds the segment.
+    pub(crate) fn lose_replica(&mut self)
+        ensures { self.new ≡ fewer_replicas self.old }
+    {
+        self.replicas = self.replicas.saturating_sub(1);
     }
 
     /// How many bytes the text has.
@@ -194,5 +224,5 @@ pub(crate) fn new_image(
     if is_whole {
         return Image::whole(id, segment, room);
     }
-    Ok(Image::closed(id, segment))
+    Ok(Image::closed(id, segment, 0))
 }

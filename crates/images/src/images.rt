@@ -1,7 +1,8 @@
 //! Images in memory, with the sum of what they count.
 
 ghost use Rattle.std.specs.Prelude.{◌≡◌, ◌+◌, ◌<◌, ◌≤◌, ◌↔◌, ◌∷◌, [], true, false, None, length, map, sum_by};
-ghost use Rattle.std.specs.Prelude.{IfOk, IfErr, OnOk, OnErr, IsErrAnd, IsErrOf, IsErr, IsSome, IfSome};
+ghost use Rattle.std.specs.Prelude.{IfOk, IfErr, OnOk, OnErr, IsErrAnd, IsErrOf, IsErr, IsSome, IsSomeAnd, IfSome};
+ghost use Rattle.std.specs.Prelude.{slice_index_or};
 ghost use Rattle.std.specs.Int.{div_ceil};
 ghost use Rattle.entry.specs.declared.entry.Entry.{Entry};
 ghost use Rattle.entry.specs.declared.entry.Role.{Role};
@@ -63,11 +64,13 @@ impl Model for Images {
 }
 
 impl Images {
-    ghost use Rattle.images.specs.Image.{closed_image, whole_image, new_image};
+    ghost use Rattle.images.specs.Image.{Image as ImageValue, closed_image, whole_image, new_image};
     ghost use Rattle.images.specs.Images.{ImagesValue, IsImages, AreSizes};
     ghost use Rattle.images.specs.Images.{count_of, count_at, used_seglets, free_seglets};
-    ghost use Rattle.images.specs.Sorted.{IsWhole, image_of, segment_of, added, changed, without};
-    ghost use Rattle.images.specs.Steps.{with_unit, trimmed, replaced_by, len_at, entry_at, HasData};
+    ghost use Rattle.images.specs.Sorted.{IsWhole, image_of, segment_of, replicas_of, added, changed, changed_at};
+    ghost use Rattle.images.specs.Sorted.{without};
+    ghost use Rattle.images.specs.Steps.{with_unit, trimmed, replaced_by, more_replicas, fewer_replicas, len_at};
+    ghost use Rattle.images.specs.Steps.{entry_at, HasData};
 
     /// No images yet: segments of at most `segment` bytes, in `seglets` seglets of `seglet` bytes each.
     pub fn new(alloc: Global, segment: usize, seglet: usize, seglets: u64) -> Images
@@ -203,16 +206,18 @@ impl Images {
         Ok(())
     }
 
-    /// Adds the image of a segment that takes no appends, as `add` does. The list has room, and the seglets are free. It
-    /// can't fail, takes no memory, and moves only images with a higher number.
-    pub fn add_closed(&mut self, id: u64, segment: Segment)
+    /// Adds the image of a segment that takes no appends, as `add` does, and that so many backups hold. The list has
+    /// room, and the seglets are free. It can't fail, takes no memory, and moves only images with a higher number.
+    pub fn add_closed(&mut self, id: u64, segment: Segment, replicas: usize)
         requires other { image_of self.old.images id ≡ None }
         requires within { length (text_of segment) ≤ self.old.segment }
         requires room { length self.old.images < self.old.room }
-        requires free { count_of self.old.segment self.old.seglet (closed_image id segment) ≤ free_seglets self.old }
-        ensures { self.new ≡ record self.old { images = added (closed_image id segment) self.old.images } }
+        requires free { count_of self.old.segment self.old.seglet (closed_image id segment replicas)
+            ≤ free_seglets self.old }
+        requires few { replicas ≤ 64 }
+        ensures { self.new ≡ record self.old { images = added (closed_image id segment replicas) self.old.images } }
     {
-        self.add_image(Image::closed(id, segment));
+        self.add_image(Image::closed(id, segment, replicas));
     }
 
     /// The image of a new survivor, with the memory of a whole segment: that of a dropped image, if one has left it. It
@@ -339,6 +344,51 @@ impl Images {
         image.replace(segment);
         self.used = others + count;
         Ok(())
+    }
+
+    /// How many backups hold the segment of this number; none, if there is no image of it.
+    pub fn replicas(&self, id: u64) -> usize
+        ensures { result ≡ replicas_of self.now.images id }
+    {
+        match place_of(self.images.as_slice(), id, &self.hints) {
+            Some(at) => self.images[at].replicas(),
+            None => 0,
+        }
+    }
+
+    /// One more backup holds the segment of this number.
+    pub fn add_replica(&mut self, id: u64)
+        requires { IsSomeAnd (image_of self.old.images id) (λ image. image.replicas < 64) }
+        ensures { self.new ≡ record self.old { images = changed self.old.images id more_replicas } }
+    {
+        let Some(at) = place_of(self.images.as_slice(), id, &self.hints) else {
+            unreachable!()
+        };
+        self.images[at].add_replica();
+    }
+
+    /// The number of the segment whose image is at this place.
+    pub fn id_at(&self, place: usize) -> u64
+        requires { place < length self.now.images }
+        ensures { (image : ImageValue) → result ≡ (slice_index_or self.now.images place image).id }
+    {
+        self.images[place].id()
+    }
+
+    /// How many backups hold it.
+    pub fn replicas_at(&self, place: usize) -> usize
+        requires { place < length self.now.images }
+        ensures { (image : ImageValue) → result ≡ (slice_index_or self.now.images place image).replicas }
+    {
+        self.images[place].replicas()
+    }
+
+    /// One backup fewer holds the segment whose image is at this place.
+    pub fn lose_at(&mut self, place: usize)
+        requires { place < length self.old.images }
+        ensures { self.new ≡ record self.old { images = changed_at self.old.images place fewer_replicas } }
+    {
+        self.images[place].lose_replica();
     }
 
     /// Drops the image of this number, and what it counts. Memory for a whole segment stays for the next images, as far

@@ -1,5 +1,5 @@
 -- What a command under the lock did, from its step and from how its record was filed.
-use Rattle.std.proofs.Common.{◌≡◌, ℕ, ◌+◌, List, [], ◌∷◌, ◌++◌, Option, Some, true, false, length, get_or, refl, sym}
+use Rattle.std.proofs.Common.{◌≡◌, ◌≤◌, ℕ, ◌+◌, List, [], ◌∷◌, ◌++◌, Option, Some, true, false, length, get_or, refl, sym}
 use Rattle.std.proofs.Common.{ap, ◌∙◌, subst, arith, inr}
 use Rattle.std.specs.Prelude.{slice_get, slice_set, Result, Ok, Err}
 use Rattle.replica.specs.Picture.{FleetState}
@@ -7,18 +7,22 @@ use Rattle.versioned_map.specs.declared.command.Command.{Command}
 use Rattle.versioned_map.specs.declared.command.Record.{Record}
 use Rattle.versioned_map.specs.declared.command.Reply.{Reply}
 use Rattle.history_row.specs.Rows.{IsRowOf}
+use Rattle.failover_model.specs.Data.{durable_of}
 use Rattle.master_state.specs.declared.step.Refusal.{Refusal}
 use Rattle.master_state.specs.declared.step.Step.TheVariants.{Apply}
 use Rattle.master_state.specs.declared.step.StepAnswer.TheVariants.{Applied}
+use Rattle.failover_model.proofs.DurableSteps.{durable_is_within}
+use Rattle.failover_clean.specs.Fleet.{read_of}
+use Rattle.master_state.specs.Log.{log_of}
+use Rattle.master.specs.Invariant.{IsWellKept}
 use Rattle.master.specs.Keeps.{Keeps}
 use Rattle.master.specs.Steps.{Accepts, Declines}
 use Rattle.master.specs.Valid.{IsValid}
 use Rattle.master.specs.World.{World, world}
-use Rattle.master.proofs.InForce.{never_fails}
 use Rattle.store_seat.specs.declared.fault.CallFault.{CallFault}
 use Rattle.store_seat.specs.declared.fault.CallFault.TheVariants.{CellRefused}
 use Rattle.locked_log.specs.Applies.{AppliesHeld, Counts}
-use Rattle.locked_log.specs.Held.{StateValue, Held, held, history}
+use Rattle.locked_log.specs.Held.{StateValue, Held, held, history, durable}
 use Rattle.store_seat.specs.Made.{Made}
 use Rattle.store_seat.specs.Seats.{SeatValue, record_by, told, noted, unnoted}
 use Rattle.store_seat.specs.Accounts.{account, Knows}
@@ -29,21 +33,25 @@ use Rattle.store_seat.proofs.Places.{get_there}
 use Rattle.locked_log.proofs.Refiling.{get_last}
 use Rattle.locked_log.proofs.Writing.{row_whole, row_short}
 
+-- what is durable are records that there are, also while a failover is open
+durable_within : (w : World) → IsWellKept w.knows w.fleet → durable_of (log_of w.knows) ≤ length w.knows.history
+durable_within w kept = durable_is_within (log_of w.knows) (read_of (log_of w.knows) w.fleet) kept.kept.intact.log
+
 module _ (s t : Held) (m : SeatValue) (command : Command) (place : ℕ) (reply : Reply) (made : Made)
     (st : IsState s made) (known : Knows s.book m) (off : s.is_refused ≡ false)
     (accepted : Accepts s.world (Apply m.number command) (Applied place reply) t.world) where
   at_end : place ≡ length (history s)
   at_end = place_is s.world t.world m.number command place reply accepted
 
-  pub counts : t.book ≡ slice_set s.book m.number (account m.first (m.count + 1)) → t.total ≡ s.total + 1
-      → Counts s m command place reply t
-  counts book total = record {
+  pub counts : durable s ≤ length (history s) → t.book ≡ slice_set s.book m.number (account m.first (m.count + 1))
+      → t.total ≡ s.total + 1 → Counts s m command place reply t
+  counts within book total = record {
     known = known;
     first = omega (
       arith,
       at_end,
       st.firsts m.number (account m.first m.count) known,
-      (st.valid.durable.counted (never_fails s.world.knows.head)).within,
+      within,
     );
     accepted = accepted;
     book = book;
@@ -106,7 +114,8 @@ module _ {F : Type 0} (state : F → FleetState) (v x : StateValue F) (same : v 
       (subst (λ (y : StateValue F). Declines (world state y.master) (Apply k command) r w) same d)
 
   module _ (place : ℕ) (reply : Reply) (t : Held) (made : Made) (what : Record)
-      (st : IsState (held state v) made) (known : Knows x.book m) (off : v.is_refused ≡ false)
+      (st : IsState (held state v) made) (kept : IsWellKept v.master.knows (state v.master.fleet))
+      (known : Knows x.book m) (off : v.is_refused ≡ false)
       (gives : Accepts (world state v.master) (Apply k command) (Applied place reply) t.world)
       (keeps : Keeps 1 (world state v.master) t.world) (valid : IsValid t.world.knows t.world.fleet)
       (is : what ≡ get_or (history t) place what)
@@ -131,6 +140,8 @@ module _ {F : Type 0} (state : F → FleetState) (v x : StateValue F) (same : v 
 
     counted : Counts s m command place reply t
     counted = counts s t m command place reply made st_at known off_at gives_at
+        (subst (λ (y : StateValue F). durable (held state y) ≤ length (history (held state y))) same
+        (durable_within (world state v.master) kept))
         (book ∙ ap (λ (y : StateValue F). slice_set y.book m.number (account m.first (m.count + 1))) same)
         (total ∙ ap (λ (y : StateValue F). y.total + 1) same)
 

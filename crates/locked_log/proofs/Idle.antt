@@ -1,40 +1,56 @@
 -- A step that the master says is next is never refused because nothing waits.
-use Rattle.std.proofs.Common.{◌≡◌, ℕ, inl, inr, ⊎_elim, Bool, true, false, cond, Option, Some, None, List, refl, sym}
+use Rattle.std.proofs.Common.{◌≡◌, ◌⊎◌, ℕ, inl, inr, ⊎_elim, Bool, true, false, cond, Option, Some, None, List, refl, sym}
 use Rattle.std.proofs.Common.{ap, ◌∙◌, subst}
 use Rattle.std.specs.Prelude.{◌+◌, ◌^◌, ◌==◌, not, nat_lt, length, is_none, is_some}
 use Rattle.std.specs.Option.{option_and_then, option_map_or}
-use Rattle.std.proofs.lemmas.Bool.{and_left, not-true}
+use Rattle.std.proofs.lemmas.Bool.{and_left, and_right, not-true}
 use Rattle.cleaner.specs.declared.fault.PassFault.{PassFault}
 use Rattle.cleaner.specs.declared.pass.Pass.{Pass as OpenPass}
 use Rattle.cleaner.specs.Passes.{is_at_end, next_seal}
 use Rattle.log_head.specs.Head.{is_open}
 use Rattle.log_model.specs.Data.{fewest}
+use Rattle.master_state.specs.declared.failover.Failover.{Failover}
+use Rattle.master_state.specs.declared.step.Refusal.{Refusal}
 use Rattle.master_state.specs.declared.step.Refusal.TheVariants.{Halted, Rolling, Nothing, Full, SegmentsSpent, Pass}
 use Rattle.master_state.specs.declared.step.Refusal.TheVariants.{NoMemory}
 use Rattle.master_state.specs.declared.step.Step.{Step}
 use Rattle.master_state.specs.declared.step.Step.TheVariants.{Push, BeginRoll, BeginClean, Copy, Seal, Free}
-use Rattle.master_state.specs.Budget.{may_roll, may_clean}
-use Rattle.master_state.specs.Causes.{clean_refusal, victims_fault, survivors_for, space_refusal}
+use Rattle.master_state.specs.Budget.{is_working, may_roll, may_clean}
+use Rattle.master_state.specs.Causes.{step_refusal, clean_refusal, victims_fault, survivors_for, space_refusal}
+use Rattle.master_state.specs.Causes.{is_pushed, is_done}
 use Rattle.master_space.specs.Choosing.{chosen, may_begin_next, pass_step, step_without, next_step}
 use Rattle.master_state.specs.Data.{MasterData}
-use Rattle.master.specs.Steps.{Declines}
+use Rattle.master.specs.Steps.{Declines, FailsTake, FailsTurn, IsPushOp, IsStuck}
 use Rattle.master.specs.World.{World}
 
 -- ---- rows of tests
 
+-- after the test that comes before all others
+after_first : (d : MasterData) (rest : Option Refusal) → (rest ≡ Some Nothing → ⊥)
+    → cond (is_some (step_refusal d)) (step_refusal d) rest ≡ Some Nothing → ⊥
+after_first d rest works = go d.is_halted (is_some d.failover) where
+  first : Bool → Bool → Option Refusal
+  first a b = cond a (Some Halted) (cond b (Some Rolling) None)
+
+  go : (a b : Bool) → cond (is_some (first a b)) (first a b) rest ≡ Some Nothing → ⊥
+  go true b e = absurd (cc)
+  go false true e = absurd (cc)
+  go false false e = works e
+
 -- with work at hand
-not_idle_at_work : (halted has : Bool) → has ≡ true → cond halted (Some Halted) (cond has None (Some Nothing))
-    ≡ Some Nothing → ⊥
-not_idle_at_work true has h e = absurd (cc)
-not_idle_at_work false true h e = absurd (cc)
-not_idle_at_work false false h e = absurd (cc)
+at_work : (has : Bool) → has ≡ true → cond has None (Some Nothing) ≡ Some Nothing → ⊥
+at_work true h e = absurd (cc)
+at_work false h e = absurd (cc)
 
 -- with nothing idle
+not_idle : (idle : Bool) → idle ≡ false → cond idle (Some Nothing) None ≡ Some Nothing → ⊥
+not_idle true h e = absurd (cc)
+not_idle false h e = absurd (cc)
+
 awake : (halted idle : Bool) → idle ≡ false → cond halted (Some Halted) (cond idle (Some Nothing) None)
     ≡ Some Nothing → ⊥
 awake true idle h e = absurd (cc)
-awake false true h e = absurd (cc)
-awake false false h e = absurd (cc)
+awake false idle h e = not_idle idle h e
 
 not_idle_before_roll : (a b c f : Bool) → cond a (Some Halted)
     (cond b (Some Rolling) (cond c (Some SegmentsSpent) (cond f (Some Full) None))) ≡ Some Nothing → ⊥
@@ -55,16 +71,19 @@ space d ids = go (nat_lt 4 (survivors_for d ids)) (not (may_clean d (length ids)
       go false false false e = absurd (cc)
 
 cleans : (d : MasterData) (ids : List ℕ) → clean_refusal d ids ≡ Some Nothing → ⊥
-cleans d ids = go d.is_halted (victims_fault d ids) where
-  go : (halted : Bool) (o : Option PassFault)
-      → cond halted (Some Halted) (option_map_or (λ (fault : PassFault). Some (Pass fault)) o (space_refusal d ids))
-      ≡ Some Nothing → ⊥
-  go true o e = absurd (cc)
-  go false None e = space d ids e
-  go false (Some fault) e = absurd (cc)
+cleans d ids = after_first d (gives (victims_fault d ids)) (go (victims_fault d ids)) where
+  gives : Option PassFault → Option Refusal
+  gives o = option_map_or (λ (fault : PassFault). Some (Pass fault)) o (space_refusal d ids)
+
+  go : (o : Option PassFault) → gives o ≡ Some Nothing → ⊥
+  go None e = space d ids e
+  go (Some fault) e = absurd (cc)
 
 not_memory : NoMemory ≡ Nothing → ⊥
 not_memory e = absurd (cc)
+
+not_halted : Nothing ≡ Halted → ⊥
+not_halted e = absurd (cc)
 
 some_not_none : {X : Type 0} (o : Option X) → is_some o ≡ true → is_none o ≡ false
 some_not_none None e = absurd (cc)
@@ -76,14 +95,26 @@ module _ (s t : World) where
   abbrev Never : Step → Type 0
   Never step = Declines s step Nothing t → ⊥
 
+  fails : IsStuck s Nothing t ⊎ (FailsTurn s Nothing t ⊎ FailsTake (IsPushOp s) s Nothing t) → ⊥
+  fails (inl x) = not_halted x.2
+  fails (inr (inl x)) = not_halted x.1
+  fails (inr (inr x)) = x
+
+  to_push : is_done s.knows ≡ false → Never Push
+  to_push waits (inl x) = awake s.knows.is_halted (is_done s.knows) waits x.0
+  to_push waits (inr x) = fails x.1
+
+  mends : is_none s.knows.failover ≡ false → Never Push
+  mends opened = to_push (and_left (is_none s.knows.failover) (is_pushed s.knows.head) opened)
+
   pushes : is_open s.knows.head ≡ false → Never Push
-  pushes closed (inl x) = awake s.knows.is_halted _ (and_left (is_open s.knows.head)
-      (fewest (length s.knows.head.units) s.knows.head.taken == length s.knows.head.units) closed) x.0
-  pushes closed (inr x) = x.1
+  pushes closed = to_push (and_right (is_none s.knows.failover) (is_pushed s.knows.head)
+      (and_left (is_open s.knows.head)
+      (fewest (length s.knows.head.units) s.knows.head.taken == length s.knows.head.units) closed))
 
   rolls : Never BeginRoll
   rolls x = ⊎_elim
-      (λ e. not_idle_before_roll s.knows.is_halted (not (is_open s.knows.head)) (nat_lt (2 ^ 62) s.knows.next)
+      (λ e. not_idle_before_roll s.knows.is_halted (not (is_working s.knows)) (nat_lt (2 ^ 62) s.knows.next)
       (not (may_roll s.knows 2)) e)
       (λ e. not_memory (sym e.1)) x.1
 
@@ -92,19 +123,22 @@ module _ (s t : World) where
     in_pass test e = ap (λ (o : Option OpenPass). option_map_or test o false) opened ∙ e
 
     copies : not (is_at_end p) ≡ true → Never Copy
-    copies more x = not_idle_at_work s.knows.is_halted _ (in_pass (λ (q : OpenPass). not (is_at_end q)) more) x.1
+    copies more x = after_first s.knows _ (at_work _ (in_pass (λ (q : OpenPass). not (is_at_end q)) more)) x.1
 
-    seals : is_some (next_seal p) ≡ true → Never Seal
-    seals more (inl x) = awake s.knows.is_halted _ (ap (λ (o : Option OpenPass). is_none (option_and_then next_seal o))
-        opened ∙ some_not_none (next_seal p) more) x.0
+    abbrev next_of : OpenPass → Option (ℕ × ℕ)
+    next_of = next_seal s.knows.config.replicas s.knows.closed
+
+    seals : is_some (next_of p) ≡ true → Never Seal
+    seals more (inl x) = after_first s.knows _ (not_idle _ (ap (λ (o : Option OpenPass).
+        is_none (option_and_then next_of o)) opened ∙ some_not_none (next_of p) more)) x.0
     seals more (inr x) = x.1
 
     pass_never : Never (pass_step s.knows p)
-    pass_never = go (not (is_at_end p)) (is_some (next_seal p)) (is_open s.knows.head) refl refl refl where
+    pass_never = go (not (is_at_end p)) (is_some (next_of p)) (is_open s.knows.head) refl refl refl where
       picks : Bool → Bool → Bool → Step
       picks a b c = cond a Copy (cond b Seal (cond c BeginRoll Push))
 
-      go : (a b c : Bool) → not (is_at_end p) ≡ a → is_some (next_seal p) ≡ b → is_open s.knows.head ≡ c
+      go : (a b c : Bool) → not (is_at_end p) ≡ a → is_some (next_of p) ≡ b → is_open s.knows.head ≡ c
           → Never (picks a b c)
       go true b c ea eb ec = copies ea
       go false true c ea eb ec = seals eb
@@ -112,7 +146,8 @@ module _ (s t : World) where
       go false false false ea eb ec = pushes ec
 
   frees : not (length s.knows.waiting == 0) ≡ true → Never Free
-  frees waits (inl x) = awake s.knows.is_halted _ (not-true (length s.knows.waiting == 0) waits) x.0
+  frees waits (inl x) =
+      after_first s.knows _ (not_idle _ (not-true (length s.knows.waiting == 0) waits)) x.0
   frees waits (inr x) = x.1
 
   begins : (ids : List ℕ) → Never (BeginClean ids)
@@ -136,13 +171,15 @@ module _ (s t : World) where
       go false false false ea eb = tt
 
   next_never : NeverIn (next_step s.knows)
-  next_never = go s.knows.pass refl where
-    gives : Option OpenPass → Option Step
-    gives o = option_map_or (λ (p : OpenPass). Some (pass_step s.knows p)) o (step_without s.knows)
+  next_never = go s.knows.failover s.knows.pass refl refl where
+    gives : Option Failover → Option OpenPass → Option Step
+    gives f o = cond (is_some f) (Some Push)
+        (option_map_or (λ (p : OpenPass). Some (pass_step s.knows p)) o (step_without s.knows))
 
-    go : (o : Option OpenPass) → s.knows.pass ≡ o → NeverIn (gives o)
-    go None e = without_never
-    go (Some p) e = pass_never p e
+    go : (f : Option Failover) (o : Option OpenPass) → s.knows.failover ≡ f → s.knows.pass ≡ o → NeverIn (gives f o)
+    go (Some f) o opened e = mends (ap (λ (x : Option Failover). is_none x) opened)
+    go None None calm e = without_never
+    go None (Some p) calm e = pass_never p e
 
   pub next_works : (step : Step) → next_step s.knows ≡ Some step → Declines s step Nothing t → ⊥
   next_works step e = subst NeverIn e next_never

@@ -2,6 +2,7 @@
 use Rattle.std.proofs.Common.{◌≡◌, ◌≤◌, ⊎_elim, ℕ, List, [], ◌++◌, Some, refl, sym, ap, ◌∙◌, arith, append_assoc}
 use Rattle.std.specs.Prelude.{slice_get, slice_set}
 use Rattle.std.proofs.lemmas.List.{append-nil}
+use Rattle.master_state.specs.declared.config.Config.{Config}
 use Rattle.master.specs.Keeps.{Keeps}
 use Rattle.master.specs.World.{World}
 use Rattle.store_seat.specs.declared.account.Account.{Account}
@@ -18,7 +19,7 @@ keeps_same most w = record {
   origin = refl;
   takes = (omega arith, omega arith);
   others = λ b m s other. refl;
-  least = refl;
+  least = λ m other. refl;
   durable = omega arith;
   history = ([], sym (append-nil w.knows.history));
 }
@@ -52,7 +53,8 @@ made_lasts most s t made keeps is = record {
         ∙ append_assoc made.begun is.begun.0 keeps.history.0,
   );
   durable = omega (arith, is.durable, keeps.durable);
-  least = keeps.least ∙ is.least;
+  least = λ m other. keeps.least m (λ same. other (same ∙ ap (λ (c : Config). c.master) is.config))
+      ∙ is.least m other;
 }
 
 -- at first it is
@@ -62,5 +64,5 @@ made_at_first seats w = record {
   origin = refl;
   begun = ([], sym (append-nil w.knows.history));
   durable = omega arith;
-  least = refl;
+  least = λ m other. refl;
 }

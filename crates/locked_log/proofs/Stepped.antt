@@ -1,7 +1,7 @@
 -- A step that is no command adds no record.
-use Rattle.std.proofs.Common.{◌≡◌, ℕ, suc, inl, inr, Bool, true, false, [], Option, Some, None, refl, sym, ap, ◌∙◌}
+use Rattle.std.proofs.Common.{◌≡◌, ◌⊎◌, ℕ, inl, inr, Bool, true, false, [], Option, Some, None, refl, sym, ap, ◌∙◌}
 use Rattle.std.proofs.Common.{subst, arith}
-use Rattle.std.specs.Prelude.{Result, Ok, Err, ◌==◌, not, drop, length, is_some, if◌then◌else◌}
+use Rattle.std.specs.Prelude.{Result, Ok, Err, ◌==◌, not, length, is_some, if◌then◌else◌}
 use Rattle.std.proofs.lemmas.List.{append-nil}
 use Rattle.std.specs.Option.{option_map_or}
 use Rattle.replica.specs.Picture.{FleetState}
@@ -16,14 +16,19 @@ use Rattle.master_state.specs.declared.step.Step.TheVariants.{Apply, Push, Begin
 use Rattle.master_state.specs.declared.step.Step.TheVariants.{Free}
 use Rattle.master_state.specs.declared.step.StepAnswer.{StepAnswer}
 use Rattle.master_space.specs.Choosing.{chosen, may_begin_next, pass_step, step_without, next_step}
+use Rattle.master_state.specs.declared.ledger.Posting.TheVariants.{Took}
 use Rattle.master_state.specs.Data.{MasterData}
-use Rattle.master_state.specs.Steps.{freed_data}
+use Rattle.master_state.specs.Ledger.{posted}
+use Rattle.master_state.specs.Log.{home}
+use Rattle.master_state.specs.Steps.{sealed_data}
+use Rattle.master_state.specs.Waits.{next_seal as sealed_next}
 use Rattle.master.specs.Keeps.{Keeps}
 use Rattle.master.specs.Passes.{IsSealOp, IsFreeOp}
-use Rattle.master.specs.Steps.{FailsTake, IsPushOp, Steps}
+use Rattle.master.specs.Steps.{FailsTake, FailsTurn, IsPushOp, IsStuck, Steps}
 use Rattle.master.specs.Valid.{IsValid}
 use Rattle.master.specs.World.{World, world, limited_world}
 use Rattle.master.proofs.Keeping.{take_failed}
+use Rattle.master.proofs.MendedRest.{mended_rest, turned_rest}
 use Rattle.master.proofs.PushedRest.{same_rest}
 use Rattle.store_step.specs.declared.turn.CleanTurn.{CleanTurn}
 use Rattle.store_step.specs.declared.turn.CleanTurn.TheVariants as turn
@@ -46,7 +51,7 @@ IsOtherIn None = Unit {0}
 IsOtherIn (Some step) = IsOther step
 
 pass_other : (d : MasterData) (p : Pass) → IsOther (pass_step d p)
-pass_other d p = go (not (is_at_end p)) (is_some (next_seal p)) (is_open d.head) where
+pass_other d p = go (not (is_at_end p)) (is_some (next_seal d.config.replicas d.closed p)) (is_open d.head) where
   picks : Bool → Bool → Bool → Step
   picks a b c = if a then Copy else if b then Seal else if c then BeginRoll else Push
 
@@ -68,13 +73,14 @@ without_other d = go (not (is_open d.head)) (not (length d.waiting == 0)) (may_b
   go false false false = tt
 
 next_other : (d : MasterData) → IsOtherIn (next_step d)
-next_other d = go d.pass where
-  gives : Option Pass → Option Step
-  gives o = option_map_or (λ (p : Pass). Some (pass_step d p)) o (step_without d)
+next_other d = go (is_some d.failover) d.pass where
+  gives : Bool → Option Pass → Option Step
+  gives t o = if t then Some Push else option_map_or (λ (p : Pass). Some (pass_step d p)) o (step_without d)
 
-  go : (o : Option Pass) → IsOtherIn (gives o)
-  go None = without_other d
-  go (Some p) = pass_other d p
+  go : (t : Bool) (o : Option Pass) → IsOtherIn (gives t o)
+  go true o = tt
+  go false None = without_other d
+  go false (Some p) = pass_other d p
 
 turn_other : (d : MasterData) (t : CleanTurn) → IsOtherIn (step_of d t)
 turn_other d turn.Next = next_other d
@@ -91,14 +97,14 @@ asked_other d t step e = subst IsOtherIn e (turn_other d t)
 
 -- ---- the history
 
-freed_history : (d : MasterData) → (freed_data d).history ≡ d.history
-freed_history d = go (suc d.freed == d.config.replicas) where
-  gives : Bool → MasterData
-  gives t = if t then record d { waiting = drop 1 d.waiting; freed = 0 } else record d { freed = suc d.freed }
+-- a replica that was sealed changes nothing but its image
+step_history : (d : MasterData) (step : ℕ × ℕ → MasterData) (o : Option (ℕ × ℕ))
+    → ((x : ℕ × ℕ) → (step x).history ≡ d.history) → (option_map_or step o d).history ≡ d.history
+step_history d step None same = refl
+step_history d step (Some x) same = same x
 
-  go : (t : Bool) → (gives t).history ≡ d.history
-  go true = refl
-  go false = refl
+sealed_history : (d : MasterData) → (sealed_data d).history ≡ d.history
+sealed_history d = step_history d _ (sealed_next d) (λ x. refl)
 
 module _ (old new : World) where
   unchanged : new ≡ old → new.knows.history ≡ old.knows.history
@@ -106,7 +112,14 @@ module _ (old new : World) where
 
   failed : (IsOp : Op → Type 0) (r : Refusal) → FailsTake IsOp old r new → new.knows.history ≡ old.knows.history
   failed IsOp r t = take_failed IsOp old new r t unchanged
-      (λ (h : FailsTake IsOp old refusal.Halted new). ap (λ (d : MasterData). d.history) h.0)
+      (λ b (h : FailsTake IsOp old (refusal.Lost b) new). ap (λ (d : MasterData). d.history) h.1)
+      (λ (h : FailsTake IsOp old refusal.Halted new). ap (λ (d : MasterData). d.history) h.1)
+
+  push_failed : (r : Refusal) → IsStuck old r new ⊎ (FailsTurn old r new ⊎ FailsTake (IsPushOp old) old r new)
+      → new.knows.history ≡ old.knows.history
+  push_failed r (inl t) = ap (λ (w : World). w.knows.history) t.3
+  push_failed r (inr (inl t)) = ap (λ (d : MasterData). d.history) t.2 ∙ (turned_rest old.knows).1
+  push_failed r (inr (inr t)) = failed (IsPushOp old) r t
 
   pub steps_history : (step : Step) (result : Result StepAnswer Refusal) → IsOther step → Steps old step result new
       → new.knows.history ≡ old.knows.history
@@ -119,13 +132,19 @@ module _ (old new : World) where
   steps_history (BeginClean ids) (Err r) other t = unchanged t.0
   steps_history Copy (Ok answer) other t = ap (λ (d : MasterData). d.history) t.0.rest
   steps_history Copy (Err r) other t = unchanged t.0
-  steps_history Push (Ok answer) other t = ap (λ (d : MasterData). d.history) t.rest ∙ (same_rest old.knows t.push).1
+  steps_history Push (Ok answer) other (inl t) =
+      ap (λ (d : MasterData). d.history) t.rest ∙ (same_rest old.knows t.push).1
+  steps_history Push (Ok answer) other (inr t) =
+      ap (λ (d : MasterData). d.history) t.rest ∙ (mended_rest old.knows t.mend).1
   steps_history Push (Err r) other (inl t) = unchanged t.1
-  steps_history Push (Err r) other (inr t) = failed (IsPushOp old) r t.1
-  steps_history Seal (Ok answer) other t = ap (λ (d : MasterData). d.history) t.rest
+  steps_history Push (Err r) other (inr t) = push_failed r t.1
+  steps_history Seal (Ok answer) other t =
+      ap (λ (d : MasterData). d.history) t.rest
+      ∙ sealed_history (posted old.knows (Took t.next.segment
+      (home old.knows.config old.knows.failed t.next.segment t.next.replica)))
   steps_history Seal (Err r) other (inl t) = unchanged t.1
   steps_history Seal (Err r) other (inr t) = failed (IsSealOp old.knows) r t.1
-  steps_history Free (Ok answer) other t = ap (λ (d : MasterData). d.history) t.rest ∙ freed_history old.knows
+  steps_history Free (Ok answer) other t = ap (λ (d : MasterData). d.history) t.rest
   steps_history Free (Err r) other (inl t) = unchanged t.1
   steps_history Free (Err r) other (inr t) = failed (IsFreeOp old.knows) r t.1
 
@@ -162,7 +181,7 @@ module _ (s : Held) (n : ℕ) (w : World) (is : w ≡ limited_world s.world n) (
     origin = refl;
     takes = (omega arith, omega arith);
     others = λ b m k other. refl;
-    least = refl;
+    least = λ m other. refl;
     durable = omega arith;
     history = ([], sym (append-nil s.world.knows.history));
   })

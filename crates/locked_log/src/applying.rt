@@ -74,6 +74,7 @@ impl<F: Fleet, B: Naming> State<F, B> {
         if !self.knows(seat) {
             return Err(CallFault::SeatUnknown);
         }
+        self.master.show_kept();
         let (place, reply) = match apply_command(&mut self.master, seat.number(), command) {
             Ok(applied) => applied,
             Err(refusal) => return Err(CallFault::Refused(refusal)),

@@ -1,6 +1,7 @@
 //! The value under the lock, as the calls of a seat see it.
 
-ghost use Rattle.std.specs.Prelude.{◌≡◌, ◌≤◌, MatchBool};
+ghost use Rattle.std.specs.Prelude.{◌≡◌, ◌≤◌, ℕ, Err, MatchBool};
+ghost use Rattle.master_state.specs.declared.step.Refusal.TheVariants as refusal;
 ghost use Rattle.locked_log.specs.Applies.{Attempts, ClaimsHeld, Proceeds};
 ghost use Rattle.locked_log.specs.Held.{held};
 ghost use Rattle.store_seat.specs.Claims.{ClaimsSeat};
@@ -58,11 +59,17 @@ impl<F: Fleet, B: Naming> Log<B> for State<F, B> {
         self.claim_held(seat, place)
     }
 
-    fn push(&mut self) -> Result<(), Refusal> {
+    fn push(&mut self) -> Result<(), Refusal>
+        // A push that opens a failover is no refusal: further pushes end it.
+        ensures goes_on { (b : ℕ) → result ≡ Err (refusal.Lost b) → ⊥ }
+    {
         match self.step_held(CleanTurn::Push) {
             Ok(_) => Ok(()),
-            Err(Refusal::Nothing) => Ok(()),
-            Err(refusal) => Err(refusal),
+            Err(refusal) => match refusal {
+                Refusal::Nothing => Ok(()),
+                Refusal::Lost(_) => Ok(()),
+                _ => Err(refusal),
+            },
         }
     }
 }

@@ -22,7 +22,7 @@ use Rattle.log_model.proofs.Lengths.{ids_listed}
 use Rattle.log_model.proofs.Segments.{data_split, data_alone, start_order}
 use Rattle.log_head.specs.declared.head.UnitEnd.{UnitEnd}
 use Rattle.log_head.specs.Head.{HeadValue, end_of}
-use Rattle.log_head.specs.Steps.{fresh_head, with_unit_end}
+use Rattle.log_head.specs.Steps.{fresh_head, with_unit_end, counts_without, lost}
 use Rattle.log_head.specs.Log.{but_last, other_lens, start_in, HasLens, entries_between, units_from, loaded_in}
 use Rattle.log_head.specs.Log.{head_of, AreEnds, IsImageOf}
 use Rattle.log_head.proofs.Heads.{text_more}
@@ -312,6 +312,18 @@ module _ (master : ℕ) (h : HeadValue) (l : Head) (is : IsImageOf master h l) w
   -- what replicas have changes nothing else
   pub image_with_counts : (ks : List ℕ) → IsImageOf master (record h { taken = ks }) (record l { taken = ks })
   image_with_counts ks = record {
+    id = is.id;
+    lens = is.lens;
+    image = is.image;
+    base = is.base;
+    ends = is.ends;
+    taken = refl;
+  }
+
+  -- nor do a lost replica and an abandoned roll
+  pub image_lost : (replica : Option ℕ)
+      → IsImageOf master (lost h replica) (record l { taken = counts_without h.taken replica })
+  image_lost replica = record {
     id = is.id;
     lens = is.lens;
     image = is.image;

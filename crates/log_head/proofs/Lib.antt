@@ -6,4 +6,6 @@ pub mod RisingIds
 pub mod Rolls
 pub mod RollLog
 pub mod SettledLog
+pub mod Losses
+pub mod NextOps
 pub mod Listing

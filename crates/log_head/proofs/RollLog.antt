@@ -1,19 +1,18 @@
 -- What a roll of a head is to the log.
-use Rattle.std.proofs.Common.{◌≡◌, ℕ, suc, ◌<◌, Bool, true, false, List, [], ◌∷◌, length, refl, sym, ap, subst, ◌∙◌, arith}
-use Rattle.std.specs.Prelude.{Option, Some, None, IfSome, map, ◌==◌, if◌then◌else◌}
-use Rattle.std.proofs.lemmas.Bool.Decides.{nat_tests}
+use Rattle.std.proofs.Common.{◌≡◌, ℕ, suc, Bool, true, false, List, [], ◌∷◌, length, refl, sym, ap, subst, ◌∙◌}
+use Rattle.std.specs.Prelude.{Option, Some, None, IfSome, map, if◌then◌else◌}
 use Rattle.std.proofs.lemmas.List.{append-nil}
 use Rattle.entry.specs.declared.digest.Listed.{Listed}
 use Rattle.entry.specs.declared.entry.Entry.{Entry}
 use Rattle.entry.specs.Limits.{ids_in}
 use Rattle.entry.specs.Text.{Opening, text_of, opening_of, lists_lengths, IsSegment}
-use Rattle.log_model.specs.Data.{Start, Head, Opened, Closed, ids_of, start_entries}
+use Rattle.log_model.specs.Data.{Start, Head, ids_of, start_entries}
 use Rattle.log_model.specs.Ids.{all_inserted, without}
-use Rattle.log_model.specs.Steps.{one_opened, new_head}
+use Rattle.log_model.specs.Steps.{new_head}
 use Rattle.log_model.proofs.Lengths.{ids_listed}
 use Rattle.log_head.specs.declared.head.Roll.{Roll}
 use Rattle.log_head.specs.Head.{HeadValue, digest_in, digest_of}
-use Rattle.log_head.specs.Log.{start_in, start_of, HasLens, phase_in, head_of, IsImageOf, IsNewImage}
+use Rattle.log_head.specs.Log.{start_in, start_of, HasLens, head_of, IsImageOf, IsNewImage}
 use Rattle.log_head.specs.Steps.{len_after, lens_after, start_after, fresh_roll, in_force}
 use Rattle.log_head.proofs.HeadLog.{start_read, read_has, head_is}
 
@@ -24,12 +23,6 @@ start_is master n has = start_read n has
 
 pub opening_is : (master : ℕ) (n : Start) → HasLens n → IsNewImage master (fresh_roll master n)
 opening_is master n has = ap (start_entries master) (sym (start_is master n has))
-
-pub phase_begun : (h : HeadValue) (master : ℕ) (n : Start) → HasLens n → 0 < h.replicas
-    → phase_in h.replicas (fresh_roll master n) ≡ Opened 0 n
-phase_begun h master n has some =
-    let test : (0 == h.replicas) ≡ false = grind (arith, nat_tests) in
-    rw test (ap (λ (s : Start). Opened 0 s) (start_is master n has))
 
 -- the digest lists as many lengths as ids
 lens_any : (b : Bool) (len : ℕ → ℕ) (ids : List ℕ)
@@ -51,23 +44,6 @@ start_after_has h victims survivors id safe =
 -- an image of the log bears the digest of its head
 pub digest_is : (master : ℕ) (h : HeadValue) (l : Head) → IsImageOf master h l → digest_of h.image ≡ ids_of l.start
 digest_is master h l is = ap digest_of is.image ∙ ids_listed l.start
-
--- ---- a replica of the new head is opened
-
-pub phase_opened : (h : HeadValue) (r : Roll) → r.opened < h.replicas → (r.opened < h.replicas → r.closed ≡ 0)
-    → phase_in h.replicas (record r { opened = suc r.opened }) ≡ one_opened h.replicas r.opened (start_of r)
-phase_opened h r few order =
-    ap (λ (k : ℕ). if suc r.opened == h.replicas then Closed k (start_of r)
-    else Opened (suc r.opened) (start_of r)) (order few)
-
--- before all of them are, the phase is this
-pub phase_opening : (h : HeadValue) (r : Roll) → r.opened < h.replicas
-    → phase_in h.replicas r ≡ Opened r.opened (start_of r)
-phase_opening h r few = let test : (r.opened == h.replicas) ≡ false = grind (arith, nat_tests) in rw test refl
-
--- once all are, it is this
-pub phase_closing : (replicas : ℕ) (r : Roll) → r.opened ≡ replicas → phase_in replicas r ≡ Closed r.closed (start_of r)
-phase_closing replicas r all = let test : (r.opened == replicas) ≡ true = grind (arith, nat_tests) in rw test refl
 
 -- ---- the new head is in force
 

@@ -63,8 +63,6 @@ pub record IsRollValue (replicas count : ℕ) (r : Roll) : Type 0 where
   pub whole : count ≡ replicas
   pub opened : r.opened ≤ replicas
   pub closed : r.closed < replicas
-  -- the new head is open before any replica of the old head is closed
-  pub order : r.opened < replicas → r.closed ≡ 0
 
 -- what is true of every head
 pub record IsHeadValue (h : HeadValue) : Type 0 where

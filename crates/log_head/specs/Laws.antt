@@ -1,18 +1,19 @@
 -- What is true of heads and the log, step by step.
-use Rattle.std.specs.Prelude.{◌≡◌, ℕ, suc, ◌+◌, ◌-◌, ◌<◌, ◌≤◌, List, [], ◌∷◌, ◌++◌, length, take, drop}
+use Rattle.std.specs.Prelude.{◌≡◌, ℕ, ◌+◌, ◌-◌, ◌<◌, ◌≤◌, List, [], ◌∷◌, ◌++◌, length, take, drop, Option}
 use Rattle.std.specs.List.Sorted.{IsStrictlyIncreasing}
 use Rattle.entry.specs.Bag.{IsAmong}
 use Rattle.entry.specs.declared.digest.Listed.{Listed}
 use Rattle.entry.specs.declared.entry.Entry.{Entry}
 use Rattle.entry.specs.Limits.{ids_in}
 use Rattle.entry.specs.Text.{text_of, IsSegment}
-use Rattle.log_model.specs.Data.{Start, Head, Opened, entries_of, head_entries}
-use Rattle.log_model.specs.Steps.{units_between, one_opened, new_head}
+use Rattle.log_model.specs.Data.{Start, Head, entries_of, head_entries}
+use Rattle.log_model.specs.Steps.{units_between, new_head}
 use Rattle.log_head.specs.declared.head.Roll.{Roll}
 use Rattle.log_head.specs.declared.rolling.Leaving.{Leaving}
-use Rattle.log_head.specs.Head.{HeadValue, IsRollValue, digest_of, end_of}
+use Rattle.log_head.specs.Head.{HeadValue, digest_of, end_of}
 use Rattle.log_head.specs.Steps.{fresh_head, with_unit_end, settled, start_after, others_after, fresh_roll, in_force}
-use Rattle.log_head.specs.Log.{HasLens, head_of, settled_head, start_of, phase_in, IsImageOf, IsNewImage}
+use Rattle.log_head.specs.Steps.{counts_without, lost}
+use Rattle.log_head.specs.Log.{HasLens, head_of, settled_head, start_of, IsImageOf, IsNewImage}
 
 -- An image holds one head of the log, and that is the head which is read from it.
 abbrev pub HeadIsRead : Type 0
@@ -51,6 +52,11 @@ abbrev pub CountsAreImage : Type 0
 CountsAreImage = (master : ℕ) (h : HeadValue) (l : Head) (ks : List ℕ) → IsImageOf master h l
     → IsImageOf master (record h { taken = ks }) (record l { taken = ks })
 
+-- So it is as a replica is lost.
+abbrev pub LostIsImage : Type 0
+LostIsImage = (master : ℕ) (h : HeadValue) (l : Head) (replica : Option ℕ) → IsImageOf master h l
+    → IsImageOf master (lost h replica) (record l { taken = counts_without h.taken replica })
+
 -- Once each replica is open, a head that is settled is the log's head with all that it held as what was loaded.
 abbrev pub SettledIsImage : Type 0
 SettledIsImage = (master : ℕ) (h : HeadValue) (l : Head) → IsImageOf master h l → IsSegment h.image
@@ -61,8 +67,8 @@ SettledIsImage = (master : ℕ) (h : HeadValue) (l : Head) → IsImageOf master 
 
 -- A new roll is to a head with this start, and its image is the opening of that head.
 abbrev pub RollBegins : Type 0
-RollBegins = (master : ℕ) (h : HeadValue) (n : Start) → HasLens n → 0 < h.replicas
-    → (phase_in h.replicas (fresh_roll master n) ≡ Opened 0 n) × IsNewImage master (fresh_roll master n)
+RollBegins = (master : ℕ) (n : Start) → HasLens n
+    → (start_of (fresh_roll master n) ≡ n) × IsNewImage master (fresh_roll master n)
 
 -- With no victims and no survivors the other ids of the new head's digest are those of the digest in force.
 abbrev pub OrdinaryKeeps : Type 0
@@ -84,11 +90,6 @@ DigestRises = (image : List Entry) (l : Leaving) (id : ℕ) → IsStrictlyIncrea
 abbrev pub DigestIsFew : Type 0
 DigestIsFew = (image : List Entry) (l : Leaving)
     → length (others_after image l) ≤ length (digest_of image) + length l.survivors.now
-
--- If one more replica of the new head is opened, the phase becomes what the log says.
-abbrev pub RollOpens : Type 0
-RollOpens = (h : HeadValue) (r : Roll) → IsRollValue h.replicas (length h.taken) r → r.opened < h.replicas
-    → phase_in h.replicas (record r { opened = suc r.opened }) ≡ one_opened h.replicas r.opened (start_of r)
 
 -- Once the new head is in force, it is the log's new head.
 abbrev pub RollEnds : Type 0

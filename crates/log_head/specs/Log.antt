@@ -1,14 +1,12 @@
 -- What a head is to the log: its opening, what was loaded, and the units in its image between the ends.
-use Rattle.std.specs.Prelude.{◌≡◌, ℕ, ◌+◌, ◌-◌, ◌==◌, List, [], ◌∷◌, length, take, drop, Option, Some, None}
-use Rattle.std.specs.Prelude.{map, IfSome, if◌then◌else◌}
-use Rattle.std.specs.Option.{option_map_or}
+use Rattle.std.specs.Prelude.{◌≡◌, ℕ, ◌+◌, ◌-◌, List, [], ◌∷◌, length, take, drop, Option, Some, None}
+use Rattle.std.specs.Prelude.{map, IfSome}
 use Rattle.entry.specs.declared.digest.Listed.{Listed}
 use Rattle.entry.specs.declared.digest.Digest.{Digest}
 use Rattle.entry.specs.declared.digest.Digest.TheVariants as digest
 use Rattle.entry.specs.declared.entry.Entry.{Entry}
 use Rattle.entry.specs.Text.{text_of, entries_in, data_in, Opening, opening_of, listed_ids}
-use Rattle.log_model.specs.Data.{Start, LogUnit, Head, Phase, Ready, Opened, Closed, start_entries, front_entries}
-use Rattle.log_model.specs.Data.{head_entries}
+use Rattle.log_model.specs.Data.{Start, LogUnit, Head, start_entries, front_entries, head_entries}
 use Rattle.log_model.specs.Steps.{no_units}
 use Rattle.log_head.specs.declared.head.Roll.{Roll}
 use Rattle.log_head.specs.declared.head.UnitEnd.{UnitEnd}
@@ -74,14 +72,6 @@ settled_head replicas l = record {
 -- what the new head of a roll begins with
 abbrev pub start_of : Roll → Start
 start_of r = start_in r.id (opening_of r.image)
-
--- how far a roll is, if heads have so many replicas
-abbrev pub phase_in : ℕ → Roll → Phase
-phase_in replicas r = if r.opened == replicas then Closed r.closed (start_of r) else Opened r.opened (start_of r)
-
--- the phase as the log knows it
-abbrev pub phase_of : HeadValue → Phase
-phase_of h = option_map_or (phase_in h.replicas) h.roll Ready
 
 -- the image of a roll is the opening of its new head
 abbrev pub IsNewImage : ℕ → Roll → Type 0

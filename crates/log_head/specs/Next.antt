@@ -1,6 +1,6 @@
 -- What the next push does, and the op that it hands over.
 use Rattle.std.specs.Prelude.{◌≡◌, ℕ, ◌-◌, ◌<◌, List, [], length, take, drop, Option, Some, None, slice_get}
-use Rattle.std.specs.Prelude.{unwrap_or}
+use Rattle.std.specs.Prelude.{unwrap_or, IsSome}
 use Rattle.std.specs.Option.{option_map_or}
 use Rattle.entry.specs.Text.{text_of}
 use Rattle.replica.specs.Op.{ActValue, Open, Extend, Close, OpValue}
@@ -15,11 +15,12 @@ pub record IsWholeHead (h : HeadValue) : Type 0 where
   pub none_lags : IsLagging (length h.units) h.taken None
 
 -- The order of pushes: first the first head is opened, then the replica that lags most is extended, then the new head
--- of a roll is opened, and then the old head is closed.
+-- of a roll is opened, and then the old head is closed. A replacement of a lost replica is never among them.
 abbrev pub IsNextPush : HeadValue → Option Next → Type 0
 IsNextPush h None = IsWholeHead h × (h.roll ≡ None)
 IsNextPush h (Some (next.OpenFirst j)) = (j ≡ length h.taken) × (j < h.replicas)
 IsNextPush h (Some (next.Extend j)) = (length h.taken ≡ h.replicas) × IsLagging (length h.units) h.taken (Some j)
+IsNextPush h (Some (next.OpenWhole j)) = ⊥
 IsNextPush h (Some (next.OpenNew j)) =
     IsWholeHead h × (r : Roll) × (h.roll ≡ Some r) × (j ≡ r.opened) × (j < h.replicas)
 IsNextPush h (Some (next.CloseOld j)) =
@@ -27,10 +28,19 @@ IsNextPush h (Some (next.CloseOld j)) =
 
 -- ---- its op
 
+-- What the op of a push needs: a replica that it extends is open, and a new head is that of a roll.
+abbrev pub HasOp : HeadValue → Next → Type 0
+HasOp h (next.OpenFirst j) = Unit {0}
+HasOp h (next.Extend j) = j < length h.taken
+HasOp h (next.OpenWhole j) = Unit {0}
+HasOp h (next.OpenNew j) = IsSome h.roll
+HasOp h (next.CloseOld j) = Unit {0}
+
 -- the replica that it is for
 abbrev pub replica_of : Next → ℕ
 replica_of (next.OpenFirst j) = j
 replica_of (next.Extend j) = j
+replica_of (next.OpenWhole j) = j
 replica_of (next.OpenNew j) = j
 replica_of (next.CloseOld j) = j
 
@@ -57,6 +67,7 @@ abbrev pub act_of : HeadValue → Next → ActValue
 act_of h (next.OpenFirst j) = Open (take h.base (text_of h.image))
 act_of h (next.Extend j) =
     Extend (end_of h.base h.units (units_of h j)) (bytes_between h (units_of h j) (length h.units))
+act_of h (next.OpenWhole j) = Open (text_of h.image)
 act_of h (next.OpenNew j) = Open (new_bytes h)
 act_of h (next.CloseOld j) = Close
 

@@ -1,7 +1,7 @@
 -- What a head becomes.
 use Rattle.std.specs.Prelude.{◌≡◌, ◌≤◌, ℕ, suc, ◌==◌, List, [], ◌∷◌, ◌++◌, length, Option, Some, None, slice_set}
 use Rattle.std.specs.Prelude.{unwrap_or, if◌then◌else◌}
-use Rattle.std.specs.List.{AllByRecursion}
+use Rattle.std.specs.List.{AllByRecursion, remove}
 use Rattle.entry.specs.declared.digest.Listed.{Listed}
 use Rattle.entry.specs.declared.entry.Entry.{Entry}
 use Rattle.entry.specs.Limits.{ids_in, IsListed}
@@ -13,9 +13,9 @@ use Rattle.log_model.specs.Data.{Start, len_next, lens_next, start_entries}
 use Rattle.log_model.specs.Ids.{all_inserted, without}
 use Rattle.log_model.specs.Steps.{no_lens, no_units}
 
--- what the first head of a master begins with, in this format: its digest lists itself alone
-abbrev pub lone_start : ℕ → ℕ → Start
-lone_start format safe = record { id = 1; others = []; lens = no_lens format; safe = safe }
+-- what a head with this id begins with, in this format, if it is the log's only segment: its digest lists itself alone
+abbrev pub lone_start : ℕ → ℕ → ℕ → Start
+lone_start id format safe = record { id = id; others = []; lens = no_lens format; safe = safe }
 
 -- a head with this many replicas, none of them open
 abbrev pub fresh_head : ℕ → ℕ → Start → HeadValue
@@ -40,6 +40,10 @@ with_unit_end h number unit = record h {
 abbrev pub with_opened_replica : HeadValue → HeadValue
 with_opened_replica h = record h { taken = h.taken ++ 0 ∷ [] }
 
+-- the replacement of a lost replica is open, and holds all units
+abbrev pub with_whole_replica : HeadValue → HeadValue
+with_whole_replica h = record h { taken = h.taken ++ length h.units ∷ [] }
+
 -- all units on a replica
 abbrev pub with_all_taken : HeadValue → ℕ → HeadValue
 with_all_taken h j = record h { taken = slice_set h.taken j (length h.units) }
@@ -47,6 +51,17 @@ with_all_taken h j = record h { taken = slice_set h.taken j (length h.units) }
 -- all that the head holds was loaded: it has no units, and so each open replica has none
 abbrev pub settled : HeadValue → HeadValue
 settled h = record h { base = length (text_of h.image); units = []; taken = no_units (length h.taken) }
+
+-- ---- a backup fails
+
+-- the counts of the replicas that are left, if this one is lost
+abbrev pub counts_without : List ℕ → Option ℕ → List ℕ
+counts_without ns None = ns
+counts_without ns (Some j) = remove ns j
+
+-- a replica is lost, if one is named, and a roll that was under way is abandoned
+abbrev pub lost : HeadValue → Option ℕ → HeadValue
+lost h replica = record h { taken = counts_without h.taken replica; roll = None }
 
 -- ---- a roll
 

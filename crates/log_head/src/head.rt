@@ -84,30 +84,31 @@ impl Head {
     ghost use Rattle.log_head.specs.Head.{HeadValue, IsHeadValue, end_of, record_at, len_with, everywhere, is_open};
     ghost use Rattle.log_head.specs.Head.{IsLagging};
     ghost use Rattle.log_head.specs.Steps.{lone_start, fresh_head, with_unit_end, with_opened_replica, with_all_taken};
-    ghost use Rattle.log_head.specs.Steps.{settled};
+    ghost use Rattle.log_head.specs.Steps.{with_whole_replica, lost, settled};
     ghost use Rattle.log_head.specs.Next.{bytes_between};
     ghost use Rattle.log_model.specs.Data.{Start};
 
-    /// The first head of a master, in this format. Its image holds the opening alone, and has room for `room` bytes more.
-    /// No replica is open.
+    /// A head with this id of a log without other segments, in this format. Its image holds the opening alone, and has
+    /// room for `room` bytes more. No replica is open.
     pub fn begin(
         alloc: Global,
         master: u64,
+        id: u64,
         replicas: usize,
         format: u64,
         safe: SafeVersion,
         room: usize,
     ) -> Result<Head, NoMemory>
         requires { replicas ≤ 64 }
-        ensures begun { IfOk result (λ head. head ≡ fresh_head master replicas (lone_start format safe)) }
+        ensures begun { IfOk result (λ head. head ≡ fresh_head master replicas (lone_start id format safe)) }
         ensures valid { IfOk result (λ head. IsHeadValue head) }
     {
         let taken = Vec::with_capacity(alloc, replicas)?;
-        let mut image = first_image(alloc, master, format, safe)?;
+        let mut image = first_image(alloc, master, id, format, safe)?;
         image.reserve(room)?;
         let base = image.bytes().len();
         Ok(Head {
-            id: 1,
+            id,
             replicas,
             image,
             base,
@@ -258,6 +259,35 @@ impl Head {
         self.taken.push_reserved(0)
     }
 
+    /// Counts the replacement of a lost replica, which was opened with all units.
+    pub fn open_whole(&mut self)
+        requires { length self.old.taken < self.old.replicas }
+        ensures opened { self.new ≡ with_whole_replica self.old }
+        ensures valid { IsHeadValue self.new }
+    {
+        self.taken.push_reserved(self.units.len())
+    }
+
+    /// Counts a replica as lost, if one is named: those behind it are then one lower each. A roll that was under way is
+    /// abandoned, and its image handed out.
+    pub fn lose(&mut self, replica: Option<usize>) -> Option<Segment>
+        requires { IfSome replica (λ j. j < length self.old.taken) }
+        ensures lost { self.new ≡ lost self.old replica }
+        ensures image { result ≡ option_map (λ r. r.image) self.old.roll }
+        ensures valid { IsHeadValue self.new }
+    {
+        if let Some(replica) = replica {
+            self.taken.remove(replica);
+        }
+        match self.roll.take() {
+            None => None,
+            Some(roll) => {
+                let Roll { image, .. } = roll;
+                Some(image)
+            }
+        }
+    }
+
     /// Counts the units that a replica took: all that it lacked.
     pub fn extend(&mut self, replica: usize)
         requires { replica < length self.old.taken }
@@ -309,30 +339,31 @@ ghost use Rattle.log_head.specs.Steps.{lone_start};
 ghost use Rattle.log_model.specs.Data.{digest_with, start_entries};
 ghost use Rattle.log_model.specs.Steps.{no_lens};
 
-/// The opening of a master's first head. Its digest lists that head alone.
+/// The opening of a head whose digest lists that head alone.
 fn first_image(
     alloc: Global,
     master: u64,
+    id: u64,
     format: u64,
     safe: SafeVersion,
 ) -> Result<Segment, NoMemory>
-    ensures { IfOk result (λ image. image ≡ start_entries master (lone_start format safe)) }
+    ensures { IfOk result (λ image. image ≡ start_entries master (lone_start id format safe)) }
 {
-    let digest = first_digest(alloc, format)?;
-    Segment::begin_head(alloc, master, 1, digest, safe)
+    let digest = first_digest(alloc, id, format)?;
+    Segment::begin_head(alloc, master, id, digest, safe)
 }
 
-/// The digest of a master's first head. Its own length is that of its opening.
-fn first_digest(alloc: Global, format: u64) -> Result<Digest, NoMemory>
-    ensures { IfOk result (λ digest. digest ≡ digest_with [] (no_lens format) 1) }
+/// The digest that lists this head alone. Its own length is that of its opening.
+fn first_digest(alloc: Global, id: u64, format: u64) -> Result<Digest, NoMemory>
+    ensures { IfOk result (λ digest. digest ≡ digest_with [] (no_lens format) id) }
 {
     if format == 2 {
         let mut segments = Vec::with_capacity(alloc, 1)?;
-        segments.push(Listed { id: 1, len: 48 })?;
+        segments.push(Listed { id, len: 48 })?;
         return Ok(Digest::Lengths(Lengths::new(segments)));
     }
     let mut ids = Vec::with_capacity(alloc, 1)?;
-    ids.push(1)?;
+    ids.push(id)?;
     Ok(Digest::Ids(Ids::new(ids)))
 }
 

@@ -1,8 +1,8 @@
 //! Laws about heads and the log, for the proofs of callers.
 
 ghost use Rattle.log_head.specs.Laws.{HeadIsRead, EndsAreLengths, FrontsAreTexts, PartsAreUnits};
-ghost use Rattle.log_head.specs.Laws.{FreshIsImage, UnitIsImage, CountsAreImage, SettledIsImage};
-ghost use Rattle.log_head.specs.Laws.{OrdinaryKeeps, DigestRises, DigestIsFew, RollBegins, RollOpens, RollEnds};
+ghost use Rattle.log_head.specs.Laws.{FreshIsImage, UnitIsImage, CountsAreImage, LostIsImage, SettledIsImage};
+ghost use Rattle.log_head.specs.Laws.{OrdinaryKeeps, DigestRises, DigestIsFew, RollBegins, RollEnds};
 
 /// An image holds one head of the log. What lies between two of its ends is whole units.
 pub fn heads_are_read()
@@ -12,19 +12,19 @@ pub fn heads_are_read()
     ensures parts { PartsAreUnits }
 {}
 
-/// The image stays that of the log's head: at its start, after one more unit, after a replica took one, and once all
-/// that the head holds counts as loaded.
+/// The image stays that of the log's head: at its start, after one more unit, after a replica took one or is lost, and
+/// once all that the head holds counts as loaded.
 pub fn images_go_on()
     ensures fresh { FreshIsImage }
     ensures unit { UnitIsImage }
     ensures counts { CountsAreImage }
+    ensures lost { LostIsImage }
     ensures settled { SettledIsImage }
 {}
 
-/// A roll of this head is a roll of the log: as it begins, as its new head is opened, and as it ends.
+/// A roll of this head is a roll of the log: as it begins, and as it ends.
 pub fn rolls_go_on()
     ensures begins { RollBegins }
-    ensures opens { RollOpens }
     ensures ends { RollEnds }
 {}
 

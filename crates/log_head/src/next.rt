@@ -10,6 +10,8 @@ pub enum Next {
     OpenFirst(usize),
     /// A replica of the head is handed all units that it lacks.
     Extend(usize),
+    /// The replacement of a lost replica is opened with all that the head holds.
+    OpenWhole(usize),
     /// A replica of the new head is opened.
     OpenNew(usize),
     /// A replica of the old head is closed.
@@ -24,6 +26,7 @@ impl Next {
         match self {
             Next::OpenFirst(replica) => *replica,
             Next::Extend(replica) => *replica,
+            Next::OpenWhole(replica) => *replica,
             Next::OpenNew(replica) => *replica,
             Next::CloseOld(replica) => *replica,
         }

@@ -11,10 +11,11 @@ ghost use Rattle.entry.specs.View.{shown_ids};
 ghost use Rattle.log_model.specs.Data.{digest_with, start_entries};
 ghost use Rattle.log_model.specs.Ids.{has, all_inserted, without};
 ghost use Rattle.replica.specs.Op.{shown_op};
-ghost use Rattle.log_head.specs.Head.{digest_in, digest_of, is_open, is_up_to, lacks_to, record_at, IsHeadValue};
-ghost use Rattle.log_head.specs.Next.{IsNextPush, op_of};
+ghost use Rattle.log_head.specs.Head.{digest_in, digest_of, is_open, is_up_to, lacks_to, record_at};
+ghost use Rattle.log_head.specs.Head.{IsHeadValue, IsRollValue};
+ghost use Rattle.log_head.specs.Next.{IsNextPush, HasOp, op_of};
 ghost use Rattle.log_head.specs.Steps.{start_after, others_after, with_roll, with_new_replica, with_closed_replica};
-ghost use Rattle.log_head.specs.Steps.{old_image, len_after, lens_after, AreListedBy};
+ghost use Rattle.log_head.specs.Steps.{fresh_roll, old_image, len_after, lens_after, AreListedBy};
 
 use crate::head::{Head, Roll};
 use crate::next::Next;
@@ -89,9 +90,9 @@ impl Head {
         }
     }
 
-    /// The op that the next push hands over.
+    /// The op that a push hands over.
     pub fn op(&self, master: u64, next: Next) -> Op<'_>
-        requires { IsNextPush self.now (Some next) }
+        requires { HasOp self.now next }
         ensures { shown_op result ≡ op_of master self.entry.now next }
     {
         match next {
@@ -108,6 +109,11 @@ impl Head {
                     act: Act::Extend { at, bytes },
                 }
             }
+            Next::OpenWhole(_) => Op {
+                master,
+                segment: self.id,
+                act: Act::Open(self.image.bytes()),
+            },
             Next::OpenNew(_) => match &self.roll {
                 Some(roll) => Op {
                     master,
@@ -173,6 +179,49 @@ impl Head {
             closed: 0,
         });
         Ok(())
+    }
+
+    /// The roll that `begin_roll` would begin, with so many replicas of the old head closed already, for `set_roll`.
+    /// Its image has room for `room` bytes. Nothing changes.
+    pub fn next_roll(
+        &self,
+        alloc: Global,
+        master: u64,
+        id: u64,
+        safe: SafeVersion,
+        leaving: Leaving<'_>,
+        room: usize,
+        closed: usize,
+    ) -> Result<Roll, NoMemory>
+        requires opened { length self.now.taken ≡ self.now.replicas }
+        requires closed { closed < self.now.replicas }
+        requires rise { IsStrictlyIncreasing (others_after self.now.image leaving ++ id ∷ []) }
+        requires count { length (others_after self.now.image leaving) < 262144 }
+        requires survivors { AreLengths leaving.survivors.now }
+        ensures roll { let survivors = leaving.entry.survivors.now in
+            let start = start_after self.now leaving.entry.victims.now survivors id safe in
+            IfOk result (λ roll. roll ≡ record (fresh_roll master start) { closed = closed }) }
+        ensures valid { IfOk result (λ roll. IsRollValue self.now.replicas (length self.now.taken) roll) }
+    {
+        let mut image = next_image(alloc, self.id, &self.image, master, id, safe, leaving)?;
+        image.reserve(room)?;
+        Ok(Roll {
+            id,
+            image,
+            opened: 0,
+            closed,
+        })
+    }
+
+    /// Begins this roll. The old image gives back the room that it has above `kept` bytes.
+    pub fn set_roll(&mut self, roll: Roll, kept: usize)
+        requires none { self.old.roll ≡ None }
+        requires roll { IsRollValue self.old.replicas (length self.old.taken) roll }
+        ensures begun { self.new ≡ record self.old { roll = Some roll } }
+        ensures valid { IsHeadValue self.new }
+    {
+        self.image.trim(kept);
+        self.roll = Some(roll);
     }
 
     /// Counts a replica of the new head that was opened.

@@ -28,7 +28,7 @@ use Rattle.failover_clean.proofs.FleetSteps.{apply_holds_all}
 use Rattle.places.specs.declared.place.Place.{Place}
 use Rattle.master_state.specs.declared.step.StepAnswer.{StepAnswer}
 use Rattle.master_state.specs.Budget.{victims_of, survivors_of, is_committing}
-use Rattle.master_state.specs.Causes.{dead_segment}
+use Rattle.master_state.specs.Causes.{dead_segment, is_empty}
 use Rattle.master_state.specs.Steps.{appended, record_now, Applies, MayApplyNow}
 use Rattle.master_state.specs.Data.{MasterData}
 use Rattle.master_state.specs.Images.{images_among}
@@ -37,11 +37,11 @@ use Rattle.master_state.specs.Log.{log_of, images_of, find, entry_place, rest_no
 use Rattle.master_commands.proofs.Adding.{same_appended, image_appended}
 use Rattle.master_commands.proofs.HeadsInForce.{open_opened}
 use Rattle.master_state.proofs.Imaging.{same_id, other_id, appended_own, appended_other}
-use Rattle.master_state.proofs.Refusals.{is_admitted, passed_early}
+use Rattle.master_state.proofs.Refusals.{is_admitted, passed_early, unit_working, working_parts}
 use Rattle.master.specs.Invariant.{IsWellKept}
 use Rattle.master.specs.Placed.{IsPlaced}
 use Rattle.master.proofs.HeadTexts.{head_whole}
-use Rattle.master.proofs.InForce.{force_opened}
+use Rattle.master.proofs.InForce.{headed, force_headed}
 use Rattle.master.proofs.Lasting.{kept_as, well_kept, unhanded_kept}
 use Rattle.master.proofs.Models.{IsModel, LeavesPass, is_model, own_holds_all}
 use Rattle.master.proofs.Placements.{placed_appended}
@@ -108,11 +108,13 @@ module _ (d e : MasterData) (f : FleetState) (seat : ℕ) (command : Command) (a
   head = (log_of d).head.start.id
 
   head_is : (unit ≡ []) ⊎ (head ≡ d.head.id)
-  head_is = elim may.1 as (λ _. (unit ≡ []) ⊎ (head ≡ d.head.id)) [
-    | inl none ↦ inl none
-    | inr fits ↦ inr (ap (λ (h : FailHead). h.start.id)
-        (force_opened d.config.format d.head (open_opened d.head fits.opened)) ∙ kept.core.image.id)
-  ]
+  head_is = go unit refl where
+    go : (u : List Entry) → unit ≡ u → (unit ≡ []) ⊎ (head ≡ d.head.id)
+    go [] none = inl none
+    go (x ∷ u) some =
+        let works = working_parts d (unit_working d command is.passed (ap is_empty some)) in
+        inr (ap (λ (h : FailHead). h.start.id) (force_headed d (headed d works.1 (open_opened d.head works.0)))
+        ∙ kept.core.image.id)
 
   running : d.is_halted ≡ false
   running = (is_admitted d command (passed_early d command is.passed)).running
@@ -227,9 +229,13 @@ module _ (d e : MasterData) (f : FleetState) (seat : ℕ) (command : Command) (a
 
   placed : IsPlaced e
   placed =
-      placed_appended d e kept.core kept.placed (length d.history) unit is.config
-      (ap (λ (x : MasterData). x.ledger) is.rest) (ap (λ (x : MasterData). x.head) is.rest)
-      (ap (λ (x : MasterData). x.pass) is.rest)
+      placed_appended d e kept.placed (length d.history) unit (record {
+        config = is.config;
+        failed = ap (λ (x : MasterData). x.failed) is.rest;
+        failover = ap (λ (x : MasterData). x.failover) is.rest;
+        ledger = ap (λ (x : MasterData). x.ledger) is.rest;
+        closed = ap (λ (x : MasterData). x.closed) is.rest;
+      }) (ap (λ (x : MasterData). x.head) is.rest) may.0.calm
 
   pub applied_kept : IsWellKept e f
   applied_kept =

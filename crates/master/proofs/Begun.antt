@@ -38,11 +38,11 @@ use Rattle.failover_clean.specs.Steps.{ids_taken, pass_begun, MayBeginClean}
 use Rattle.failover_clean.proofs.BegunSurvivors.{begun_survivors}
 use Rattle.failover_clean.proofs.FleetSteps.{begin_holds_all}
 use Rattle.master_state.specs.declared.step.Refusal.{Refusal}
-use Rattle.master_state.specs.declared.step.Refusal.TheVariants.{Halted, Pass as PassRefused}
+use Rattle.master_state.specs.declared.step.Refusal.TheVariants.{Pass as PassRefused}
 use Rattle.master_state.specs.declared.step.StepAnswer.{StepAnswer}
 use Rattle.master_state.specs.Budget.{victims_of, survivors_of}
 use Rattle.master_state.specs.declared.config.Config.{Config}
-use Rattle.master_state.specs.Causes.{victims_fault, survivors_for, space_refusal}
+use Rattle.master_state.specs.Causes.{step_refusal, victims_fault, survivors_for, space_refusal}
 use Rattle.master_state.specs.declared.ledger.Posting.TheVariants as posting
 use Rattle.master_state.specs.Data.{MasterData}
 use Rattle.master_state.specs.Images.{survivor_images}
@@ -53,6 +53,7 @@ use Rattle.master_state.proofs.Finding.{each_of}
 use Rattle.master_state.proofs.Imaging.{ids_in, other_id, none_above}
 use Rattle.master_state.proofs.Indexing.{Grow}
 use Rattle.master_state.proofs.Refusals.{passes}
+use Rattle.master_space.proofs.Calm.{passes_first, calm_parts}
 use Rattle.master.specs.Invariant.{IsWellKept}
 use Rattle.master.specs.Placed.{IsPlaced}
 use Rattle.master.proofs.Agreeing.{Agree, agreeing_holds}
@@ -345,9 +346,9 @@ module _ (d e : MasterData) (f : FleetState) (victims : List ℕ) (answer : Step
 
   admitted : (d.is_halted ≡ false) × (d.pass ≡ None)
   admitted =
-      let a = passes d.is_halted Halted _ is.passed in
+      let a = passes_first (step_refusal d) _ is.passed in
       let fault = no_fault (victims_fault d victims) (space_refusal d victims) a.1 in
-      (a.0, no_pass_open d.pass (passes (is_some d.pass) PassOpen _ fault).0)
+      ((calm_parts d a.0).0, no_pass_open d.pass (passes (is_some d.pass) PassOpen _ fault).0)
 
   then_core : IsCore (begun_data d victims (survivors_for d victims) is.cursor)
   then_core = subst IsCore is.rest core
@@ -363,8 +364,8 @@ module _ (d e : MasterData) (f : FleetState) (victims : List ℕ) (answer : Step
       (agree d kept.core victims count is.cursor admitted.1 then_core is.begins)))
 
   placed : IsPlaced e
-  placed = subst IsPlaced (sym is.rest) (placed_begun d kept.core kept.placed victims count is.cursor
-      (d.closed ++ survivor_images d.config (range_with_len d.next count)))
+  placed = subst IsPlaced (sym is.rest) (placed_begun d kept.core kept.placed victims (range_with_len d.next count)
+      count is.cursor (among_ids d.next count))
 
   pub begun_kept : IsWellKept e f
   begun_kept =

@@ -1,6 +1,6 @@
 -- A segment that is compacted keeps what holds of a master.
 use Rattle.std.proofs.Common.{◌≡◌, ℕ, Bool, true, false, List, refl, sym, ap, subst, ◌∙◌, arith}
-use Rattle.std.specs.Prelude.{Option, Some, ◌==◌}
+use Rattle.std.specs.Prelude.{Option, Some, None, ◌==◌}
 use Rattle.std.specs.Option.{option_map}
 use Rattle.std.proofs.lemmas.Bool.{eqb-true}
 use Rattle.std.proofs.lemmas.Option.{same_Some}
@@ -8,7 +8,7 @@ use Rattle.entry.specs.declared.key.Key.{Key}
 use Rattle.entry.specs.declared.entry.Entry.{Entry}
 use Rattle.entry.specs.Bag.{IsAmong}
 use Rattle.replica.specs.Picture.{FleetState}
-use Rattle.log_head.specs.Log.{head_of}
+use Rattle.images.specs.Steps.{replaced_by}
 use Rattle.clean_model.specs.Compaction.{moved_place, kept_before}
 use Rattle.clean_model.specs.Memory.{Place as EntryPlace}
 use Rattle.clean_model.proofs.KeptEntries.{has_is}
@@ -26,17 +26,18 @@ use Rattle.master_state.specs.Budget.{victims_of, survivors_of, is_committing}
 use Rattle.master_state.specs.Data.{MasterData}
 use Rattle.master_state.specs.Invariant.{IsCore}
 use Rattle.master_state.specs.Log.{log_of, images_of, find, entry_place, memory_of, log_set_ids}
-use Rattle.master_state.specs.Steps.{compacted_data, Compacts}
+use Rattle.master_state.specs.Steps.{kept_now, compacted_data, Compacts}
+use Rattle.master_space.proofs.Calm.{calm_parts}
 use Rattle.master_space.proofs.CompactedCore.{IsAdmitted, admitted, in_digest, images_then}
 use Rattle.master_space.proofs.CompactedIndex.{found_elsewhere}
 use Rattle.master_state.proofs.Imaging.{other_id}
 use Rattle.master.specs.Invariant.{IsWellKept}
-use Rattle.master.specs.Placed.{sealed_now, IsPlaced}
+use Rattle.master.specs.Placed.{IsPlaced}
 use Rattle.master.proofs.KeptByEntries.{kept_by_entries}
 use Rattle.master.proofs.Lasting.{kept_as, well_kept, unhanded_kept}
 use Rattle.master.proofs.LogSets.{has_same, same_set, of_digest}
 use Rattle.master.proofs.Models.{IsModel, LeavesPass, rest_stays, is_model, own_holds_all}
-use Rattle.master.proofs.Placements.{placed_same}
+use Rattle.master.proofs.Placements.{AreSame, changed_same, placed_same}
 use Rattle.master.proofs.Victims.{survivor_outside, never_both}
 
 law : CompactionFollows
@@ -70,6 +71,9 @@ module _ (d e : MasterData) (f : FleetState) (id : ℕ) (answer : StepAnswer) (k
   fit : IsAdmitted d id
   fit = admitted d id is.passed
 
+  step : (d.is_halted ≡ false) × (d.failover ≡ None)
+  step = calm_parts d fit.step
+
   no_victim : IsAmong id (victims_of d.pass) → ⊥
   no_victim victim =
       let there = sym (has_same (victims_of d.pass) id) ∙ has_is (victims_of d.pass) id victim in
@@ -78,7 +82,7 @@ module _ (d e : MasterData) (f : FleetState) (id : ℕ) (answer : StepAnswer) (k
 
   may : MayCompact (log_of d) m id
   may = record {
-    counts = of_digest d kept.core id (in_digest d kept.core id fit);
+    counts = of_digest d kept.core id step.1 (in_digest d kept.core id fit);
     no_survivor = λ survivor. survivor_outside d kept.core id survivor (in_digest d kept.core id fit);
     no_victim = no_victim;
   }
@@ -100,7 +104,7 @@ module _ (d e : MasterData) (f : FleetState) (id : ℕ) (answer : StepAnswer) (k
         let own : compacted_images (log_set_ids d) d.index (images_of d) id s
         ≡ kept_of (log_set_ids d) d.index id (images_of d id) = rw here refl in
         let now = images_are s ∙ own in
-        rw here (now ∙ sym (kept_by_entries d kept.core ids (log_set_ids d) (same_set d kept.core) id))
+        rw here (now ∙ sym (kept_by_entries d kept.core ids (log_set_ids d) (λ z. same_set d kept.core z step.1) id))
     at_segment false away = let now = others_same s away in rw away now
 
   -- ---- the open pass
@@ -142,20 +146,22 @@ module _ (d e : MasterData) (f : FleetState) (id : ℕ) (answer : StepAnswer) (k
   placed : IsPlaced e
   placed = placed_same d e (record {
     config = ap (λ (x : MasterData). x.config) is.rest;
+    failed = ap (λ (x : MasterData). x.failed) is.rest;
+    failover = ap (λ (x : MasterData). x.failover) is.rest;
     ledger = ap (λ (x : MasterData). x.ledger) is.rest;
     id = ap (λ (x : MasterData). x.head.id) is.rest;
     replicas = ap (λ (x : MasterData). x.head.replicas) is.rest;
     taken = ap (λ (x : MasterData). x.head.taken) is.rest;
     roll = ap (λ (x : MasterData). x.head.roll) is.rest;
-    others = ap (λ (x : MasterData). (head_of x.head).start.others) is.rest;
-    survivors = ap (λ (x : MasterData). survivors_of x.pass) is.rest;
-    sealed = λ s. ap (λ (x : MasterData). sealed_now x s) is.rest;
+    units = λ opens. ap (λ (x : MasterData). x.head.units) is.rest;
+    closed = subst (λ (x : MasterData). AreSame d.closed x.closed) (sym is.rest)
+        (changed_same d.closed id (replaced_by (kept_now d id)) (λ x. refl) (λ x. refl));
   }) kept.placed
 
   pub compacted_kept : IsWellKept e f
   compacted_kept =
-      well_kept e f (unhanded_kept d e f (kept_as d f kept fit.running) core placed
+      well_kept e f (unhanded_kept d e f (kept_as d f kept step.0) core placed
       (ap (λ (x : MasterData). x.config) is.rest)
       (ap (λ (x : MasterData). x.waiting) is.rest)
       (own_holds_all e core then_memory f (subst (λ (l : FailData). HoldsAll l then_memory f) (sym is.log)
-      (compact_holds_all (log_of d) m f id (kept.known fit.running) may)) model))
+      (compact_holds_all (log_of d) m f id (kept.known step.0) may)) model))

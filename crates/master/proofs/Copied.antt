@@ -2,14 +2,13 @@
 use Rattle.std.proofs.Common.{◌≡◌, ℕ, ◌+◌, Bool, true, false, inl, inr, List, [], ◌∷◌, ◌++◌, map, length, drop, refl}
 use Rattle.std.proofs.Common.{sym}
 use Rattle.std.proofs.Common.{ap, subst, ◌∙◌, arith}
-use Rattle.std.specs.Prelude.{Option, Some, ◌==◌, if◌then◌else◌}
+use Rattle.std.specs.Prelude.{Option, Some, None, ◌==◌, if◌then◌else◌}
 use Rattle.std.specs.Option.{option_map, option_map_or}
 use Rattle.std.proofs.lemmas.Bool.{eqb-true, eqb-false}
 use Rattle.std.proofs.lemmas.List.{append-nil}
 use Rattle.std.proofs.lemmas.Option.{same_Some}
 use Rattle.cleaner.specs.declared.pass.Pass.{Pass}
 use Rattle.cleaner.specs.Passes.{images_in, survivor_ids, rest_of, copy_place, images_with, held_with}
-use Rattle.cleaner.specs.Seals.{sealed_of}
 use Rattle.cleaner.proofs.Images.{len_is, with_other, grown_own}
 use Rattle.cleaner.proofs.Places.{on_segment, among_drop}
 use Rattle.cleaner.proofs.SurvivorIds.{id_among}
@@ -28,7 +27,6 @@ use Rattle.places.proofs.Words.{names_still, names_moved, named_found}
 use Rattle.images.specs.Image.{Image}
 use Rattle.images.specs.Sorted.{changed}
 use Rattle.images.specs.Steps.{with_unit}
-use Rattle.log_head.specs.Log.{head_of}
 use Rattle.replica.specs.Picture.{FleetState}
 use Rattle.versioned_map.proofs.Keys.{key_eq-tells}
 use Rattle.clean_model.specs.Compaction.{kept as entry_kept}
@@ -38,18 +36,18 @@ use Rattle.failover_clean.specs.Fleet.{HoldsAll}
 use Rattle.failover_clean.specs.Memory.{log_ids}
 use Rattle.failover_clean.specs.Steps.{index_moved, with_copy, MayCopy}
 use Rattle.failover_clean.proofs.FleetSteps.{copy_holds_all}
-use Rattle.master_state.specs.declared.step.Refusal.TheVariants.{Halted}
 use Rattle.master_state.specs.declared.step.StepAnswer.{StepAnswer}
 use Rattle.master_state.specs.Budget.{victims_of, survivors_of}
+use Rattle.master_state.specs.Causes.{step_refusal}
 use Rattle.master_state.specs.Data.{MasterData}
 use Rattle.master_state.specs.Invariant.{IsCore}
 use Rattle.master_state.specs.Log.{log_of, memory_of, images_of, log_set_ids, entry_place, position_of}
 use Rattle.master_state.specs.Steps.{Copies}
 use Rattle.master_state.proofs.Finding.{each_of}
 use Rattle.master_state.proofs.Indexing.{Grow, key_seen}
-use Rattle.master_state.proofs.Refusals.{passes}
+use Rattle.master_space.proofs.Calm.{passes_first, calm_parts}
 use Rattle.master.specs.Invariant.{IsWellKept}
-use Rattle.master.specs.Placed.{sealed_now, IsPlaced}
+use Rattle.master.specs.Placed.{IsPlaced}
 use Rattle.master.proofs.Agreeing.{Agree, agreeing_holds}
 use Rattle.master.proofs.GrownImages.{index_then}
 use Rattle.master.proofs.KeptByEntries.{position_is, stands_by_entries, kept_same}
@@ -57,11 +55,11 @@ use Rattle.master.proofs.Lasting.{kept_as, well_kept, unhanded_kept}
 use Rattle.master.proofs.LogSets.{same_set}
 use Rattle.master.proofs.OpenPasses.{closed_among, same_among, rest_is, victim_image, below_survivor, not_head, not_new}
 use Rattle.master.proofs.OpenPasses.{survivor_image, survivor_whole}
-use Rattle.master.proofs.Placements.{placed_same}
+use Rattle.master.proofs.Placements.{AreSame, same_images, changed_same, placed_same}
 
 -- ---- what is kept, by entries and by offsets
 
-module _ (d : MasterData) (core : IsCore d) (u : Place) where
+module _ (d : MasterData) (core : IsCore d) (calm : d.failover ≡ None) (u : Place) where
   kept_there : (e : Entry) → IsAtPlace (images_of d) u e
       → entry_kept (log_ids (log_of d) (memory_of d)) (memory_of d).index u.segment
       (position_of (images_of d u.segment) u.at) e
@@ -70,7 +68,7 @@ module _ (d : MasterData) (core : IsCore d) (u : Place) where
       ap (λ (n : ℕ). entry_kept (log_ids (log_of d) (memory_of d)) (memory_of d).index u.segment n e)
       (position_is (images_of d u.segment) u.at e (each_of d core u.segment) l)
       ∙ kept_same d core (log_ids (log_of d) (memory_of d)) (log_set_ids d)
-      (same_set d core) u.segment l.before e l.after l.split
+      (λ s. same_set d core s calm) u.segment l.before e l.after l.split
       ∙ ap (λ (n : ℕ). is_kept (log_set_ids d) d.index (record { segment = u.segment; at = n }) e) (sym l.offset)
 
   pub copied_is_kept : (e : Entry) → IsAtPlace (images_of d) u e → is_data e ≡ true
@@ -104,6 +102,11 @@ maps_same : (f g : Place → EntryPlace) (us : List Place) → ((u : Place) → 
     → map f us ≡ map g us
 maps_same f g [] same = refl
 maps_same f g (u ∷ us) same = λ i. same u (inl refl) i ∷ maps_same f g us (λ v m. same v (inr m)) i
+
+-- a copy leaves each segment its replicas
+copied_same : (cs : List Image) (z : ℕ) (e : Entry) (t : Bool) → AreSame cs (images_with t z e cs)
+copied_same cs z e true = changed_same cs z (with_unit (e ∷ [])) (λ x. refl) (λ x. refl)
+copied_same cs z e false = same_images cs
 
 -- ---- a kept entry
 
@@ -223,13 +226,6 @@ module _ (d : MasterData) (core : IsCore d) (p : Pass) (opened : d.pass ≡ Some
   same_ids : ids_of (Some q) ≡ ids_of d.pass
   same_ids = ap (λ (r : Pass). ids_of (Some r)) pass_is ∙ ap ids_of (sym opened)
 
-  same_sealed : (s : ℕ) → sealed_of d.config.replicas q.sealed q.survivors.first s
-      ≡ option_map_or (λ (r : Pass). sealed_of d.config.replicas r.sealed r.survivors.first s) d.pass 0
-  same_sealed s =
-      ap (λ (r : Pass). sealed_of d.config.replicas r.sealed r.survivors.first s) pass_is
-      ∙ ap (λ (o : Option Pass). option_map_or
-      (λ (r : Pass). sealed_of d.config.replicas r.sealed r.survivors.first s) o 0) (sym opened)
-
   same_commits : q.is_committing ≡ option_map_or (λ (r : Pass). r.is_committing) d.pass false
   same_commits =
       ap (λ (r : Pass). r.is_committing) pass_is ∙ ap (λ (o : Option Pass). option_map_or
@@ -312,8 +308,8 @@ module _ (d e : MasterData) (f : FleetState) (answer : StepAnswer) (kept : IsWel
         (each_of d kept.core is.treats.place.segment) lies;
   }
 
-  running : d.is_halted ≡ false
-  running = (passes d.is_halted Halted _ is.passed).0
+  step : (d.is_halted ≡ false) × (d.failover ≡ None)
+  step = calm_parts d (passes_first (step_refusal d) _ is.passed).0
 
   holds_if : (t : Bool) → is_kept (log_set_ids d) d.index is.treats.place is.treats.entry ≡ t
       → HoldsAll (log_of d)
@@ -323,9 +319,9 @@ module _ (d e : MasterData) (f : FleetState) (answer : StepAnswer) (kept : IsWel
       subst (λ (b : Bool). HoldsAll (log_of d)
       (if b then with_copy (memory_of d) rest (target is.pass is.after) is.treats.entry
       else record (memory_of d) { rest = rest }) f)
-      (copied_is_kept d kept.core is.treats.place is.treats.entry lies is.treats.of_data ∙ test)
+      (copied_is_kept d kept.core step.1 is.treats.place is.treats.entry lies is.treats.of_data ∙ test)
       (copy_holds_all (log_of d) (memory_of d) f (entry_place d is.treats.place) rest (target is.pass is.after)
-      is.treats.entry (kept.known running) may)
+      is.treats.entry (kept.known step.0) may)
 
   holds_then : (t : Bool) → is_kept (log_set_ids d) d.index is.treats.place is.treats.entry ≡ t
       → HoldsAll (log_of e) (memory_of e) f
@@ -383,23 +379,21 @@ module _ (d e : MasterData) (f : FleetState) (answer : StepAnswer) (kept : IsWel
   placed : IsPlaced e
   placed = placed_same d e (record {
     config = ap (λ (x : MasterData). x.config) is.rest;
+    failed = ap (λ (x : MasterData). x.failed) is.rest;
+    failover = ap (λ (x : MasterData). x.failover) is.rest;
     ledger = ap (λ (x : MasterData). x.ledger) is.rest;
     id = ap (λ (x : MasterData). x.head.id) is.rest;
     replicas = ap (λ (x : MasterData). x.head.replicas) is.rest;
     taken = ap (λ (x : MasterData). x.head.taken) is.rest;
     roll = ap (λ (x : MasterData). x.head.roll) is.rest;
-    others = ap (λ (x : MasterData). (head_of x.head).start.others) is.rest;
-    survivors = ap (λ (x : MasterData). survivors_of x.pass) is.rest
-        ∙ ap (λ (i : PassIds). i.survivors) (same_ids d kept.core p is.opened u is.treats.later is.treats.first
-        is.treats.entry is.after is.treats.pass);
-    sealed = λ s. ap (λ (x : MasterData). sealed_now x s) is.rest
-        ∙ same_sealed d kept.core p is.opened u is.treats.later is.treats.first is.treats.entry is.after
-        is.treats.pass s;
+    units = λ opens. ap (λ (x : MasterData). x.head.units) is.rest;
+    closed = subst (AreSame d.closed) (sym is.treats.survivor)
+        (copied_same d.closed z is.treats.entry (is_kept (log_set_ids d) d.index is.treats.place is.treats.entry));
   }) kept.placed
 
   pub copied_kept : IsWellKept e f
   copied_kept =
-      well_kept e f (unhanded_kept d e f (kept_as d f kept running) core placed
+      well_kept e f (unhanded_kept d e f (kept_as d f kept step.0) core placed
       (ap (λ (y : MasterData). y.config) is.rest)
       (ap (λ (y : MasterData). y.waiting) is.rest)
       (holds_then (is_kept (log_set_ids d) d.index is.treats.place is.treats.entry) refl))

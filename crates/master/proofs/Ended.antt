@@ -1,9 +1,11 @@
 -- A roll ends with the last Close. With a commit the victims of its pass leave memory, and wait to be freed.
 use Rattle.std.proofs.Common.{◌≡◌, ℕ, zero, suc, ◌⊎◌, ◌+◌, ◌-◌, ◌<◌, ◌≤◌, inl, inr, Bool, true, false, List, []}
 use Rattle.std.proofs.Common.{◌∷◌, ◌++◌, refl, sym, ap, subst, ◌∙◌, map, arith}
-use Rattle.std.specs.Prelude.{Option, Some, ◌==◌, filter, unwrap_or, if◌then◌else◌}
+use Rattle.std.specs.Prelude.{Option, Some, IsSome, ◌==◌, ◌&&◌, nat_lt, unwrap_or}
 use Rattle.std.specs.List.{AllByRecursion}
 use Rattle.std.specs.Option.{option_map, option_map_or}
+use Rattle.std.proofs.lemmas.Bool.{and_parts}
+use Rattle.std.proofs.lemmas.List.{map-append}
 use Rattle.std.proofs.lemmas.Option.{same_Some}
 use Rattle.cleaner.specs.declared.pass.Pass.{Pass as OpenPass}
 use Rattle.entry.specs.declared.key.Key.{Key}
@@ -14,47 +16,47 @@ use Rattle.places.specs.declared.place.Place.{Place}
 use Rattle.places.specs.Map.{found}
 use Rattle.compactor.specs.Places.{keys_in}
 use Rattle.log_head.specs.declared.head.Roll.{Roll}
-use Rattle.log_head.specs.Log.{head_of, start_of}
 use Rattle.log_head.specs.Steps.{in_force}
-use Rattle.log_head.proofs.Digests.{all_out, without_none}
-use Rattle.log_model.specs.Data.{ids_of}
 use Rattle.log_model.specs.Ids.{has, without}
 use Rattle.clean_model.specs.Memory.{Place as EntryPlace}
-use Rattle.clean_model.proofs.KeptEntries.{has_is, is_has}
-use Rattle.failover_model.specs.Data.{Calm, FailData, homes}
-use Rattle.failover_model.specs.Steps.{ended, ids_now}
-use Rattle.failover_clean.specs.Memory.{Spot, log_ids}
+use Rattle.clean_model.proofs.KeptEntries.{is_has}
+use Rattle.failover_model.specs.Data.{FailData, homes}
+use Rattle.failover_clean.specs.Memory.{Spot}
 use Rattle.failover_clean.specs.Steps.{spots_of, finished}
-use Rattle.failover_clean.proofs.Ids.{now_is}
 use Rattle.master_state.specs.declared.config.Config.{Config}
 use Rattle.master_state.specs.declared.ledger.Posting.{Posting}
+use Rattle.master_state.specs.declared.waiting.Waiting.{Waiting}
 use Rattle.master_state.specs.Budget.{victims_of, survivors_of, is_committing}
 use Rattle.master_state.specs.Data.{MasterData}
 use Rattle.images.specs.Image.{Image, closed_image}
-use Rattle.master_state.specs.Images.{with_closed, leaving}
-use Rattle.master_state.specs.Invariant.{AreApart, IsCore, listed_with}
+use Rattle.master_state.specs.Images.{with_closed, waiting_for, leaving}
+use Rattle.master_state.specs.Invariant.{AreApart, IsCore}
 use Rattle.master_state.specs.Ledger.{took_in}
-use Rattle.master_state.specs.Log.{log_of, image_of, images_of, find, entry_place, home, spots_from, spots_in}
+use Rattle.master_state.specs.Log.{image_of, images_of, find, entry_place, home, placed, spots_from, spots_in}
 use Rattle.master_state.specs.Log.{memory_of}
 use Rattle.master_state.specs.Steps.{pass_ended}
-use Rattle.master_space.proofs.Committed.{image_stays}
+use Rattle.master_space.proofs.Committed.{image_gone, image_stays}
 use Rattle.master_state.proofs.Imaging.{ids_in}
 use Rattle.master_state.proofs.LogIds.{open_of, closed_rise, no_head}
 use Rattle.master_state.proofs.Rising.{Rise, has_not, rise_put}
 use Rattle.master_space.proofs.RollEnds.{added_ids, closed_images}
-use Rattle.master.specs.Placed.{placed, IsPlaced}
-use Rattle.master.proofs.Models.{among_map, IsModel, LeavesPass, rest_stays, is_model}
-use Rattle.master.proofs.NextOps.{roll_of, start_id}
+use Rattle.master.specs.Placed.{holders, IsPlaced}
+use Rattle.master.proofs.Models.{among_map, map_among, IsModel, LeavesPass, rest_stays, is_model}
+use Rattle.master.proofs.NextOps.{roll_of}
 use Rattle.master.proofs.Placing.{home_placed}
-use Rattle.master.proofs.PushedPlaces.{not_without}
-use Rattle.master.proofs.Victims.{victim_older, victim_below, never_both}
+use Rattle.master.proofs.PushedPlaces.{among_added}
+use Rattle.master.proofs.Victims.{victim_below, never_both}
+
+-- the segments that wait
+abbrev pub segments_in : List Waiting → List ℕ
+segments_in ws = map (λ (w : Waiting). w.segment) ws
 
 -- ---- the same images
 
 -- the model's memory stays, if images and the index do
 module _ (d e : MasterData) (core : IsCore d) (later : IsCore e) (config : e.config ≡ d.config)
-    (images : (s : ℕ) → image_of e s ≡ image_of d s) (index : e.index ≡ d.index) (pass : e.pass ≡ d.pass)
-    (waiting : e.waiting ≡ d.waiting) (freed : e.freed ≡ d.freed) (newer : d.head.id ≤ e.head.id) where
+    (failed : e.failed ≡ d.failed) (images : (s : ℕ) → image_of e s ≡ image_of d s) (index : e.index ≡ d.index)
+    (pass : e.pass ≡ d.pass) (waiting : e.waiting ≡ d.waiting) (newer : d.head.id ≤ e.head.id) where
   same_at : (s : ℕ) → images_of e s ≡ images_of d s
   same_at s = ap (λ (o : Option (List Entry)). unwrap_or o []) (images s)
 
@@ -64,7 +66,7 @@ module _ (d e : MasterData) (core : IsCore d) (later : IsCore e) (config : e.con
   leaves : LeavesPass d e
   leaves = record {
     pass = λ i. record { victims = victims_of (pass i); survivors = survivors_of (pass i) };
-    waiting = λ i. spots_in (config i) (waiting i) (freed i);
+    waiting = λ i. spots_in (config i) (failed i) (waiting i);
     rest = rest_stays d e core later pass newer (λ s victim. same_at s);
     victims = λ s victim. same_at s;
   }
@@ -83,33 +85,6 @@ module _ (d e : MasterData) (core : IsCore d) (later : IsCore e) (config : e.con
       (λ s counts. same_at s) behind
 
 -- ---- lists
-
-apart_rise : (ids : List ℕ) → Rise ids → AreApart ids
-apart_rise [] rise = tt
-apart_rise (s ∷ ids) rise = (has_not (λ (z : ℕ). s < z) ids s rise.0 (λ lt. omega arith), apart_rise ids rise.1)
-
-all_filter : (P : ℕ → Type 0) (T : ℕ → Bool) (ids : List ℕ) → AllByRecursion P ids → AllByRecursion P (filter T ids)
-all_filter P T [] all = tt
-all_filter P T (z ∷ ids) all = go (T z) refl (all_filter P T ids all.1) where
-  go : (t : Bool) → T z ≡ t → AllByRecursion P (filter T ids) → AllByRecursion P (filter T (z ∷ ids))
-  go true is rest = rw is (all.0, rest)
-  go false is rest = rw is rest
-
-rise_filter : (T : ℕ → Bool) (ids : List ℕ) → Rise ids → Rise (filter T ids)
-rise_filter T [] rise = tt
-rise_filter T (z ∷ ids) rise = go (T z) refl (rise_filter T ids rise.1) where
-  go : (t : Bool) → T z ≡ t → Rise (filter T ids) → Rise (filter T (z ∷ ids))
-  go true is rest = rw is (all_filter (λ (x : ℕ). z < x) T ids rise.0, rest)
-  go false is rest = rw is rest
-
-in_filter : (T : ℕ → Bool) (ids : List ℕ) (s : ℕ) → IsAmong s (filter T ids) → T s ≡ true
-in_filter T [] s m = absurd m
-in_filter T (z ∷ ids) s m = go (T z) refl (in_filter T ids s) m where
-  go : (t : Bool) → T z ≡ t → (IsAmong s (filter T ids) → T s ≡ true) → IsAmong s (filter T (z ∷ ids)) → T s ≡ true
-  go true is later m =
-      let all : (z ≡ s) ⊎ IsAmong s (filter T ids) = rw is at m in
-      elim all [ inl same ↦ ap T (sym same) ∙ is | inr rest ↦ later rest ]
-  go false is later m = later (rw is at m)
 
 has_append : (xs ys : List ℕ) (s : ℕ) → has xs s ≡ false → has ys s ≡ false → has (xs ++ ys) s ≡ false
 has_append [] ys s first later = later
@@ -133,78 +108,130 @@ apart_append (x ∷ xs) ys first later never = (
   apart_append xs ys first.1 later (λ s m n. never s (inr m) n),
 )
 
+apart_rise : (ids : List ℕ) → Rise ids → AreApart ids
+apart_rise [] rise = tt
+apart_rise (s ∷ ids) rise = (has_not (λ (z : ℕ). s < z) ids s rise.0 (λ lt. omega arith), apart_rise ids rise.1)
+
+-- ---- what comes to wait
+
+-- whether an image is of a victim that some backup holds
+abbrev leaves_log : List ℕ → Image → Bool
+leaves_log victims c = has victims c.id && nat_lt 0 c.replicas
+
+leaving_all : (P : ℕ → Type 0) (victims : List ℕ) (cs : List Image) → AllByRecursion P (ids_in cs)
+    → AllByRecursion P (segments_in (leaving victims cs))
+leaving_all P victims [] all = tt
+leaving_all P victims (c ∷ cs) all = go (leaves_log victims c) refl (leaving_all P victims cs all.1) where
+  go : (t : Bool) → leaves_log victims c ≡ t → AllByRecursion P (segments_in (leaving victims cs))
+      → AllByRecursion P (segments_in (leaving victims (c ∷ cs)))
+  go true is rest = rw is (all.0, rest)
+  go false is rest = rw is rest
+
+leaving_rise : (victims : List ℕ) (cs : List Image) → Rise (ids_in cs) → Rise (segments_in (leaving victims cs))
+leaving_rise victims [] rise = tt
+leaving_rise victims (c ∷ cs) rise = go (leaves_log victims c) refl (leaving_rise victims cs rise.1) where
+  go : (t : Bool) → leaves_log victims c ≡ t → Rise (segments_in (leaving victims cs))
+      → Rise (segments_in (leaving victims (c ∷ cs)))
+  go true is rest = rw is (leaving_all (λ (x : ℕ). c.id < x) victims cs rise.0, rest)
+  go false is rest = rw is rest
+
+-- Of one of these images, a victim's.
+record IsLeaving (victims : List ℕ) (cs : List Image) (w : Waiting) : Type 0 where
+  image : Image
+  among : IsAmong image cs
+  victim : has victims image.id ≡ true
+  is : waiting_for image ≡ w
+
+leaving_is : (victims : List ℕ) (cs : List Image) (w : Waiting) → IsAmong w (leaving victims cs)
+    → IsLeaving victims cs w
+leaving_is victims [] w m = absurd m
+leaving_is victims (c ∷ cs) w m = go (leaves_log victims c) refl m (leaving_is victims cs w) where
+  further : IsLeaving victims cs w → IsLeaving victims (c ∷ cs) w
+  further at = record { image = at.image; among = inr at.among; victim = at.victim; is = at.is }
+
+  go : (t : Bool) → leaves_log victims c ≡ t → IsAmong w (leaving victims (c ∷ cs))
+      → (IsAmong w (leaving victims cs) → IsLeaving victims cs w) → IsLeaving victims (c ∷ cs) w
+  go true is m later =
+      let either : (waiting_for c ≡ w) ⊎ IsAmong w (leaving victims cs) = rw is at m in
+      elim either as (λ _. IsLeaving victims (c ∷ cs) w) [
+        | inl same ↦ record {
+          image = c;
+          among = inl refl;
+          victim = (and_parts (has victims c.id) (nat_lt 0 c.replicas) is).0;
+          is = same;
+        }
+        | inr rest ↦ further (later rest)
+      ]
+  go false is m later = further (later (rw is at m))
+
 -- ---- what waits
 
--- a spot of some of the segments, all of whose replicas have this many
-pub spot_there : (c : Config) (ids : List ℕ) (j s : ℕ) → j < c.replicas → IsAmong s ids
-    → (w : Spot) × IsAmong w (spots_in c ids j) × (w.segment ≡ s)
-spot_there c [] j s lt m = absurd m
-spot_there c (z ∷ ids) j s lt (inl same) = (
-  record { segment = z; backup = home c z j },
-  among_left (record { segment = z; backup = home c z j }) (spots_from c z j (c.replicas - j)) (spots_in c ids 0)
-      (first (c.replicas - j) (omega (arith, lt))),
+-- a replica of each segment that waits is still there
+pub spot_there : (c : Config) (failed : List ℕ) (ws : List Waiting) (s : ℕ)
+    → AllByRecursion (λ (w : Waiting). (w.freed < w.replicas) × (w.replicas ≤ c.replicas)) ws
+    → IsAmong s (segments_in ws) → (w : Spot) × IsAmong w (spots_in c failed ws) × (w.segment ≡ s)
+spot_there c failed [] s some m = absurd m
+spot_there c failed (z ∷ ws) s some (inl same) = (
+  record { segment = z.segment; backup = home c failed z.segment z.freed },
+  among_left (record { segment = z.segment; backup = home c failed z.segment z.freed })
+      (spots_from c failed z.segment z.freed (z.replicas - z.freed)) (spots_in c failed ws)
+      (first (z.replicas - z.freed) (let lt = some.0.0 in omega arith)),
   same,
 ) where
-  first : (n : ℕ) → 0 < n → IsAmong (record { segment = z; backup = home c z j }) (spots_from c z j n)
-  first zero some = absurd (omega (arith, some))
-  first (suc n) some = inl refl
-spot_there c (z ∷ ids) j s lt (inr m) =
-    let later = spot_there c ids 0 s (omega (arith, lt)) m in
-    (later.0, among_right later.0 (spots_from c z j (c.replicas - j)) (spots_in c ids 0) later.1, later.2)
+  first : (n : ℕ) → 0 < n → IsAmong (record { segment = z.segment; backup = home c failed z.segment z.freed })
+      (spots_from c failed z.segment z.freed n)
+  first zero lt = absurd (omega (arith, lt))
+  first (suc n) lt = inl refl
+spot_there c failed (z ∷ ws) s some (inr m) =
+    let later = spot_there c failed ws s some.1 m in (
+      later.0,
+      among_right later.0 (spots_from c failed z.segment z.freed (z.replicas - z.freed))
+          (spots_in c failed ws) later.1,
+      later.2,
+    )
 
--- A replica of one of these segments.
-record IsSpotIn (c : Config) (ids : List ℕ) (w : Spot) : Type 0 where
-  segment : IsAmong w.segment ids
-  replica : ℕ
-  within : replica < c.replicas
-  is : w.backup ≡ home c w.segment replica
+-- The place is a replica of one of the segments that wait.
+pub record IsSpotIn (c : Config) (failed : List ℕ) (ws : List Waiting) (w : Spot) : Type 0 where
+  pub of : Waiting
+  pub among : IsAmong of ws
+  pub replica : ℕ
+  pub within : replica < of.freed + (of.replicas - of.freed)
+  pub is : record { segment = of.segment; backup = home c failed of.segment replica } ≡ w
 
-spots_are : (c : Config) (s j n : ℕ) (w : Spot) → j + n ≤ c.replicas → IsAmong w (spots_from c s j n)
-    → IsSpotIn c (s ∷ []) w
-spots_are c s j zero w le m = absurd m
-spots_are c s j (suc n) w le (inl same) = record {
-  segment = inl (ap (λ (v : Spot). v.segment) same);
-  replica = j;
-  within = omega (arith, le);
-  is = sym (ap (λ (v : Spot). v.backup) same) ∙ ap (λ (v : Spot). home c v.segment j) same;
-}
-spots_are c s j (suc n) w le (inr m) = spots_are c s (suc j) n w (omega (arith, le)) m
+spots_are : (c : Config) (failed : List ℕ) (s j n : ℕ) (w : Spot) → IsAmong w (spots_from c failed s j n)
+    → (k : ℕ) × (k < j + n) × (record { segment = s; backup = home c failed s k } ≡ w)
+spots_are c failed s j zero w m = absurd m
+spots_are c failed s j (suc n) w (inl same) = (j, omega arith, same)
+spots_are c failed s j (suc n) w (inr m) =
+    let at = spots_are c failed s (suc j) n w m in let lt = at.1 in (at.0, omega (arith, lt), at.2)
 
-one_spot : (c : Config) (s j : ℕ) (ids : List ℕ) (w : Spot) → j ≤ c.replicas
-    → IsAmong w (spots_from c s j (c.replicas - j)) → IsSpotIn c (s ∷ ids) w
-one_spot c s j ids w le m =
-    let at = spots_are c s j (c.replicas - j) w (omega (arith, le)) m in
-    record { segment = first at.segment; replica = at.replica; within = at.within; is = at.is }
-  where
-    first : IsAmong w.segment (s ∷ []) → IsAmong w.segment (s ∷ ids)
-    first (inl same) = inl same
-    first (inr none) = absurd none
-
-later_spot : (c : Config) (s : ℕ) (ids : List ℕ) (w : Spot) → IsSpotIn c ids w → IsSpotIn c (s ∷ ids) w
-later_spot c s ids w at =
-    record { segment = inr at.segment; replica = at.replica; within = at.within; is = at.is }
-
-spots_all : (c : Config) (ids : List ℕ) (j : ℕ) (w : Spot) → j ≤ c.replicas → IsAmong w (spots_in c ids j)
-    → IsSpotIn c ids w
-spots_all c [] j w le m = absurd m
-spots_all c (s ∷ ids) j w le m =
-    elim (among_either w (spots_from c s j (c.replicas - j)) (spots_in c ids 0) m) as (λ _. IsSpotIn c (s ∷ ids) w) [
-      | inl own ↦ one_spot c s j ids w le own
-      | inr later ↦ later_spot c s ids w (spots_all c ids 0 w (omega arith) later)
+pub spot_in : (c : Config) (failed : List ℕ) (ws : List Waiting) (w : Spot) → IsAmong w (spots_in c failed ws)
+    → IsSpotIn c failed ws w
+spot_in c failed [] w m = absurd m
+spot_in c failed (z ∷ ws) w m =
+    elim (among_either w (spots_from c failed z.segment z.freed (z.replicas - z.freed)) (spots_in c failed ws) m)
+    as (λ _. IsSpotIn c failed (z ∷ ws) w) [
+      | inl own ↦ (
+          let at = spots_are c failed z.segment z.freed (z.replicas - z.freed) w own in
+          record { of = z; among = inl refl; replica = at.0; within = at.1; is = at.2 })
+      | inr later ↦ (
+          let at = spot_in c failed ws w later in
+          record { of = at.of; among = inr at.among; replica = at.replica; within = at.within; is = at.is })
     ]
 
 -- what waited, or is of those that come to wait
-more_waits : (c : Config) (xs ys : List ℕ) (j : ℕ) (w : Spot) → j ≤ c.replicas → IsAmong w (spots_in c (xs ++ ys) j)
-    → IsAmong w (spots_in c xs j) ⊎ IsSpotIn c ys w
-more_waits c [] ys j w le m = inr (spots_all c ys j w le m)
-more_waits c (s ∷ xs) ys j w le m =
-    let own = spots_from c s j (c.replicas - j) in
-    elim (among_either w own (spots_in c (xs ++ ys) 0) m)
-    as (λ _. IsAmong w (spots_in c (s ∷ xs) j) ⊎ IsSpotIn c ys w) [
-      | inl here ↦ inl (among_left w own (spots_in c xs 0) here)
-      | inr later ↦ elim (more_waits c xs ys 0 w (omega arith) later)
-          as (λ _. IsAmong w (spots_in c (s ∷ xs) j) ⊎ IsSpotIn c ys w) [
-            | inl old ↦ inl (among_right w own (spots_in c xs 0) old)
+more_waits : (c : Config) (failed : List ℕ) (xs ys : List Waiting) (w : Spot)
+    → IsAmong w (spots_in c failed (xs ++ ys))
+    → IsAmong w (spots_in c failed xs) ⊎ IsAmong w (spots_in c failed ys)
+more_waits c failed [] ys w m = inr m
+more_waits c failed (z ∷ xs) ys w m =
+    let own = spots_from c failed z.segment z.freed (z.replicas - z.freed) in
+    elim (among_either w own (spots_in c failed (xs ++ ys)) m)
+    as (λ _. IsAmong w (spots_in c failed (z ∷ xs)) ⊎ IsAmong w (spots_in c failed ys)) [
+      | inl here ↦ inl (among_left w own (spots_in c failed xs) here)
+      | inr later ↦ elim (more_waits c failed xs ys w later)
+          as (λ _. IsAmong w (spots_in c failed (z ∷ xs)) ⊎ IsAmong w (spots_in c failed ys)) [
+            | inl old ↦ inl (among_right w own (spots_in c failed xs) old)
             | inr new ↦ inr new
           ]
     ]
@@ -228,12 +255,12 @@ spot_of l (z ∷ ids) s b (inr m) at =
 
 module _ (d : MasterData) (core : IsCore d) (r : Roll) (rolls : d.head.roll ≡ Some r) (ps : List Posting) where
   abbrev closed : List Image
-  closed = with_closed d.closed d.head.id (Some d.head.image)
+  closed = with_closed d.closed d.head.id d.config.replicas (Some d.head.image)
 
   abbrev rolled : MasterData
   rolled = record d {
     head = in_force d.head r;
-    closed = with_closed d.closed d.head.id (Some d.head.image);
+    closed = with_closed d.closed d.head.id d.config.replicas (Some d.head.image);
     ledger = ps;
   }
 
@@ -243,112 +270,105 @@ module _ (d : MasterData) (core : IsCore d) (r : Roll) (rolls : d.head.roll ≡ 
   -- an ordinary roll
   pub rolled_model : IsCore rolled → IsModel rolled (memory_of d)
   rolled_model later =
-      same_model d rolled core later refl (closed_images d core r rolls) refl refl refl refl
+      same_model d rolled core later refl refl (closed_images d core r rolls) refl refl refl
       (let lt = newer in omega arith)
 
   -- ---- a commit
 
   module _ (placed_now : IsPlaced d) (p : OpenPass) (opened : d.pass ≡ Some p) (commits : p.is_committing ≡ true)
-      (mid : FailData) (took : mid.took ≡ took_in d.ledger) (works : mid.failed ≡ [])
-      (log : log_of (pass_ended p rolled) ≡ ended mid (start_of r) Calm) where
+      (mid : FailData) (took : mid.took ≡ took_in d.ledger) (failed : mid.failed ≡ d.failed) where
     abbrev e : MasterData
     e = pass_ended p rolled
 
     victims_are : victims_of d.pass ≡ p.victims
     victims_are = ap victims_of opened
 
-    committing : is_committing d ≡ true
-    committing = ap (λ (o : Option OpenPass). option_map_or
-        (λ (q : OpenPass). q.is_committing) o false) opened ∙ commits
-
     -- ---- images
 
-    -- no victim is in the digest in force then
-    lists : (start_of r).others ≡ listed_with d (victims_of d.pass) (survivors_of d.pass)
-    lists = (roll_of d core r rolls).lists ∙ ap (λ (t : Bool). if t
-        then listed_with d (victims_of d.pass) (survivors_of d.pass) else ids_of (head_of d.head).start) committing
-
-    not_victim : (s : ℕ) → IsAmong s (ids_of (start_of r)) → IsAmong s (victims_of d.pass) → ⊥
-    not_victim s listed victim =
-        elim (among_either s (start_of r).others ((start_of r).id ∷ []) listed) as (λ _. ⊥) [
-          | inl other ↦ elim (all_out (survivors_of d.pass)
-              (without (victims_of d.pass) (ids_of (head_of d.head).start)) s
-              (subst (λ (ids : List ℕ). IsAmong s ids) lists other)) as (λ _. ⊥) [
-                | inl old ↦ (
-                    let none = (not_without (victims_of d.pass) (ids_of (head_of d.head).start) s old).1 in
-                    let some = has_is (victims_of d.pass) s victim in
-                    cc)
-                | inr survivor ↦ never_both d core s victim survivor
-              ]
-          | inr own ↦ elim own as (λ _. ⊥) [
-            | inl same ↦ (
-                let lt = victim_below d core s victim in
-                let more = newer in
-                let top = start_id r in
-                omega (arith, same, lt, more, top))
-            | inr none ↦ none
-          ]
-        ]
-
-    log_set_same : (s : ℕ) → IsAmong s (log_ids (log_of e) (finished mid (memory_of d))) → images_of e s ≡ images_of d s
-    log_set_same s counts =
-        let real : (start_of r).id ≡ 0 → ⊥ = (λ none. (let top = start_id r in let more = newer in
-        omega (arith, none, top, more))) in
-        let there = subst (λ (l : FailData). IsAmong s (log_ids l (finished mid (memory_of d)))) log counts in
-        let listed : IsAmong s (ids_of (start_of r)) =
-        elim (among_either s (ids_now (start_of r)) [] there) as (λ _. IsAmong s (ids_of (start_of r))) [
-          | inl i ↦ subst (λ (ids : List ℕ). IsAmong s ids) (now_is (start_of r) real) i
-          | inr none ↦ absurd none
-        ] in
-        ap (λ (o : Option (List Entry)). unwrap_or o [])
-        (image_stays d core r rolls p (open_of d core p opened) opened commits s
-        (hasnt p.victims s (λ victim. not_victim s listed (subst (λ (ids : List ℕ). IsAmong s ids)
-        (sym victims_are) victim))))
+    -- what still has an image has the one that it had
+    images_same : (s : ℕ) → IsSome (image_of e s) → images_of e s ≡ images_of d s
+    images_same s some = go (has p.victims s) refl where
+      go : (t : Bool) → has p.victims s ≡ t → images_of e s ≡ images_of d s
+      go true gone = absurd (
+          let none = subst (λ (o : Option (List Entry)). IsSome o)
+          (image_gone d core r rolls p (open_of d core p opened) opened commits s gone) some in cc)
+      go false stays = ap (λ (o : Option (List Entry)). unwrap_or o [])
+          (image_stays d core r rolls p (open_of d core p opened) opened commits s stays)
 
     -- ---- what waits
 
+    -- each replica of a victim is on one of its homes
+    victim_homes : (image : Image) → IsAmong image closed → has p.victims image.id ≡ true
+        → homes mid image.id ≡ placed d.config d.failed image.id image.replicas
+    victim_homes image m victim =
+        (λ i. without (failed i) (took i image.id))
+        ∙ elim (among_added (closed_image d.head.id d.head.image d.config.replicas) d.closed image m)
+        as (λ _. holders d image.id ≡ placed d.config d.failed image.id image.replicas) [
+          | inl own ↦ absurd (
+              let is : IsAmong image.id (victims_of d.pass) =
+              subst (λ (ids : List ℕ). IsAmong image.id ids) (sym victims_are) (is_has p.victims image.id victim) in
+              let lt = victim_below d core image.id is in
+              let same : d.head.id ≡ image.id = ap (λ (x : Image). x.id) own in
+              omega (arith, lt, same))
+          | inr old ↦ placed_now.closed image old
+        ]
+
+    new_spot : (w : Spot) → IsAmong w (spots_in d.config d.failed (leaving p.victims closed))
+        → IsAmong w (spots_of mid (victims_of d.pass))
+    new_spot w m =
+        let spot = spot_in d.config d.failed (leaving p.victims closed) w m in
+        let at = leaving_is p.victims closed spot.of spot.among in
+        let image = at.image in
+        let id : image.id ≡ spot.of.segment = ap (λ (x : Waiting). x.segment) at.is in
+        let freed : 0 ≡ spot.of.freed = ap (λ (x : Waiting). x.freed) at.is in
+        let replicas : image.replicas ≡ spot.of.replicas = ap (λ (x : Waiting). x.replicas) at.is in
+        let lt = spot.within in
+        let among : IsAmong (home d.config d.failed image.id spot.replica) (homes mid image.id) =
+        is_has (homes mid image.id) (home d.config d.failed image.id spot.replica)
+        (ap (λ (bs : List ℕ). has bs (home d.config d.failed image.id spot.replica))
+        (victim_homes image at.among at.victim)
+        ∙ home_placed d.config d.failed image.id image.replicas spot.replica
+        (omega (arith, freed, replicas, lt))) in
+        let victim : IsAmong image.id (victims_of d.pass) =
+        subst (λ (ids : List ℕ). IsAmong image.id ids) (sym victims_are) (is_has p.victims image.id at.victim) in
+        subst (λ (x : Spot). IsAmong x (spots_of mid (victims_of d.pass)))
+        ((λ i. spot_at (id i) (home d.config d.failed (id i) spot.replica)) ∙ spot.is)
+        (spot_of mid (victims_of d.pass) image.id (home d.config d.failed image.id spot.replica) victim among)
+
     waits : (w : Spot) → IsAmong w (memory_of e).waiting → IsAmong w (finished mid (memory_of d)).waiting
     waits w m =
-        let few = core.freed in
-        elim (more_waits d.config d.waiting (leaving p.victims closed) d.freed w (omega (arith, few)) m)
+        elim (more_waits d.config d.failed d.waiting (leaving p.victims closed) w m)
         as (λ _. IsAmong w (finished mid (memory_of d)).waiting) [
           | inl old ↦ among_right w (spots_of mid (victims_of d.pass)) (memory_of d).waiting old
-          | inr new ↦ among_left w (spots_of mid (victims_of d.pass)) (memory_of d).waiting (
-              let victim : IsAmong w.segment (victims_of d.pass) =
-              subst (λ (ids : List ℕ). IsAmong w.segment ids) (sym victims_are)
-              (is_has p.victims w.segment (in_filter (has p.victims) (ids_in closed) w.segment new.segment)) in
-              let there : homes mid w.segment ≡ placed d.config w.segment d.config.replicas =
-              (λ i. without (works i) (took i w.segment)) ∙ without_none (took_in d.ledger w.segment)
-              ∙ placed_now.others w.segment (victim_older d core w.segment victim) in
-              let at : IsAmong w.backup (homes mid w.segment) =
-              is_has (homes mid w.segment) w.backup
-              ((λ i. has (there i) (new.is i))
-              ∙ home_placed d.config w.segment d.config.replicas new.replica new.within) in
-              spot_of mid (victims_of d.pass) w.segment w.backup victim at)
+          | inr new ↦ among_left w (spots_of mid (victims_of d.pass)) (memory_of d).waiting (new_spot w new)
         ]
 
     ids_rise : Rise (ids_in closed)
     ids_rise =
-        subst Rise (sym (added_ids (closed_image d.head.id d.head.image) d.closed))
+        subst Rise (sym (added_ids (closed_image d.head.id d.head.image d.config.replicas) d.closed))
         (rise_put d.head.id (ids_in d.closed) (no_head d core) (closed_rise d core))
 
     -- nothing waits twice
-    pub apart_then : AreApart d.waiting
+    pub apart_then : AreApart (segments_in d.waiting)
         → ((w : Spot) → IsAmong w (memory_of d).waiting → IsAmong w.segment (victims_of d.pass) → ⊥)
-        → AreApart e.waiting
+        → AreApart (segments_in e.waiting)
     apart_then apart gone =
-        apart_append d.waiting (leaving p.victims closed) apart
-        (apart_rise (leaving p.victims closed) (rise_filter (has p.victims) (ids_in closed) ids_rise))
+        subst AreApart (sym (map-append (λ (w : Waiting). w.segment) d.waiting (leaving p.victims closed)))
+        (apart_append (segments_in d.waiting) (segments_in (leaving p.victims closed)) apart
+        (apart_rise (segments_in (leaving p.victims closed)) (leaving_rise p.victims closed ids_rise))
         (λ s old new. (
-        let victim = is_has p.victims s (in_filter (has p.victims) (ids_in closed) s new) in
-        let at = spot_there d.config d.waiting d.freed s core.freed old in
-        gone at.0 at.1 (subst (λ (z : ℕ). IsAmong z (victims_of d.pass)) (sym at.2)
-        (subst (λ (ids : List ℕ). IsAmong s ids) (sym victims_are) victim))))
+        let from = map_among (λ (w : Waiting). w.segment) (leaving p.victims closed) s new in
+        let at = leaving_is p.victims closed from.0 from.1 in
+        let own : at.image.id ≡ s = ap (λ (x : Waiting). x.segment) at.is ∙ from.2 in
+        let spot = spot_there d.config d.failed d.waiting s core.waiting old in
+        gone spot.0 spot.1 (subst (λ (z : ℕ). IsAmong z (victims_of d.pass)) (own ∙ sym spot.2)
+        (subst (λ (ids : List ℕ). IsAmong at.image.id ids) (sym victims_are)
+        (is_has p.victims at.image.id at.victim))))))
 
     pub ended_model : IsModel e (finished mid (memory_of d))
     ended_model = record {
       pass = refl;
-      images = log_set_same;
+      images = images_same;
       behind = λ k q x found indexed victim survivor. victim;
       carried = λ x t victim stands named i. absurd victim;
       done = λ none. refl;

@@ -19,7 +19,7 @@ use Rattle.failover_bytes.specs.Text.{IsWholeText}
 use Rattle.master_state.specs.Data.{MasterData}
 use Rattle.master_state.specs.Invariant.{IsCore}
 use Rattle.master_state.specs.Log.{log_of}
-use Rattle.master.proofs.InForce.{open_or, real_head, force_opened, force_unopened}
+use Rattle.master.proofs.InForce.{headed_or, real_head, force_headed, force_headless}
 
 -- the text of the head that stands for none is one
 pub none_whole : (master format : ℕ) → master < 2 ^ 64 → IsWholeText master 0 (bare (no_head format))
@@ -83,8 +83,7 @@ module _ (d : MasterData) (core : IsCore d) where
 
   -- so is that of the head in force
   pub head_whole : IsWhole (log_of d).head
-  head_whole = elim (open_or d.head) as (λ _. IsWhole (log_of d).head) [
-    | inl is ↦ subst IsWhole (sym (force_opened d.config.format d.head is)) real_whole
-    | inr is ↦ subst IsWhole (sym (force_unopened d.config.format d.head is))
-        (none_whole d.config.master d.config.format master_few)
+  head_whole = elim (headed_or d) as (λ _. IsWhole (log_of d).head) [
+    | inl is ↦ subst IsWhole (sym (force_headed d is)) real_whole
+    | inr is ↦ subst IsWhole (sym (force_headless d is)) (none_whole d.config.master d.config.format master_few)
   ]

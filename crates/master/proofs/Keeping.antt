@@ -1,19 +1,21 @@
 -- What every step keeps.
-use Rattle.std.proofs.Common.{◌≡◌, ◌⊎◌, ℕ, suc, ◌+◌, ◌<◌, ◌≤◌, inl, inr, Bool, true, false, List, [], ◌∷◌, ◌++◌}
+use Rattle.std.proofs.Common.{◌≡◌, ◌⊎◌, ℕ, ◌+◌, ◌<◌, ◌≤◌, inl, inr, Bool, true, false, List, [], ◌∷◌, ◌++◌}
 use Rattle.std.proofs.Common.{length, refl}
 use Rattle.std.proofs.Common.{sym, ap, subst, ◌∙◌, append_assoc, arith}
-use Rattle.std.specs.Prelude.{Option, Some, None, IfSome, IsSome, Result, Ok, Err, nat_lt, drop, ◌==◌, if◌then◌else◌}
-use Rattle.std.specs.Option.{option_and_then}
+use Rattle.std.specs.Prelude.{Option, Some, None, IsSome, Result, Ok, Err, nat_lt, if◌then◌else◌}
+use Rattle.std.specs.Option.{option_map_or}
 use Rattle.std.proofs.lemmas.List.{append-nil, length-append}
 use Rattle.std.proofs.lemmas.Option.{same_Some}
 use Rattle.cleaner.specs.declared.pass.Pass.{Pass}
-use Rattle.cleaner.specs.Passes.{survivor_ids, next_seal as next_seal_of}
+use Rattle.images.specs.Sorted.{changed}
+use Rattle.images.specs.Steps.{more_replicas}
 use Rattle.entry.specs.declared.entry.Entry.{Entry}
 use Rattle.entry.specs.Bag.{IsAmong}
 use Rattle.entry.proofs.BagLemmas.{among_last}
 use Rattle.replica.specs.Op.{OpValue}
 use Rattle.replica.specs.Picture.{Replica, FleetState, is_same_place}
-use Rattle.replica.specs.Take.{Refuses, taken, with_effect, effect}
+use Rattle.replica.specs.Registry.{Raises, RefusesRaise}
+use Rattle.replica.specs.Take.{Refuses, taken, with_effect, effect, faulted}
 use Rattle.replica.specs.declared.op.TakeFault.TheVariants as take_fault
 use Rattle.versioned_map.specs.declared.command.Command.{Command}
 use Rattle.log_model.specs.Data.{Start, ids_of}
@@ -21,7 +23,7 @@ use Rattle.log_model.specs.Ops.{op_of}
 use Rattle.log_model.proofs.Pictures.{place_tells}
 use Rattle.failover_model.specs.Data.{Calm, Mode, FailData, new_of, is_failing, taken_records, durable_of}
 use Rattle.failover_model.specs.Runs.{IsThere, World as ModelWorld, Applies as AppliesThere, Takes as TakesThere}
-use Rattle.failover_model.specs.Shown.{Act, Op, On, Shown as ModelShown}
+use Rattle.failover_model.specs.Shown.{Op, On, Raise, Shown as ModelShown}
 use Rattle.failover_model.specs.Steps.{with_taken, applied as log_applied, ended, MayApply, Extends, OpensNew}
 use Rattle.failover_model.specs.Steps.{ClosesOld}
 use Rattle.failover_model.specs.Text.{Replica as ModelReplica}
@@ -40,25 +42,32 @@ use Rattle.master_state.specs.declared.step.StepAnswer.{StepAnswer}
 use Rattle.master_state.specs.declared.step.StepAnswer.TheVariants.{Applied, Opened, Extended, Closed, Rolling}
 use Rattle.master_state.specs.declared.step.StepAnswer.TheVariants.{Compacted}
 use Rattle.master_state.specs.declared.step.StepAnswer.TheVariants.{Begun, Moved, Carried, Dropped, Sealed, Freed}
+use Rattle.master_state.specs.declared.step.StepAnswer.TheVariants.{Raised, Repaired}
+use Rattle.master_state.specs.declared.failover.Failover.{Failover}
+use Rattle.master_state.specs.declared.ledger.Posting.TheVariants as posting
 use Rattle.master_state.specs.Budget.{survivors_of}
-use Rattle.master_state.specs.Causes.{dead_segment, survivors_for, command_refusal, unit_now, is_empty}
+use Rattle.master_state.specs.Causes.{dead_segment, survivors_for, command_refusal, step_refusal, unit_now, is_empty}
 use Rattle.master_state.specs.Data.{MasterData}
-use Rattle.master_state.specs.Ledger.{forgotten, took_in, shut_in}
-use Rattle.master_state.specs.Log.{home, mode_of, log_of, memory_of}
+use Rattle.master_state.specs.Ledger.{forgotten, took_in, shut_in, posted}
+use Rattle.master_state.specs.Log.{home, mode_of, durable_now, log_of, memory_of}
 use Rattle.master_state.specs.Steps.{Applies, BeginsRoll, Compacts, BeginsPass, Copies, record_now, rolling_data}
-use Rattle.master_state.specs.Steps.{freed_data}
+use Rattle.master_state.specs.Steps.{sealed_data, lost_data}
+use Rattle.master_state.specs.Waits.{next_seal}
 use Rattle.master_state.proofs.Imaging.{other_id}
-use Rattle.master_state.proofs.Refusals.{is_admitted, passed_early, unit_open}
+use Rattle.master_state.proofs.Refusals.{is_admitted, passed_early, unit_working, working_parts, may_begin}
 use Rattle.master_commands.proofs.HeadsInForce.{open_calm}
-use Rattle.master_space.proofs.SealedCore.{next_among}
+use Rattle.master_space.proofs.Calm.{passes_first, calm_parts}
+use Rattle.master_space.proofs.SealedCore.{seals_next}
 use Rattle.master.specs.Invariant.{IsWellKept}
 use Rattle.master.specs.Keeps.{Keeps}
 use Rattle.master.specs.Passes.{IsSealOp, Seals, IsFreeOp, Frees}
 use Rattle.master.specs.Pushes.{IsAfter, IsNextOp, Pushes}
-use Rattle.master.specs.Steps.{FailsTake, IsPushOp, Steps}
+use Rattle.master.specs.Mends.{MendsOn}
+use Rattle.master.specs.Steps.{FailsTake, IsPushOp, IsStuck, FailsTurn, Steps}
 use Rattle.master.specs.World.{World}
-use Rattle.master.proofs.Counting.{counted_of}
-use Rattle.master.proofs.InForce.{never_fails}
+use Rattle.master.proofs.Counting.{counted_of, counted, kept_unfailed}
+use Rattle.master.proofs.InForce.{never_fails, fails}
+use Rattle.master.proofs.MendedRest.{mended_rest, turned_rest, turned_durable, failing_is, mend_durable}
 use Rattle.master.proofs.Placements.{not_begun, forgotten_below}
 use Rattle.master.proofs.PushedRest.{same_rest}
 
@@ -70,7 +79,7 @@ keeps_same most w = record {
   origin = refl;
   takes = (omega arith, omega arith);
   others = λ b m s other. refl;
-  least = refl;
+  least = λ m other. refl;
   durable = omega arith;
   history = ([], sym (append-nil w.knows.history));
 }
@@ -86,7 +95,7 @@ keeps_on m n a b c first later =
       takes = (omega arith, omega arith);
       others = λ k o s other. later.others k o s (λ is. other (is ∙ ap (λ c. c.master) first.config))
           ∙ first.others k o s other;
-      least = later.least ∙ first.least;
+      least = λ k other. later.least k (λ is. other (is ∙ ap (λ c. c.master) first.config)) ∙ first.least k other;
       durable = omega arith;
       history = (
         first.history.0 ++ later.history.0,
@@ -103,20 +112,29 @@ keeps_pushed a b c steps s first last =
 
 -- ---- an op
 
--- The other fleet has at most one more op taken, of other masters the same replicas, and the same least heads.
+-- The other fleet has at most one more op taken, and of other masters the same replicas and the same least heads.
 pub record IsBeside (master : ℕ) (f g : FleetState) : Type 0 where
   pub takes : (f.takes ≤ g.takes) × (g.takes ≤ f.takes + 1)
   pub others : (b m s : ℕ) → (m ≡ master → ⊥) → g.picture b m s ≡ f.picture b m s
-  pub least : g.least ≡ f.least
+  pub least : (m : ℕ) → (m ≡ master → ⊥) → g.least m ≡ f.least m
 
 pub beside_same : (master : ℕ) (f : FleetState) → IsBeside master f f
-beside_same master f = record { takes = (omega arith, omega arith); others = λ b m s other. refl; least = refl }
+beside_same master f = record {
+  takes = (omega arith, omega arith);
+  others = λ b m s other. refl;
+  least = λ m other. refl;
+}
 
 elsewhere : (b m s c n t : ℕ) → (n ≡ m → ⊥) → is_same_place b m s c n t ≡ false
 elsewhere b m s c n t other = elim (place_tells b m s c n t) as (λ _. is_same_place b m s c n t ≡ false) [
   | inl same ↦ absurd (other (sym same.2))
   | inr apart ↦ apart.0
 ]
+
+-- a fault is counted besides
+faulted_beside : (master : ℕ) (f mid g : FleetState) → IsBeside master f mid → g ≡ faulted mid → IsBeside master f g
+faulted_beside master f mid g is same =
+    subst (IsBeside master f) (sym same) (record { takes = is.takes; others = is.others; least = is.least })
 
 module _ (f : FleetState) (b : ℕ) (op : OpValue) where
   effect_beside : (g : FleetState) (r : Option (Option Replica)) → with_effect f b op r ≡ Some g
@@ -125,7 +143,7 @@ module _ (f : FleetState) (b : ℕ) (op : OpValue) where
   effect_beside g (Some r) is = subst (IsBeside op.master f) (same_Some _ g is) (record {
     takes = (omega arith, omega arith);
     others = λ c n t other. (let away = elsewhere b op.master op.segment c n t other in rw away refl);
-    least = refl;
+    least = λ m other. refl;
   })
 
   pub taken_beside : (g : FleetState) → taken f b op ≡ Some g → IsBeside op.master f g
@@ -136,76 +154,50 @@ module _ (f : FleetState) (b : ℕ) (op : OpValue) where
       told false past = (let never : None ≡ Some g = rw past at is in absurd (cc))
 
   pub fault_beside : (g : FleetState) → Refuses f b op take_fault.Fault g → IsBeside op.master f g
-  fault_beside g (inl same) = subst (IsBeside op.master f) (sym same)
-      (record { takes = (omega arith, omega arith); others = λ c m s other. refl; least = refl })
-  fault_beside g (inr took) =
-      let taken = taken_beside took.0 took.1.1 in
-      subst (IsBeside op.master f) (sym took.2)
-      (record { takes = taken.takes; others = taken.others; least = taken.least })
+  fault_beside g (inl same) = faulted_beside op.master f f g (beside_same op.master f) same
+  fault_beside g (inr took) = faulted_beside op.master f took.0 g (taken_beside took.0 took.1.1) took.2
 
--- The op is on a backup.
-pub record IsOnBackup (o : Op) : Type 0 where
-  pub backup : ℕ
-  pub segment : ℕ
-  pub act : Act
-  pub is : o ≡ On backup segment act
+-- a raise
+module _ (f : FleetState) (master id : ℕ) where
+  pub raised_beside : (g : FleetState) → Raises f master id g → IsBeside master f g
+  raised_beside g is = subst (IsBeside master f) (sym is.1) (record {
+    takes = (omega arith, omega arith);
+    others = λ c n t other. refl;
+    least = λ m other. (let away = other_id master m (λ same. other (sym same)) in rw away refl);
+  })
 
-pub op_beside : (master : ℕ) (f g : FleetState) (o : Op) → IsOnBackup o → TakesOp master f o g → IsBeside master f g
-op_beside master f g o at took =
-    let there = subst (λ (x : Op). TakesOp master f x g) at.is took in
-    taken_beside f at.backup (op_of master (log_op_for master at.backup at.segment at.act)) g there.1
+  pub raise_fault_beside : (g : FleetState) → RefusesRaise f master id take_fault.Fault g → IsBeside master f g
+  raise_fault_beside g (inl same) = faulted_beside master f f g (beside_same master f) same
+  raise_fault_beside g (inr took) = faulted_beside master f took.0 g (raised_beside took.0 took.1) took.2
 
-pub op_faulted : (master : ℕ) (f g : FleetState) (o : Op) → IsOnBackup o → RefusesOp master f o take_fault.Fault g
+-- an op of the master, whichever it is
+pub op_beside : (master : ℕ) (f g : FleetState) (o : Op) → TakesOp master f o g → IsBeside master f g
+op_beside master f g (On b s act) took = taken_beside f b (op_of master (log_op_for master b s act)) g took.1
+op_beside master f g (Raise id) took = raised_beside f master id g took
+
+pub op_faulted : (master : ℕ) (f g : FleetState) (o : Op) → RefusesOp master f o take_fault.Fault g
     → IsBeside master f g
-op_faulted master f g o at refused =
-    fault_beside f at.backup (op_of master (log_op_for master at.backup at.segment at.act)) g
-    (subst (λ (x : Op). RefusesOp master f x take_fault.Fault g) at.is refused)
+op_faulted master f g (On b s act) refused = fault_beside f b (op_of master (log_op_for master b s act)) g refused
+op_faulted master f g (Raise id) refused = raise_fault_beside f master id g refused
 
--- a take that failed changed nothing, or halted the master
+-- a take that failed changed nothing, or opened a failover, or halted the master
 pub take_failed : {P : Type 0} (IsOp : Op → Type 0) (old new : World) (r : Refusal)
     → FailsTake IsOp old r new → (new ≡ old → P)
+    → ((b : ℕ) → FailsTake IsOp old (refusal.Lost b) new → P)
     → (FailsTake IsOp old refusal.Halted new → P) → P
-take_failed IsOp old new refusal.NoMemory t same halts = same t
-take_failed IsOp old new refusal.Spent t same halts = same t.1
-take_failed IsOp old new refusal.Halted t same halts = halts t
-take_failed IsOp old new refusal.TooBig t same halts = absurd t
-take_failed IsOp old new refusal.Full t same halts = absurd t
-take_failed IsOp old new refusal.VersionsSpent t same halts = absurd t
-take_failed IsOp old new refusal.HistoryFull t same halts = absurd t
-take_failed IsOp old new refusal.Rolling t same halts = absurd t
-take_failed IsOp old new refusal.Nothing t same halts = absurd t
-take_failed IsOp old new (refusal.Pass fault) t same halts = absurd t
-take_failed IsOp old new refusal.NoTablet t same halts = absurd t
-take_failed IsOp old new refusal.SegmentsSpent t same halts = absurd t
-
--- ---- the ops of steps
-
--- a push's op is on a backup
-pub next_on : (d : MasterData) (e : FailData) (o : Op) (answer : StepAnswer) → IsNextOp d o answer e → IsOnBackup o
-next_on d e o (Opened backup segment) is =
-    record { backup = is.0.1.b; segment = is.0.1.n.id; act = _; is = is.0.1.op }
-next_on d e o (Extended backup segment) is =
-    record { backup = is.0.extends.b; segment = (log_of d).head.start.id; act = _; is = is.0.extends.op }
-next_on d e o (Closed backup segment) is =
-    record { backup = is.0.1.b; segment = (log_of d).head.start.id; act = _; is = is.0.1.op }
-next_on d e o (Applied place reply) is = absurd is
-next_on d e o (Rolling segment) is = absurd is
-next_on d e o (Compacted segment len) is = absurd is
-next_on d e o (Begun segment) is = absurd is
-next_on d e o Moved is = absurd is
-next_on d e o Carried is = absurd is
-next_on d e o Dropped is = absurd is
-next_on d e o (Sealed backup) is = absurd is
-next_on d e o (Freed segment backup) is = absurd is
-
-pub push_on : (old : World) (o : Op) → IsPushOp old o → IsOnBackup o
-push_on old o (answer, e, is) = next_on old.knows e o answer is
-
-seal_on : (d : MasterData) (o : Op) → IsSealOp d o → IsOnBackup o
-seal_on d o is = record { backup = home d.config is.segment is.replica; segment = is.segment; act = _; is = is.is }
-
-free_on : (d : MasterData) (o : Op) → IsFreeOp d o → IsOnBackup o
-free_on d o is = record { backup = home d.config is.segment d.freed; segment = is.segment; act = _; is = is.is }
+take_failed IsOp old new refusal.NoMemory t same loses halts = same t
+take_failed IsOp old new refusal.Spent t same loses halts = same t.1
+take_failed IsOp old new (refusal.Lost b) t same loses halts = loses b t
+take_failed IsOp old new refusal.Halted t same loses halts = halts t
+take_failed IsOp old new refusal.TooBig t same loses halts = absurd t
+take_failed IsOp old new refusal.Full t same loses halts = absurd t
+take_failed IsOp old new refusal.VersionsSpent t same loses halts = absurd t
+take_failed IsOp old new refusal.HistoryFull t same loses halts = absurd t
+take_failed IsOp old new refusal.Rolling t same loses halts = absurd t
+take_failed IsOp old new refusal.Nothing t same loses halts = absurd t
+take_failed IsOp old new (refusal.Pass fault) t same loses halts = absurd t
+take_failed IsOp old new refusal.NoTablet t same loses halts = absurd t
+take_failed IsOp old new refusal.SegmentsSpent t same loses halts = absurd t
 
 -- ---- the durable count
 
@@ -291,19 +283,22 @@ module _ (d : FailData) (m : FailMemory) (p : ModelShown) (i : IsIntact d m p) (
   next_stays knows c same o e Dropped is = absurd is
   next_stays knows c same o e (Sealed backup) is = absurd is
   next_stays knows c same o e (Freed segment backup) is = absurd is
+  next_stays knows c same o e (Raised id) is = absurd is
+  next_stays knows c same o e (Repaired backup segment) is = absurd is
 
 -- ---- a step
 
--- a replica that was freed leaves the log as it is
-log_freed : (d : MasterData)
-    → (log_of (freed_data d) ≡ log_of d) × ((freed_data d).config ≡ d.config) × ((freed_data d).origin ≡ d.origin)
-log_freed d = go (suc d.freed == d.config.replicas) where
-  gives : Bool → MasterData
-  gives t = if t then record d { waiting = drop 1 d.waiting; freed = 0 } else record d { freed = suc d.freed }
+-- a replica that was sealed changes nothing but its image and the ledger
+log_sealed : (d : MasterData)
+    → (log_of (sealed_data d) ≡ log_of d) × ((sealed_data d).config ≡ d.config) × ((sealed_data d).origin ≡ d.origin)
+log_sealed d = go (next_seal d) where
+  gives : Option (ℕ × ℕ) → MasterData
+  gives o = option_map_or (λ (x : ℕ × ℕ). record d { closed = changed d.closed x.0 more_replicas }) o d
 
-  go : (t : Bool) → (log_of (gives t) ≡ log_of d) × ((gives t).config ≡ d.config) × ((gives t).origin ≡ d.origin)
-  go true = (refl, refl, refl)
-  go false = (refl, refl, refl)
+  go : (o : Option (ℕ × ℕ)) → (log_of (gives o) ≡ log_of d) × ((gives o).config ≡ d.config)
+      × ((gives o).origin ≡ d.origin)
+  go None = (refl, refl, refl)
+  go (Some x) = (refl, refl, refl)
 
 module _ (old new : World) (kept : IsWellKept old.knows old.fleet) where
   abbrev d : MasterData
@@ -342,7 +337,9 @@ module _ (old new : World) (kept : IsWellKept old.knows old.fleet) where
   } where
     calm : (u : List Entry) → unit_now d command ≡ u → (unit_now d command ≡ []) ⊎ ((log_of d).mode ≡ Calm)
     calm [] none = inl none
-    calm (e ∷ es) some = inr (open_calm d.head (unit_open d command passed (ap is_empty some)))
+    calm (e ∷ es) some =
+        let works = working_parts d (unit_working d command passed (ap is_empty some)) in
+        inr (open_calm d works.0 works.1)
 
   applied : (seat : ℕ) (command : Command) (answer : StepAnswer) → Applies old.knows seat command answer new.knows
       → new.fleet ≡ old.fleet → Keeps 1 old new
@@ -377,9 +374,9 @@ module _ (old new : World) (kept : IsWellKept old.knows old.fleet) where
 
   rolled : (answer : StepAnswer) → BeginsRoll old.knows answer new.knows → new.fleet ≡ old.fleet → Keeps 1 old new
   rolled answer b fleet =
-      let same = same_count (log_of d) (never_fails d.head) (took_in (rolling_data d).ledger)
-      (mode_of (rolling_data d).head)
-      (shut_in d.ledger) (d.next + 1) (never_fails (rolling_data d).head)
+      let calm = (may_begin d b.passed).calm in
+      let same = same_count (log_of d) (never_fails d calm) (took_in (rolling_data d).ledger)
+      (mode_of (rolling_data d)) (shut_in d.ledger) (d.next + 1) (never_fails (rolling_data d) calm)
       (not_begun d kept.core (log_of d).head.start.id used) in
       silent (ap (λ (x : MasterData). x.config) b.rest) (ap (λ (x : MasterData). x.origin) b.rest)
       (ap (λ (x : MasterData). x.history) b.rest) (quiet fleet)
@@ -396,8 +393,9 @@ module _ (old new : World) (kept : IsWellKept old.knows old.fleet) where
       → new.fleet ≡ old.fleet → Keeps 1 old new
   begun ids answer b fleet =
       let count = survivors_for d ids in
-      let same = same_count (log_of d) (never_fails d.head) (forgotten d.next count (took_in d.ledger)) (mode_of d.head)
-      (shut_in d.ledger) (d.next + count) (never_fails d.head)
+      let calm = (calm_parts d (passes_first (step_refusal d) _ b.passed).0).1 in
+      let same = same_count (log_of d) (never_fails d calm) (forgotten d.next count (took_in d.ledger)) (mode_of d)
+      (shut_in d.ledger) (d.next + count) (never_fails d calm)
       (forgotten_below d kept.core d.next count (took_in d.ledger) (log_of d).head.start.id used) in
       silent (ap (λ (x : MasterData). x.config) b.rest) (ap (λ (x : MasterData). x.origin) b.rest)
       (ap (λ (x : MasterData). x.history) b.rest) (quiet fleet)
@@ -414,54 +412,108 @@ module _ (old new : World) (kept : IsWellKept old.knows old.fleet) where
       let same = same_rest old.knows p.push in
       silent (ap (λ (d : MasterData). d.config) p.rest ∙ same.0) (ap (λ (d : MasterData). d.origin) p.rest ∙ same.3)
       (ap (λ (d : MasterData). d.history) p.rest ∙ same.1)
-      (op_beside d.config.master old.fleet new.fleet p.op (next_on d (log_of new.knows) p.op answer p.next) p.takes)
-      (next_stays (log_of d) (memory_of d) (read_of (log_of d) old.fleet) intact (never_fails d.head)
+      (op_beside d.config.master old.fleet new.fleet p.op p.takes)
+      (next_stays (log_of d) (memory_of d) (read_of (log_of d) old.fleet) intact (never_fails d p.calm)
       (kept.known p.running).knows d refl p.op (log_of new.knows) answer p.next)
 
-  -- a survivor is no head
-  sealed_away : (o : Option Pass) → d.pass ≡ o → (s j : ℕ) → option_and_then next_seal_of o ≡ Some (s, j)
-      → (log_of d).head.start.id ≡ s → ⊥
-  sealed_away None none s j is own = absurd (cc)
-  sealed_away (Some q) opened s j is own =
-      let among = subst (λ (x : Option (ℕ × ℕ)). IfSome x (λ (n : ℕ × ℕ). IsAmong n.0 (survivor_ids q.survivors))) is
-      (next_among q) in
-      let start = (log_of d).head.start in
-      intact.chosen.outside s (subst (λ (x : Option Pass). IsAmong s (survivors_of x)) (sym opened) among)
-      (subst (λ (z : ℕ). IsAmong z (ids_of start)) own (among_last start.others start.id))
+  -- the count as a failover began is of records that there are
+  frozen_within : (f : Failover) → d.failover ≡ Some f → (log_of d).frozen ≤ length d.history
+  frozen_within f is =
+      let le = durable_is_within (log_of d) (read_of (log_of d) old.fleet) intact.log in
+      let same = failing_is (log_of d) (fails d f is) in
+      omega (arith, le, same)
+
+  mended : (answer : StepAnswer) → MendsOn old answer new → Keeps 1 old new
+  mended answer p =
+      let same = mended_rest old.knows p.mend in
+      silent (ap (λ (d : MasterData). d.config) p.rest ∙ same.0) (ap (λ (d : MasterData). d.origin) p.rest ∙ same.3)
+      (ap (λ (d : MasterData). d.history) p.rest ∙ same.1)
+      (op_beside d.config.master old.fleet new.fleet p.op p.takes)
+      (go d.failover refl p.failing)
+    where
+      go : (o : Option Failover) → d.failover ≡ o → IsSome o → durable_of (log_of d) ≤ durable_of (log_of new.knows)
+      go None none some = absurd (cc)
+      go (Some f) is some =
+          mend_durable d kept.core f is (frozen_within f is) p.mend p.op (log_of new.knows) p.next p.does
 
   sealed : (answer : StepAnswer) → Seals old answer new → Keeps 1 old new
   sealed answer s =
-      let b = home d.config s.next.segment s.next.replica in
-      let away = other_id (log_of d).head.start.id s.next.segment
-      (sealed_away d.pass refl s.next.segment s.next.replica s.next.next) in
+      let b = home d.config d.failed s.next.segment s.next.replica in
+      let calm = (calm_parts d (passes_first (step_refusal d) _ s.passed).0).1 in
+      let of_pass = seals_next d s.next.segment s.next.replica s.next.next in
+      let listed = subst (λ (x : Option Pass). IsAmong s.next.segment (survivors_of x)) (sym of_pass.opened)
+      of_pass.next.among in
+      let away = other_id (log_of d).head.start.id s.next.segment (λ own.
+      intact.chosen.outside s.next.segment listed
+      (subst (λ (z : ℕ). IsAmong z (ids_of (log_of d).head.start)) own
+      (among_last (log_of d).head.start.others (log_of d).head.start.id))) in
       let took : with_taken (took_in d.ledger) s.next.segment b (log_of d).head.start.id
       ≡ took_in d.ledger (log_of d).head.start.id = rw away refl in
-      let same = same_count (log_of d) (never_fails d.head) (with_taken (took_in d.ledger) s.next.segment b)
-      (mode_of d.head) (shut_in d.ledger) d.next (never_fails d.head) took in
-      silent (ap (λ (d : MasterData). d.config) s.rest) (ap (λ (d : MasterData). d.origin) s.rest)
-      (ap (λ (d : MasterData). d.history) s.rest)
-      (op_beside d.config.master old.fleet new.fleet s.op (seal_on d s.op s.next) s.takes)
-      (subst (λ (x : MasterData). durable_of (log_of old.knows) ≤ durable_of (log_of x)) (sym s.rest)
+      let same = same_count (log_of d) (never_fails d calm) (with_taken (took_in d.ledger) s.next.segment b)
+      (mode_of d) (shut_in d.ledger) d.next (never_fails d calm) took in
+      let as_posted = posted d (posting.Took s.next.segment b) in
+      let rest = log_sealed as_posted in
+      silent (ap (λ (d : MasterData). d.config) s.rest ∙ rest.1) (ap (λ (d : MasterData). d.origin) s.rest ∙ rest.2)
+      (ap (λ (d : MasterData). d.history) s.rest ∙ ap (λ (l : FailData). l.history) rest.0)
+      (op_beside d.config.master old.fleet new.fleet s.op s.takes)
+      (subst (λ (l : FailData). durable_of (log_of old.knows) ≤ durable_of l) (sym (ap log_of s.rest ∙ rest.0))
       (omega (arith, same)))
 
   freed : (answer : StepAnswer) → Frees old answer new → Keeps 1 old new
   freed answer s =
-      let same = log_freed old.knows in
-      silent (ap (λ (d : MasterData). d.config) s.rest ∙ same.1) (ap (λ (d : MasterData). d.origin) s.rest ∙ same.2)
-      (ap (λ (d : MasterData). d.history) s.rest ∙ ap (λ (l : FailData). l.history) same.0)
-      (op_beside d.config.master old.fleet new.fleet s.op (free_on d s.op s.next) s.takes)
-      (same_log (ap log_of s.rest ∙ same.0))
+      silent (ap (λ (d : MasterData). d.config) s.rest) (ap (λ (d : MasterData). d.origin) s.rest)
+      (ap (λ (d : MasterData). d.history) s.rest)
+      (op_beside d.config.master old.fleet new.fleet s.op s.takes) (same_log (ap log_of s.rest))
 
-  module _ (IsOp : Op → Type 0) (on : (o : Op) → IsOp o → IsOnBackup o) where
+  module _ (IsOp : Op → Type 0) where
     halts : FailsTake IsOp old refusal.Halted new → Keeps 1 old new
     halts t =
-        silent (ap (λ (d : MasterData). d.config) t.0) (ap (λ (d : MasterData). d.origin) t.0)
-        (ap (λ (d : MasterData). d.history) t.0)
-        (op_faulted old.knows.config.master old.fleet new.fleet t.1.0 (on t.1.0 t.1.1) t.1.2)
-        (same_log (ap log_of t.0))
+        silent (ap (λ (d : MasterData). d.config) t.1) (ap (λ (d : MasterData). d.origin) t.1)
+        (ap (λ (d : MasterData). d.history) t.1)
+        (op_faulted old.knows.config.master old.fleet new.fleet t.2.0 t.2.2) (same_log (ap log_of t.1))
+
+    -- a failover that begins freezes the count
+    loses : (b : ℕ) → FailsTake IsOp old (refusal.Lost b) new → Keeps 1 old new
+    loses b t =
+        let frozen : durable_of (log_of (lost_data d b)) ≡ durable_now d = refl in
+        let same = counted d kept.core kept.placed (kept_unfailed d old.fleet kept.kept) in
+        silent (ap (λ (d : MasterData). d.config) t.1) (ap (λ (d : MasterData). d.origin) t.1)
+        (ap (λ (d : MasterData). d.history) t.1)
+        (op_faulted old.knows.config.master old.fleet new.fleet t.2.0 t.2.3)
+        (subst (λ (x : MasterData). durable_of (log_of old.knows) ≤ durable_of (log_of x)) (sym t.1)
+        (omega (arith, frozen, same)))
 
     failed : (r : Refusal) → FailsTake IsOp old r new → Keeps 1 old new
-    failed r t = take_failed IsOp old new r t unchanged halts
+    failed r t = take_failed IsOp old new r t unchanged loses halts
+
+  -- the new head of a failover was not to be opened, or its first Open ended in a fault
+  stuck : (r : Refusal) → IsStuck old r new → Keeps 1 old new
+  stuck r t = subst (Keeps 1 old) (sym t.3) (record {
+    config = refl;
+    origin = refl;
+    takes = (omega arith, omega arith);
+    others = λ b m s other. refl;
+    least = λ m other. refl;
+    durable = omega arith;
+    history = ([], sym (append-nil old.knows.history));
+  })
+
+  turned : (r : Refusal) → FailsTurn old r new → Keeps 1 old new
+  turned r t =
+      let rest = turned_rest d in
+      let f = t.0.0 in
+      let same = turned_durable d f.0 f.1 in
+      silent (ap (λ (d : MasterData). d.config) t.2 ∙ rest.0) (ap (λ (d : MasterData). d.origin) t.2 ∙ rest.3)
+      (ap (λ (d : MasterData). d.history) t.2 ∙ rest.1)
+      (op_faulted old.knows.config.master old.fleet new.fleet t.3.0 t.3.3)
+      (subst (λ (x : MasterData). durable_of (log_of old.knows) ≤ durable_of (log_of x)) (sym t.2)
+      (omega (arith, same)))
+
+  push_failed : (r : Refusal) → IsStuck old r new ⊎ (FailsTurn old r new ⊎ FailsTake (IsPushOp old) old r new)
+      → Keeps 1 old new
+  push_failed r (inl t) = stuck r t
+  push_failed r (inr (inl t)) = turned r t
+  push_failed r (inr (inr t)) = failed (IsPushOp old) r t
 
   step_keeps : (step : Step) (result : Result StepAnswer Refusal) → Steps old step result new → Keeps 1 old new
   step_keeps (Apply seat command) (Ok answer) t = applied seat command answer t.0 t.1
@@ -474,15 +526,16 @@ module _ (old new : World) (kept : IsWellKept old.knows old.fleet) where
   step_keeps (BeginClean ids) (Err r) t = unchanged t.0
   step_keeps Copy (Ok answer) t = copied answer t.0 t.1
   step_keeps Copy (Err r) t = unchanged t.0
-  step_keeps Push (Ok answer) t = pushed answer t
+  step_keeps Push (Ok answer) (inl t) = pushed answer t
+  step_keeps Push (Ok answer) (inr t) = mended answer t
   step_keeps Push (Err r) (inl t) = unchanged t.1
-  step_keeps Push (Err r) (inr t) = failed (IsPushOp old) (push_on old) r t.1
+  step_keeps Push (Err r) (inr t) = push_failed r t.1
   step_keeps Seal (Ok answer) t = sealed answer t
   step_keeps Seal (Err r) (inl t) = unchanged t.1
-  step_keeps Seal (Err r) (inr t) = failed (IsSealOp old.knows) (seal_on old.knows) r t.1
+  step_keeps Seal (Err r) (inr t) = failed (IsSealOp old.knows) r t.1
   step_keeps Free (Ok answer) t = freed answer t
   step_keeps Free (Err r) (inl t) = unchanged t.1
-  step_keeps Free (Err r) (inr t) = failed (IsFreeOp old.knows) (free_on old.knows) r t.1
+  step_keeps Free (Err r) (inr t) = failed (IsFreeOp old.knows) r t.1
 
 pub steps_keep : (old new : World) (step : Step) (result : Result StepAnswer Refusal) → IsWellKept old.knows old.fleet
     → Steps old step result new

@@ -1,20 +1,22 @@
 -- What a push and the begin of a roll keep of one that is loading.
-use Rattle.std.proofs.Common.{◌≡◌, inl, inr, refl, sym, ap, subst, ◌∙◌}
+use Rattle.std.proofs.Common.{◌≡◌, ◌⊎◌, ℕ, inl, inr, refl, sym, ap, subst, ◌∙◌}
 use Rattle.std.specs.Prelude.{Result, Ok, Err, IfOk, IfErr, OnErr}
 use Rattle.replica.specs.Picture.{FleetState}
 use Rattle.master_state.specs.declared.step.Refusal.{Refusal}
 use Rattle.master_state.specs.declared.step.Refusal.TheVariants as refusal
 use Rattle.master_state.specs.declared.step.Step.TheVariants.{Push}
 use Rattle.master_state.specs.declared.step.StepAnswer.{StepAnswer}
+use Rattle.master_mending.specs.Mending.{mended_data}
 use Rattle.master_state.specs.Data.{MasterData}
-use Rattle.master_state.specs.Log.{log_of}
-use Rattle.master_state.specs.Steps.{BeginsRoll}
+use Rattle.master_state.specs.Steps.{BeginsRoll, pushed_data}
 use Rattle.master.specs.Loading.{KeepsLoading}
+use Rattle.master.specs.Mends.{MendsOn}
 use Rattle.master.specs.Pushes.{Pushes}
-use Rattle.master.specs.Steps.{FailsTake, IsPushOp, Accepts, Declines}
+use Rattle.master.specs.Steps.{FailsTake, IsPushOp, IsStuck, FailsTurn, Accepts, Declines}
 use Rattle.master.specs.World.{World, world_of}
-use Rattle.master.proofs.Keeping.{IsBeside, beside_same, op_beside, op_faulted, next_on, push_on, take_failed}
-use Rattle.master.proofs.PushedRest.{same_rest}
+use Rattle.master.proofs.Keeping.{IsBeside, beside_same, op_beside, op_faulted, take_failed}
+use Rattle.master.proofs.MendedRest.{mended_rest, turned_rest}
+use Rattle.master.proofs.PushedRest.{SameRest, same_rest}
 
 module _ (old new : World) where
   beside : new.knows.config ≡ old.knows.config → new.knows.origin ≡ old.knows.origin
@@ -38,24 +40,47 @@ module _ (old new : World) where
       quiet (ap (λ (w : World). w.knows.config) same) (ap (λ (w : World). w.knows.origin) same)
       (ap (λ (w : World). w.fleet) same)
 
+  -- an op that the fleet took, or that ended in a fault
+  handed : (e : MasterData) → new.knows ≡ e → SameRest e old.knows
+      → IsBeside old.knows.config.master old.fleet new.fleet → KeepsLoading old new
+  handed e is same =
+      beside (ap (λ (d : MasterData). d.config) is ∙ same.0) (ap (λ (d : MasterData). d.origin) is ∙ same.3)
+
   pushed : (answer : StepAnswer) → Pushes old answer new → KeepsLoading old new
   pushed answer p =
-      let same = same_rest old.knows p.push in
-      beside (ap (λ (d : MasterData). d.config) p.rest ∙ same.0) (ap (λ (d : MasterData). d.origin) p.rest ∙ same.3)
-      (op_beside old.knows.config.master old.fleet new.fleet p.op
-      (next_on old.knows (log_of new.knows) p.op answer p.next) p.takes)
+      handed (pushed_data old.knows p.push) p.rest (same_rest old.knows p.push)
+      (op_beside old.knows.config.master old.fleet new.fleet p.op p.takes)
+
+  mended : (answer : StepAnswer) → MendsOn old answer new → KeepsLoading old new
+  mended answer p =
+      handed (mended_data old.knows p.mend) p.rest (mended_rest old.knows p.mend)
+      (op_beside old.knows.config.master old.fleet new.fleet p.op p.takes)
 
   halts : FailsTake (IsPushOp old) old refusal.Halted new → KeepsLoading old new
-  halts t =
-      beside (ap (λ (d : MasterData). d.config) t.0) (ap (λ (d : MasterData). d.origin) t.0)
-      (op_faulted old.knows.config.master old.fleet new.fleet t.1.0 (push_on old t.1.0 t.1.1) t.1.2)
+  halts t = beside (ap (λ (d : MasterData). d.config) t.1) (ap (λ (d : MasterData). d.origin) t.1)
+      (op_faulted old.knows.config.master old.fleet new.fleet t.2.0 t.2.2)
+
+  loses : (b : ℕ) → FailsTake (IsPushOp old) old (refusal.Lost b) new → KeepsLoading old new
+  loses b t = beside (ap (λ (d : MasterData). d.config) t.1) (ap (λ (d : MasterData). d.origin) t.1)
+      (op_faulted old.knows.config.master old.fleet new.fleet t.2.0 t.2.3)
+
+  failed : (r : Refusal) → IsStuck old r new ⊎ (FailsTurn old r new ⊎ FailsTake (IsPushOp old) old r new)
+      → KeepsLoading old new
+  failed r (inl t) = quiet (ap (λ (w : World). w.knows.config) t.3) (ap (λ (w : World). w.knows.origin) t.3)
+      (ap (λ (w : World). w.fleet) t.3)
+  failed r (inr (inl t)) =
+      let same = turned_rest old.knows in
+      beside (ap (λ (d : MasterData). d.config) t.2 ∙ same.0) (ap (λ (d : MasterData). d.origin) t.2 ∙ same.3)
+      (op_faulted old.knows.config.master old.fleet new.fleet t.3.0 t.3.3)
+  failed r (inr (inr t)) = take_failed (IsPushOp old) old new r t unchanged loses halts
 
   pub push_keeps : (result : Result StepAnswer Refusal) → IfOk result (λ a. Accepts old Push a new)
       → IfErr result (λ r. Declines old Push r new)
       → KeepsLoading old new
-  push_keeps (Ok answer) accepted refused = pushed answer accepted
+  push_keeps (Ok answer) (inl t) refused = pushed answer t
+  push_keeps (Ok answer) (inr t) refused = mended answer t
   push_keeps (Err r) accepted (inl t) = unchanged t.1
-  push_keeps (Err r) accepted (inr t) = take_failed (IsPushOp old) old new r t.1 unchanged halts
+  push_keeps (Err r) accepted (inr t) = failed r t.1
 
 pub roll_keeps : (d e : MasterData) (f : FleetState) (result : Result StepAnswer Refusal)
     → IfOk result (λ a. BeginsRoll d a e)

@@ -23,14 +23,15 @@ use Rattle.failover_clean.proofs.FleetAnswers.{ok_holds_all, op_is_never_wrong}
 use Rattle.failover_clean.proofs.FleetSteps.{same_holds_all, roll_holds_all, end_holds_all}
 use Rattle.failover_clean.proofs.LoadingFleets.{ok_holds_loading, loading_is_never_wrong, roll_holds_loading}
 use Rattle.failover_clean.proofs.LoadingFleets.{end_holds_loading, same_holds_loading}
+use Rattle.std.specs.Prelude.{map}
 use Rattle.master_state.specs.declared.config.Config.{Config}
+use Rattle.master_state.specs.declared.waiting.Waiting.{Waiting}
 use Rattle.master_state.specs.Data.{MasterData}
 use Rattle.master_state.specs.Invariant.{AreApart, IsCore}
 use Rattle.master_state.specs.Loading.{IsBare}
 use Rattle.master_state.specs.Log.{log_of, memory_of}
 use Rattle.master.specs.Invariant.{IsWellKept, IsWellLoaded}
 use Rattle.master.specs.Placed.{IsPlaced}
-use Rattle.master.specs.Registry.{IsUnraised}
 
 -- Laws of what holds of a log, its memory and the fleet.
 pub record Lasts (Holds : FailData → FailMemory → FleetState → Type 0) : Type 0 where
@@ -95,8 +96,7 @@ pub record IsKeptAs (Holds : FailData → FailMemory → FleetState → Type 0) 
   pub placed : IsPlaced d
   pub holds : Holds (log_of d) (memory_of d) f
   pub backups : d.config.backups ≤ f.backups
-  pub least : IsUnraised d.config.master f
-  pub apart : AreApart d.waiting
+  pub apart : AreApart (map (λ (w : Waiting). w.segment) d.waiting)
 
 pub kept_as : (d : MasterData) (f : FleetState) → IsWellKept d f → d.is_halted ≡ false → IsKeptAs HoldsAll d f
 kept_as d f kept running = record {
@@ -104,7 +104,6 @@ kept_as d f kept running = record {
   placed = kept.placed;
   holds = kept.known running;
   backups = kept.backups;
-  least = kept.least;
   apart = kept.apart;
 }
 
@@ -115,7 +114,6 @@ well_kept d f kept = record {
   kept = kept.holds.keeps;
   known = λ running. kept.holds;
   backups = kept.backups;
-  least = kept.least;
   apart = kept.apart;
 }
 
@@ -125,8 +123,7 @@ loaded_as d f loaded running = record {
   placed = loaded.placed;
   holds = loaded.loading running;
   backups = loaded.backups;
-  least = loaded.least;
-  apart = subst AreApart (sym loaded.bare.waiting) tt;
+  apart = subst (λ (ws : List Waiting). AreApart (map (λ (w : Waiting). w.segment) ws)) (sym loaded.bare.waiting) tt;
 }
 
 pub well_loaded : (d : MasterData) (f : FleetState) → IsKeptAs HoldsLoading d f → IsBare d → d.is_halted ≡ false
@@ -137,7 +134,6 @@ well_loaded d f kept bare running = record {
   placed = kept.placed;
   loading = λ going. kept.holds;
   backups = kept.backups;
-  least = kept.least;
   halted = λ is. absurd (let both = sym is ∙ running in cc);
 }
 
@@ -152,6 +148,5 @@ unhanded_kept d e f kept core placed config waiting then_holds = record {
   placed = placed;
   holds = then_holds;
   backups = subst (λ (c : Config). c.backups ≤ f.backups) (sym config) kept.backups;
-  least = subst (λ (c : Config). IsUnraised c.master f) (sym config) kept.least;
-  apart = subst AreApart (sym waiting) kept.apart;
+  apart = subst (λ (ws : List Waiting). AreApart (map (λ (w : Waiting). w.segment) ws)) (sym waiting) kept.apart;
 }

@@ -12,6 +12,7 @@ pub mod OpenPasses
 pub mod Lasting
 pub mod Models
 pub mod Placements
+pub mod LostPlaces
 pub mod Starting
 pub mod Applied
 pub mod Compacted
@@ -26,9 +27,11 @@ pub mod PassPlaces
 pub mod GrownImages
 pub mod Begun
 pub mod Copied
+pub mod Recounted
 pub mod Sealed
 pub mod Freed
 pub mod PushedRest
+pub mod MendedRest
 pub mod Keeping
 pub mod KeptLoading
 pub mod Accepted
@@ -38,3 +41,18 @@ mod Retired
 pub mod SizeTablets
 mod HeldBelow
 mod PushedFor
+pub mod LostKept
+pub mod LostLog
+pub mod LostMemory
+pub mod MendOps
+pub mod GoingOn
+pub mod MendPlaces
+pub mod MendEnds
+pub mod MendCloses
+pub mod MendHeads
+pub mod MendSeals
+pub mod MendTurns
+pub mod MendPushes
+pub mod MendKeeps
+pub mod MendServed
+pub mod MendFirsts

@@ -1,9 +1,10 @@
 -- One that is loading begins, loads an object, and becomes a master.
 use Rattle.std.proofs.Common.{◌≡◌, ℕ, ◌+◌, ◌<◌, ◌≤◌, Bool, true, false, List, [], ◌∷◌, ◌++◌, length, refl}
 use Rattle.std.proofs.Common.{sym, ap, subst, ◌∙◌, get_or, arith}
-use Rattle.std.specs.Prelude.{Option, None, ◌==◌}
+use Rattle.std.specs.Prelude.{Option, None, ◌==◌, ◌&&◌, is_none, map}
 use Rattle.std.specs.List.{AllByRecursion}
 use Rattle.std.proofs.lemmas.Bool.{eqb-true}
+use Rattle.std.proofs.Math.Bool.{and-false}
 use Rattle.std.proofs.lemmas.List.{length-append}
 use Rattle.std.proofs.lemmas.Option.{slice_get-get_or}
 use Rattle.cleaner.specs.declared.pass.Pass.{Pass as OpenPass}
@@ -25,29 +26,32 @@ use Rattle.failover_clean.specs.Steps.{first_memory}
 use Rattle.failover_clean.proofs.LoadingFleets.{restored_holds_loading, load_holds_loading, finished_holds_all}
 use Rattle.master_state.specs.declared.config.Config.{Config}
 use Rattle.master_state.specs.Budget.{victims_of, is_committing}
-use Rattle.master_state.specs.Causes.{is_pushed}
+use Rattle.master_state.specs.declared.waiting.Waiting.{Waiting}
+use Rattle.master_state.specs.Causes.{is_pushed, is_done}
 use Rattle.master_state.specs.Config.{config_fault}
 use Rattle.master_state.specs.Data.{MasterData}
 use Rattle.master_state.specs.Images.{images_among}
 use Rattle.master_state.specs.Invariant.{AreApart, IsCore}
 use Rattle.master_state.specs.Loading.{restored_data, IsBare, loaded_unit, MayLoadNow, Loads, Settles}
 use Rattle.master_state.specs.Ledger.{took_in}
-use Rattle.master_state.specs.Log.{fail_config, opening_of, log_of, images_of, rest_now, memory_of}
+use Rattle.master_state.specs.Log.{placed, fail_config, opening_of, log_of, images_of, rest_now, memory_of}
 use Rattle.master_state.proofs.Imaging.{same_id, other_id, appended_own, appended_other}
-use Rattle.master_commands.proofs.HeadsInForce.{open_opened}
-use Rattle.master_commands.proofs.LoadedCore.{pushed_open, pushed_calm, pushed_whole}
-use Rattle.master_state.proofs.Refusals.{has_homes, open_parts}
+use Rattle.master_commands.proofs.HeadsInForce.{open_headed}
+use Rattle.master_commands.proofs.LoadedCore.{is_admitted, done_parts, pushed_open, pushed_calm, pushed_whole}
+use Rattle.master_state.proofs.Refusals.{has_homes, open_parts, working_parts}
 use Rattle.master.specs.Invariant.{IsWellKept, IsWellLoaded}
-use Rattle.master.specs.Placed.{placed, IsPlaced}
+use Rattle.master.specs.Placed.{holders, IsPlaced}
 use Rattle.master.specs.Registry.{IsUnraised}
 use Rattle.master.proofs.Applied.{images_beside, images_at}
 use Rattle.master.proofs.HeadTexts.{head_whole}
-use Rattle.master.proofs.InForce.{real_head, force_opened}
+use Rattle.master.proofs.Counting.{loading_unfailed}
+use Rattle.master.proofs.InForce.{real_head, force_headed, calm_settled}
 use Rattle.master.proofs.Lasting.{loading_lasts, well_kept, well_loaded}
 use Rattle.master.proofs.Models.{IsModel, LeavesPass, is_model, own_holds}
 use Rattle.master.proofs.Placements.{placed_more, placed_restored, placed_settled}
-use Rattle.master.proofs.Placing.{placed_home}
+use Rattle.master.proofs.Placing.{placed_home, has_left}
 use Rattle.master.proofs.Starting.{first_heads, may_begin, first_model}
+use Rattle.master.proofs.NextOps.{never_opens}
 
 -- ---- it begins
 
@@ -58,13 +62,12 @@ pub restored_loaded : (c : Config) (safe : ℕ) (f : FleetState) → config_faul
 restored_loaded c safe f ok core log bare backups nothing least =
     well_loaded (restored_data c safe) f (record {
       core = core;
-      placed = placed_restored c safe ok core;
+      placed = placed_restored c safe;
       holds = own_holds loading_lasts (restored_data c safe) core (first_memory (fail_config c) safe) f
           (subst (λ (l : FailData). HoldsLoading l (first_memory (fail_config c) safe) f) (sym log)
           (restored_holds_loading (fail_config c) safe f (may_begin c f ok nothing least) (first_heads c safe core)))
           (first_model c safe log);
       backups = backups;
-      least = least;
       apart = tt;
     }) bare refl
 
@@ -75,24 +78,28 @@ fewest_within : (units bound : ℕ) (ns : List ℕ) → 0 < length ns → AllByR
 fewest_within units bound [] some all = absurd (omega arith)
 fewest_within units bound (n ∷ ns) some all = let le = all.0 in omega arith
 
--- a head with one unit more has that to push
-unit_lags : (d : MasterData) → IsCore d → (number : ℕ) (unit : List Entry)
-    → is_pushed (with_unit_end d.head number unit) ≡ false
-unit_lags d core number unit = go (is_pushed (with_unit_end d.head number unit)) refl where
-  go : (t : Bool) → is_pushed (with_unit_end d.head number unit) ≡ t
-      → is_pushed (with_unit_end d.head number unit) ≡ false
-  go false is = is
-  go true is =
-      let both = pushed_open (with_unit_end d.head number unit) is in
-      let count = (open_parts (with_unit_end d.head number unit) both.0).0 in
-      let some = (has_homes d.config core.config).some in
-      let same = core.replicas in
-      let all = both.1 in
-      let low = fewest_within (length d.head.units) (length (with_unit_end d.head number unit).units) d.head.taken
-      (omega arith) core.head.taken in
-      let more : length (with_unit_end d.head number unit).units ≡ length d.head.units + 1 =
-      length-append d.head.units _ in
-      absurd (omega arith)
+-- a core whose head has one unit more has that to push
+unit_lags : (d : MasterData) → IsCore d → (number : ℕ) (unit : List Entry) (e : MasterData)
+    → e.head ≡ with_unit_end d.head number unit → is_done e ≡ false
+unit_lags d core number unit e head =
+    ap (λ (h : HeadValue). is_none e.failover && is_pushed h) head
+    ∙ ap (λ (t : Bool). is_none e.failover && t) (go (is_pushed (with_unit_end d.head number unit)) refl)
+    ∙ and-false (is_none e.failover)
+  where
+    go : (t : Bool) → is_pushed (with_unit_end d.head number unit) ≡ t
+        → is_pushed (with_unit_end d.head number unit) ≡ false
+    go false is = is
+    go true is =
+        let both = pushed_open (with_unit_end d.head number unit) is in
+        let count = (open_parts (with_unit_end d.head number unit) both.0).0 in
+        let some = (has_homes d.config core.config).some in
+        let same = core.replicas in
+        let all = both.1 in
+        let low = fewest_within (length d.head.units) (length (with_unit_end d.head number unit).units) d.head.taken
+        (omega arith) core.head.taken in
+        let more : length (with_unit_end d.head number unit).units ≡ length d.head.units + 1 =
+        length-append d.head.units _ in
+        absurd (omega arith)
 
 module _ (d e : MasterData) (f : FleetState) (o : Object) (loaded : IsWellLoaded d f) (is : Loads d o e)
     (may : MayLoadNow d o)
@@ -114,7 +121,8 @@ module _ (d e : MasterData) (f : FleetState) (o : Object) (loaded : IsWellLoaded
 
   own : head ≡ d.head.id
   own =
-      ap (λ (h : FailHead). h.start.id) (force_opened d.config.format d.head (open_opened d.head may.1.opened))
+      let calm = (working_parts d (is_admitted d o is.passed).works).1 in
+      ap (λ (h : FailHead). h.start.id) (force_headed d (open_headed d may.1.opened calm))
       ∙ loaded.core.image.id
 
   images_then : (s : ℕ) → images_of e s ≡ images_among grown_head d.closed s
@@ -167,49 +175,57 @@ module _ (d e : MasterData) (f : FleetState) (o : Object) (loaded : IsWellLoaded
   object_is_loaded = record {
     core = core;
     bare = bare;
-    placed = placed_more d e loaded.core loaded.placed 0 unit (ap (λ (x : MasterData). x.config) is.rest)
-        (ap (λ (x : MasterData). x.ledger) is.rest) (ap (λ (x : MasterData). x.head) is.rest)
-        (ap (λ (x : MasterData). x.pass) is.rest);
+    placed = placed_more d e loaded.placed 0 unit (record {
+      config = ap (λ (x : MasterData). x.config) is.rest;
+      failed = ap (λ (x : MasterData). x.failed) is.rest;
+      failover = ap (λ (x : MasterData). x.failover) is.rest;
+      ledger = ap (λ (x : MasterData). x.ledger) is.rest;
+      closed = ap (λ (x : MasterData). x.closed) is.rest;
+    }) (ap (λ (x : MasterData). x.head) is.rest)
+        (never_opens d.failover (working_parts d (is_admitted d o is.passed).works).1);
     loading = λ going. then_loading (loaded.loading (sym (ap (λ (x : MasterData). x.is_halted) is.rest) ∙ going));
     backups = subst (λ (x : MasterData). x.config.backups ≤ f.backups) (sym is.rest) loaded.backups;
-    least = subst (λ (x : MasterData). IsUnraised x.config.master f) (sym is.rest) loaded.least;
-    halted = λ stopped. ap (λ (x : MasterData). is_pushed x.head) is.rest ∙ unit_lags d loaded.core 0 unit;
+    halted = λ stopped. unit_lags d loaded.core 0 unit e (ap (λ (x : MasterData). x.head) is.rest);
   }
 
 -- ---- it has loaded all
 
-module _ (d e : MasterData) (f : FleetState) (loaded : IsWellLoaded d f) (pushed : is_pushed d.head ≡ true)
+module _ (d e : MasterData) (f : FleetState) (loaded : IsWellLoaded d f) (done : is_done d ≡ true)
     (is : Settles d e)
     (core : IsCore e) where
   running : d.is_halted ≡ false
   running = go d.is_halted refl where
     go : (t : Bool) → d.is_halted ≡ t → d.is_halted ≡ false
-    go true stopped = absurd (let never = sym (loaded.halted stopped) ∙ pushed in cc)
+    go true stopped = absurd (let never = sym (loaded.halted stopped) ∙ done in cc)
     go false going = going
 
-  in_force : (log_of d).head ≡ real_head d.head
-  in_force = force_opened d.config.format d.head (open_opened d.head (pushed_open d.head pushed).0)
+  calm : d.failover ≡ None
+  calm = (done_parts d done).0
 
-  -- each home of the head has all units
+  in_force : (log_of d).head ≡ real_head d.head
+  in_force = force_headed d (open_headed d (pushed_open d.head (done_parts d done).1).0 calm)
+
+  -- each backup of the head has all units
   whole_there : (b : ℕ) → HasTaken (log_of d) (log_of d).head.start.id b
       → (log_of d).counts b ≡ length (log_of d).head.units
   whole_there b took =
-      let there : has (placed d.config d.head.id (length d.head.taken)) b ≡ true =
+      let works = (loading_unfailed d f (loaded.loading running)).head (calm_settled d calm) b took in
+      let there : has (placed d.config d.failed d.head.id (length d.head.taken)) b ≡ true =
       sym (ap (λ (bs : List ℕ). has bs b)
-      (ap (λ (h : FailHead). took_in d.ledger h.start.id) in_force ∙ ap (took_in d.ledger) loaded.core.image.id
-      ∙ loaded.placed.head)) ∙ took in
-      let at = placed_home d.config d.head.id (length d.head.taken) b there in
+      (ap (λ (h : FailHead). holders d h.start.id) in_force ∙ ap (holders d) loaded.core.image.id
+      ∙ loaded.placed.head)) ∙ has_left d.failed (took_in d.ledger (log_of d).head.start.id) b took works in
+      let at = placed_home d.config d.failed d.head.id (length d.head.taken) b there in
       let count = slice_get-get_or d.head.taken at.replica 0 at.within in
       ap (log_of d).counts at.is
       ∙ loaded.placed.counts at.replica (get_or d.head.taken at.replica 0) count
-      ∙ (pushed_whole d loaded.core pushed).all at.replica (get_or d.head.taken at.replica 0) count
+      ∙ (pushed_whole d loaded.core done).all at.replica (get_or d.head.taken at.replica 0) count
       ∙ sym (ap (λ (h : FailHead). length h.units) in_force)
 
   holds : HoldsAll (log_of e) (memory_of e) f
   holds =
       subst (λ (l : FailData). HoldsAll l (memory_of e) f) (sym is.log)
       (subst (λ (x : MasterData). HoldsAll (adopted (log_of d) (opening_of d)) (memory_of x) f) (sym is.rest)
-      (finished_holds_all (log_of d) (memory_of d) f (loaded.loading running) (pushed_calm d loaded.core pushed)
+      (finished_holds_all (log_of d) (memory_of d) f (loaded.loading running) (pushed_calm d loaded.core done)
       whole_there))
 
   pub finished_kept : IsWellKept e f
@@ -218,6 +234,6 @@ module _ (d e : MasterData) (f : FleetState) (loaded : IsWellLoaded d f) (pushed
     placed = subst IsPlaced (sym is.rest) (placed_settled d loaded.placed);
     holds = holds;
     backups = subst (λ (x : MasterData). x.config.backups ≤ f.backups) (sym is.rest) loaded.backups;
-    least = subst (λ (x : MasterData). IsUnraised x.config.master f) (sym is.rest) loaded.least;
-    apart = subst AreApart (sym (ap (λ (x : MasterData). x.waiting) is.rest ∙ loaded.bare.waiting)) tt;
+    apart = subst (λ (ws : List Waiting). AreApart (map (λ (w : Waiting). w.segment) ws))
+        (sym (ap (λ (x : MasterData). x.waiting) is.rest ∙ loaded.bare.waiting)) tt;
   })

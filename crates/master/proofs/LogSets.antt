@@ -1,8 +1,11 @@
 -- Memory has an image of each segment of the log set, and of no other.
-use Rattle.std.proofs.Common.{◌≡◌, ℕ, ◌⊎◌, Bool, true, false, inl, inr, List, [], ◌∷◌, refl, sym, ap, subst, ◌∙◌}
-use Rattle.std.specs.Prelude.{Option, Some, None, IsSome, unwrap_or, ◌==◌, ◌||◌, ◌↔◌}
-use Rattle.std.specs.Option.{option_map, option_to_list}
+use Rattle.std.proofs.Common.{◌≡◌, ℕ, ◌<◌, ◌⊎◌, Bool, true, false, inl, inr, List, [], ◌∷◌, ◌++◌, length, refl, sym, ap}
+use Rattle.std.proofs.Common.{subst, ◌∙◌, arith}
+use Rattle.std.specs.Prelude.{Option, Some, None, IfSome, IsSome, not, unwrap_or, ◌==◌, ◌||◌, ◌↔◌}
+use Rattle.std.specs.List.{AllByRecursion}
+use Rattle.std.specs.Option.{option_map, option_map_or, option_to_list}
 use Rattle.std.proofs.lemmas.Bool.{eqb-true}
+use Rattle.cleaner.specs.declared.pass.Pass.{Pass}
 use Rattle.entry.specs.declared.entry.Entry.{Entry}
 use Rattle.entry.specs.Bag.{IsAmong}
 use Rattle.entry.proofs.BagLemmas.{among_left, among_right, among_either, among_push, among_last}
@@ -17,18 +20,24 @@ use Rattle.log_model.specs.Ids.{has}
 use Rattle.clean_model.specs.Memory.{new_ids}
 use Rattle.clean_model.proofs.CommitDigest.{all_in, all_out}
 use Rattle.clean_model.proofs.KeptEntries.{has_is, is_has}
-use Rattle.failover_model.specs.Data.{new_of}
+use Rattle.failover_model.specs.Data.{Head as FailHead, Mode, Mends, new_of, is_failing}
 use Rattle.failover_model.specs.Steps.{ids_now}
 use Rattle.failover_clean.specs.Memory.{log_ids}
-use Rattle.failover_clean.proofs.Ids.{ids_out, in_digest, in_survivors, new_in, new_one}
+use Rattle.failover_clean.proofs.Ids.{now_none, ids_out, in_digest, in_survivors, new_in, new_one}
 use Rattle.places.specs.declared.place.Place.{Place}
 use Rattle.master_state.specs.Budget.{survivors_of}
+use Rattle.master_state.specs.declared.failover.Failover.{Failover}
+use Rattle.master_state.specs.declared.failover.Part.{Part}
+use Rattle.master_state.specs.declared.failover.Part.TheVariants as part
 use Rattle.master_state.specs.Data.{MasterData}
 use Rattle.master_state.specs.Images.{new_image_or}
-use Rattle.master_state.specs.Invariant.{IsCore}
-use Rattle.master_state.specs.Log.{is_opened, log_of, image_of, images_of, memory_of, log_set_ids}
+use Rattle.master_state.specs.Invariant.{IsOpenPass, IsCore}
+use Rattle.master_state.specs.Log.{is_opened, is_headless, calm_mode, new_start, failing_mode, mode_of, log_of}
+use Rattle.master_state.specs.Log.{image_of, images_of, memory_of, log_set_ids}
 use Rattle.master_state.proofs.Imaging.{same_id, ids_in}
-use Rattle.master.proofs.InForce.{open_or, now_opened, now_unopened, roll_id, new_opened, new_unopened, new_now}
+use Rattle.master.specs.Valid.{IsGivenUp}
+use Rattle.master.proofs.InForce.{headed_or, start_real, now_headed, now_headless, roll_id, failover_of, new_headed}
+use Rattle.master.proofs.InForce.{new_now, new_unopened, force_headed, force_headless, never_fails, open_or, headed}
 
 -- ---- lists
 
@@ -86,41 +95,123 @@ module _ (d : MasterData) (core : IsCore d) (s : ℕ) where
   closed_out c = all_out (survivors_of d.pass) (head_of d.head).start.others s
       (subst (λ (ids : List ℕ). IsAmong s ids) core.closed c)
 
-  closed_in : IsAmong s (head_of d.head).start.others ⊎ IsAmong s (survivors_of d.pass) → IsAmong s (ids_in d.closed)
+  pub closed_in : IsAmong s (head_of d.head).start.others ⊎ IsAmong s (survivors_of d.pass)
+      → IsAmong s (ids_in d.closed)
   closed_in c = subst (λ (ids : List ℕ). IsAmong s ids) (sym core.closed)
       (all_in (survivors_of d.pass) (head_of d.head).start.others s c)
 
-  -- it lists the ids of the digest once the head is open, and else the first head alone
-  listed : is_opened d.head ≡ true → IsAmong s (ids_of (head_of d.head).start)
+  -- ---- before a head is in force
+
+  turn_first : (f : Failover) → f.is_first ≡ true → new_start d.head f ≡ (head_of d.head).start
+  turn_first f is = rw is refl
+
+  -- the first head is the new one, unless a failure has kept it from being open
+  new_headless : is_headless d ≡ true
+      → (new_of (log_of d).mode ≡ Some (head_of d.head).start) ⊎ ((log_of d).mode ≡ Mends)
+  new_headless none = by_failover d.failover refl where
+    Either : Mode → Type 0
+    Either m = (new_of m ≡ Some (head_of d.head).start) ⊎ (m ≡ Mends)
+
+    first_of : (f : Failover) → d.failover ≡ Some f → f.is_first ≡ true
+    first_of f some =
+        sym (ap (λ (o : Option Failover). option_map_or (λ (g : Failover). g.is_first) o (not (is_opened d.head))) some)
+        ∙ none
+
+    by_part : (f : Failover) → d.failover ≡ Some f → (p : Part) → f.part ≡ p
+        → (new_of (failing_mode d.head f) ≡ Some (head_of d.head).start) ⊎ (failing_mode d.head f ≡ Mends)
+    by_part f some part.Mends is = rw is (inr refl)
+    by_part f some part.Opens is =
+        rw is (inl (ap (λ (n : Start). Some n) (turn_first f (first_of f some))))
+    by_part f some part.Closes is =
+        absurd (let both : true ≡ false = sym (first_of f some) ∙ ((failover_of d core f some).closes is).0 in cc)
+    by_part f some part.Repairs is =
+        absurd (let both : true ≡ false = sym (first_of f some) ∙ ((failover_of d core f some).repairs is).0 in cc)
+
+    calm : d.failover ≡ None → (is_opened d.head ≡ true) ⊎ (is_opened d.head ≡ false) → Either (mode_of d)
+    calm off (inl opened) = absurd (let both : false ≡ true = sym (headed d off opened) ∙ none in cc)
+    calm off (inr unopened) = inl (new_unopened d off unopened)
+
+    by_failover : (o : Option Failover) → d.failover ≡ o → Either (mode_of d)
+    by_failover None off = calm off (open_or d.head)
+    by_failover (Some f) some =
+        subst (λ (o : Option Failover). Either (option_map_or (failing_mode d.head) o (calm_mode d.head))) (sym some)
+        (by_part f some f.part refl)
+
+  -- it lists the ids of the digest in force, and else the first head alone
+  listed : is_headless d ≡ false → IsAmong s (ids_of (head_of d.head).start)
       → IsAmong s (log_ids (log_of d) (memory_of d))
-  listed opened i =
-      in_digest (log_of d) (memory_of d) s (subst (λ (ids : List ℕ). IsAmong s ids) (sym (now_opened d core opened)) i)
+  listed in_force i =
+      in_digest (log_of d) (memory_of d) s
+      (subst (λ (ids : List ℕ). IsAmong s ids) (sym (now_headed d core in_force)) i)
 
   pub of_closed : IsAmong s (ids_in d.closed) → IsAmong s (log_ids (log_of d) (memory_of d))
   of_closed c = elim (closed_out c) as (λ _. IsAmong s log_set) [
-    | inl older ↦ elim (open_or d.head) as (λ _. IsAmong s log_set) [
-      | inl opened ↦ listed opened (among_left s (head_of d.head).start.others ((head_of d.head).start.id ∷ []) older)
-      | inr unopened ↦ absurd (subst (λ (ids : List ℕ). IsAmong s ids) (core.first unopened).others older)
+    | inl older ↦ elim (headed_or d) as (λ _. IsAmong s log_set) [
+      | inl is ↦ listed is (among_left s (head_of d.head).start.others ((head_of d.head).start.id ∷ []) older)
+      | inr none ↦ absurd (subst (λ (ids : List ℕ). IsAmong s ids) (core.first none).others older)
     ]
     | inr survivor ↦ in_survivors (log_of d) (memory_of d) s survivor
   ]
 
-  pub of_head : s ≡ d.head.id → IsAmong s (log_ids (log_of d) (memory_of d))
+  -- the head is of it too, unless it was given up
+  pub of_head : s ≡ d.head.id → IsAmong s (log_ids (log_of d) (memory_of d)) ⊎ IsGivenUp d s
   of_head own =
       let same : (head_of d.head).start.id ≡ s = core.image.id ∙ sym own in
-      elim (open_or d.head) as (λ _. IsAmong s log_set) [
-        | inl opened ↦ listed opened (subst (λ (z : ℕ). IsAmong z (ids_of (head_of d.head).start)) same
-            (among_last (head_of d.head).start.others (head_of d.head).start.id))
-        | inr unopened ↦ subst (λ (z : ℕ). IsAmong z log_set) same
-            (new_in (log_of d) (memory_of d) (head_of d.head).start (new_unopened d.head unopened))
+      elim (headed_or d) as (λ _. IsAmong s log_set ⊎ IsGivenUp d s) [
+        | inl is ↦ inl (listed is (subst (λ (z : ℕ). IsAmong z (ids_of (head_of d.head).start)) same
+            (among_last (head_of d.head).start.others (head_of d.head).start.id)))
+        | inr none ↦ elim (new_headless none) as (λ _. IsAmong s log_set ⊎ IsGivenUp d s) [
+          | inl new ↦ inl (subst (λ (z : ℕ). IsAmong z log_set) same
+              (new_in (log_of d) (memory_of d) (head_of d.head).start new))
+          | inr mends ↦ inr (mends, ap (λ (h : FailHead). h.start.id) (force_headless d none), own)
+        ]
+      ]
+
+  -- while no failover is open nothing is given up
+  none_given_up : d.failover ≡ None → IsGivenUp d s → ⊥
+  none_given_up calm lost =
+      let both : true ≡ false = sym (ap is_failing lost.0) ∙ never_fails d calm in
+      cc
+
+  -- no pass is open before a head is
+  survivors_none : is_headless d ≡ true → survivors_of d.pass ≡ []
+  survivors_none unopened = go d.pass core.pass where
+    none : (head_of d.head).start.others ≡ []
+    none = (core.first unopened).others
+
+    no_victims : (victims : List ℕ) → 0 < length victims
+        → AllByRecursion (λ (z : ℕ). has (head_of d.head).start.others z ≡ true) victims → ⊥
+    no_victims [] some older = omega (arith, some)
+    no_victims (z ∷ victims) some older =
+        let never : false ≡ true = sym (ap (λ (ids : List ℕ). has ids z) none) ∙ older.0 in
+        cc
+
+    go : (o : Option Pass) → IfSome o (IsOpenPass d) → survivors_of o ≡ []
+    go None is = refl
+    go (Some p) is = absurd (no_victims p.victims is.victims.some is.victims.older)
+
+  -- if the head was given up, the log set has nothing
+  pub given_up_none : IsGivenUp d s → log_ids (log_of d) (memory_of d) ≡ []
+  given_up_none lost = λ i. now_none (log_of d).head.start lost.1 i
+      ++ (new_ids (new_of (lost.0 i)) ++ survivors_none unopened i)
+    where
+      unopened : is_headless d ≡ true
+      unopened = elim (headed_or d) as (λ _. is_headless d ≡ true) [
+        | inl is ↦ absurd (start_real d core
+            (sym (ap (λ (h : FailHead). h.start.id) (force_headed d is)) ∙ lost.1))
+        | inr none ↦ none
       ]
 
   -- a segment of the digest of the head
-  pub of_digest : IsAmong s (ids_of (head_of d.head).start) → IsAmong s (log_ids (log_of d) (memory_of d))
-  of_digest i = elim (among_push s (head_of d.head).start.others (head_of d.head).start.id i)
+  pub of_digest : d.failover ≡ None → IsAmong s (ids_of (head_of d.head).start)
+      → IsAmong s (log_ids (log_of d) (memory_of d))
+  of_digest calm i = elim (among_push s (head_of d.head).start.others (head_of d.head).start.id i)
       as (λ _. IsAmong s log_set) [
         | inl older ↦ of_closed (closed_in (inl older))
-        | inr own ↦ of_head (sym own ∙ core.image.id)
+        | inr own ↦ elim (of_head (sym own ∙ core.image.id)) as (λ _. IsAmong s log_set) [
+          | inl there ↦ there
+          | inr lost ↦ absurd (none_given_up calm lost)
+        ]
       ]
 
   pub of_new : (r : Roll) → d.head.roll ≡ Some r → s ≡ r.id → IsAmong s (log_ids (log_of d) (memory_of d))
@@ -129,31 +220,33 @@ module _ (d : MasterData) (core : IsCore d) (s : ℕ) where
       (new_in (log_of d) (memory_of d) (start_of r) (new_now d core r rolls))
 
   -- which segment of the log set it is
+  abbrev Which : Type 0
+  Which = IsAmong s (ids_in d.closed) ⊎ ((s ≡ d.head.id) ⊎ ((r : Roll) × (d.head.roll ≡ Some r) × (s ≡ r.id)))
+
+  which_listed : IsAmong s (ids_now (log_of d).head.start) → Which
+  which_listed i = elim (headed_or d) as (λ _. Which) [
+    | inl is ↦ elim (among_push s (head_of d.head).start.others (head_of d.head).start.id
+        (subst (λ (ids : List ℕ). IsAmong s ids) (now_headed d core is) i)) as (λ _. Which) [
+          | inl older ↦ inl (closed_in (inl older))
+          | inr own ↦ inr (inl (sym own ∙ core.image.id))
+        ]
+    | inr none ↦ absurd (subst (λ (ids : List ℕ). IsAmong s ids) (now_headless d core none) i)
+  ]
+
   out_roll : (o : Option Roll) → d.head.roll ≡ o → IsAmong s (new_ids (option_map start_of o)) → (r : Roll)
       × (d.head.roll ≡ Some r) × (s ≡ r.id)
   out_roll None none i = absurd i
   out_roll (Some r) rolls (inl same) = (r, rolls, sym same ∙ roll_id r)
   out_roll (Some r) rolls (inr none) = absurd none
 
-  abbrev Which : Type 0
-  Which = IsAmong s (ids_in d.closed) ⊎ ((s ≡ d.head.id) ⊎ ((r : Roll) × (d.head.roll ≡ Some r) × (s ≡ r.id)))
-
-  which_listed : IsAmong s (ids_now (log_of d).head.start) → Which
-  which_listed i = elim (open_or d.head) as (λ _. Which) [
-    | inl opened ↦ elim (among_push s (head_of d.head).start.others (head_of d.head).start.id
-        (subst (λ (ids : List ℕ). IsAmong s ids) (now_opened d core opened) i)) as (λ _. Which) [
-          | inl older ↦ inl (closed_in (inl older))
-          | inr own ↦ inr (inl (sym own ∙ core.image.id))
-        ]
-    | inr unopened ↦ absurd (subst (λ (ids : List ℕ). IsAmong s ids) (now_unopened d core unopened) i)
-  ]
-
   which_new : IsAmong s (new_ids (new_of (log_of d).mode)) → Which
-  which_new i = elim (open_or d.head) as (λ _. Which) [
-    | inl opened ↦ inr (inr (out_roll d.head.roll refl
-        (subst (λ (o : Option Start). IsAmong s (new_ids o)) (new_opened d.head opened) i)))
-    | inr unopened ↦ inr (inl (sym (new_one (new_of (log_of d).mode) (head_of d.head).start s
-        (new_unopened d.head unopened) i) ∙ core.image.id))
+  which_new i = elim (headed_or d) as (λ _. Which) [
+    | inl is ↦ inr (inr (out_roll d.head.roll refl
+        (subst (λ (o : Option Start). IsAmong s (new_ids o)) (new_headed d core is) i)))
+    | inr none ↦ elim (new_headless none) as (λ _. Which) [
+      | inl new ↦ inr (inl (sym (new_one (new_of (log_of d).mode) (head_of d.head).start s new i) ∙ core.image.id))
+      | inr mends ↦ absurd (subst (λ (m : Mode). IsAmong s (new_ids (new_of m))) mends i)
+    ]
   ]
 
   which : IsAmong s (log_ids (log_of d) (memory_of d)) → Which
@@ -165,10 +258,13 @@ module _ (d : MasterData) (core : IsCore d) (s : ℕ) where
     ]
   ]
 
-  of_which : Which → IsAmong s (log_ids (log_of d) (memory_of d))
-  of_which (inl closed) = of_closed closed
+  abbrev Counts : Type 0
+  Counts = IsAmong s (log_ids (log_of d) (memory_of d)) ⊎ IsGivenUp d s
+
+  of_which : Which → Counts
+  of_which (inl closed) = inl (of_closed closed)
   of_which (inr (inl own)) = of_head own
-  of_which (inr (inr new)) = of_new new.0 new.1 new.2
+  of_which (inr (inr new)) = inl (of_new new.0 new.1 new.2)
 
   -- ---- as the master lists it
 
@@ -190,17 +286,21 @@ module _ (d : MasterData) (core : IsCore d) (s : ℕ) where
         ])
   ]
 
-  from_set : IsAmong s (log_set_ids d) → IsAmong s (log_ids (log_of d) (memory_of d))
-  from_set i = elim (among_either s (ids_in d.closed) (d.head.id ∷ new_set d.head.roll) i) as (λ _. IsAmong s log_set) [
-    | inl closed ↦ of_closed closed
-    | inr other ↦ elim other as (λ _. IsAmong s log_set) [
-      | inl own ↦ of_head (sym own)
-      | inr new ↦ (let r = set_new d.head.roll new in of_new r.0 r.1 r.2)
-    ]
-  ]
+  from_set : d.failover ≡ None → IsAmong s (log_set_ids d) → IsAmong s (log_ids (log_of d) (memory_of d))
+  from_set calm i = elim (among_either s (ids_in d.closed) (d.head.id ∷ new_set d.head.roll) i)
+      as (λ _. IsAmong s log_set) [
+        | inl closed ↦ of_closed closed
+        | inr other ↦ elim other as (λ _. IsAmong s log_set) [
+          | inl own ↦ elim (of_head (sym own)) as (λ _. IsAmong s log_set) [
+            | inl there ↦ there
+            | inr lost ↦ absurd (none_given_up calm lost)
+          ]
+          | inr new ↦ (let r = set_new d.head.roll new in of_new r.0 r.1 r.2)
+        ]
+      ]
 
-  pub same_set : has (log_ids (log_of d) (memory_of d)) s ≡ has_id (log_set_ids d) s
-  same_set = has_both log_set (log_set_ids d) s to_set from_set
+  pub same_set : d.failover ≡ None → has (log_ids (log_of d) (memory_of d)) s ≡ has_id (log_set_ids d) s
+  same_set calm = has_both log_set (log_set_ids d) s to_set (from_set calm)
 
   -- ---- images
 
@@ -245,12 +345,19 @@ module _ (d : MasterData) (core : IsCore d) (s : ℕ) where
       ∙ same_id d.head.id in rw test refl
   has_image (inr (inr new)) = unless_head (new_own d.head.roll new.0 new.1 new.2)
 
-  pub imaged : IsSome (image_of d s) ↔ IsAmong s (log_ids (log_of d) (memory_of d))
-  imaged = (λ some. of_which (with_image some), λ i. has_image (which i))
+  pub imaged : IsSome (image_of d s) ↔ (IsAmong s (log_ids (log_of d) (memory_of d)) ⊎ IsGivenUp d s)
+  imaged = (λ some. of_which (with_image some), back) where
+    back : Counts → IsSome (image_of d s)
+    back (inl i) = has_image (which i)
+    back (inr lost) = has_image (inr (inl lost.2))
 
-  -- a segment whose image has an entry is of the log set
-  pub entry_counts : (e : Entry) → IsAmong e (images_of d s) → IsAmong s (log_ids (log_of d) (memory_of d))
-  entry_counts e among = go (image_of d s) refl among where
-    go : (x : Option (List Entry)) → image_of d s ≡ x → IsAmong e (unwrap_or (image_of d s) []) → IsAmong s log_set
-    go None is among = absurd (subst (λ (o : Option (List Entry)). IsAmong e (unwrap_or o [])) is among)
-    go (Some image) is among = imaged.0 (subst (λ (o : Option (List Entry)). IsSome o) (sym is) refl)
+  -- each segment of the log set has an image
+  pub counts_imaged : IsAmong s (log_ids (log_of d) (memory_of d)) → IsSome (image_of d s)
+  counts_imaged i = has_image (which i)
+
+-- a segment whose image has an entry has an image
+pub entry_imaged : (d : MasterData) (s : ℕ) (e : Entry) → IsAmong e (images_of d s) → IsSome (image_of d s)
+entry_imaged d s e among = go (image_of d s) among where
+  go : (x : Option (List Entry)) → IsAmong e (unwrap_or x []) → IsSome x
+  go None among = absurd among
+  go (Some image) among = refl

@@ -1,6 +1,6 @@
 -- What holds of the model's memory after a step holds of a master's, if this has the same images and the same pass.
 use Rattle.std.proofs.Common.{◌≡◌, ℕ, ◌≤◌, inl, inr, Bool, List, [], ◌∷◌, ◌++◌, map, refl, sym, ap, subst, ◌∙◌, arith}
-use Rattle.std.specs.Prelude.{Option, Some, None, IfSome}
+use Rattle.std.specs.Prelude.{Option, Some, None, IfSome, IsSome}
 use Rattle.std.specs.Option.{option_map, option_map_or}
 use Rattle.std.proofs.lemmas.Option.{same_Some}
 use Rattle.cleaner.specs.declared.pass.Pass.{Pass as OpenPass}
@@ -30,12 +30,13 @@ use Rattle.master_state.specs.Budget.{victims_of, survivors_of, is_committing}
 use Rattle.master_state.specs.Data.{MasterData}
 use Rattle.master_state.specs.Index.{LiesFound}
 use Rattle.master_state.specs.Invariant.{IsCore, IsOpenPass}
-use Rattle.master_state.specs.Log.{log_of, state_now, images_of, find, position_of, entry_place, rest_now, memory_of}
+use Rattle.master_state.specs.Log.{log_of, state_now, image_of, images_of, find, position_of, entry_place, rest_now}
+use Rattle.master_state.specs.Log.{memory_of}
 use Rattle.master_state.proofs.Finding.{each_of, found_place}
 use Rattle.master_state.proofs.LogIds.{older_image}
 use Rattle.master.proofs.KeptByEntries.{stands_by_entries}
 use Rattle.master.proofs.Lasting.{Lasts, all_lasts}
-use Rattle.master.proofs.LogSets.{among_at_place, entry_counts}
+use Rattle.master.proofs.LogSets.{among_at_place, entry_imaged, imaged, counts_imaged, given_up_none}
 use Rattle.master.proofs.Victims.{victim_below}
 
 -- ---- lists
@@ -51,7 +52,7 @@ map_among f [] y i = absurd i
 map_among f (x ∷ xs) y (inl same) = (x, inl refl, same)
 map_among f (x ∷ xs) y (inr later) = let rest = map_among f xs y later in (rest.0, inr rest.1, rest.2)
 
-nothing_mapped : {X Y : Type 0} (f : X → Y) (xs : List X) → map f xs ≡ [] → xs ≡ []
+pub nothing_mapped : {X Y : Type 0} (f : X → Y) (xs : List X) → map f xs ≡ [] → xs ≡ []
 nothing_mapped f [] is = refl
 nothing_mapped f (x ∷ xs) is = absurd (cc)
 
@@ -60,7 +61,7 @@ nothing_mapped f (x ∷ xs) is = absurd (cc)
 -- The model's memory after a step is the master's, but for the places in it.
 pub record IsModel (e : MasterData) (m : FailMemory) : Type 0 where
   pub pass : (memory_of e).pass ≡ m.pass
-  pub images : (s : ℕ) → IsAmong s (log_ids (log_of e) m) → images_of e s ≡ m.images s
+  pub images : (s : ℕ) → IsSome (image_of e s) → images_of e s ≡ m.images s
   -- what is found in a victim isn't found in a survivor by the model
   pub behind : (k : Key) (q : Place) (r : EntryPlace) → find e k ≡ Some q → m.index k ≡ Some r
       → IsAmong q.segment m.pass.victims → IsAmong r.segment m.pass.survivors → ⊥
@@ -111,11 +112,13 @@ module _ {Holds : FailData → FailMemory → FleetState → Type 0} (lasts : La
   ids_are = ap (λ (x : Pass). ids_now (log_of e).head.start ++
       (new_ids (new_of (log_of e).mode) ++ x.survivors)) is.pass
 
-  -- an image with an entry is one of the log set
+  still_imaged : (s : ℕ) → IsAmong s (log_ids (log_of e) m) → IsSome (image_of e s)
+  still_imaged s counts =
+      counts_imaged e core s (subst (λ (ids : List ℕ). IsAmong s ids) (sym ids_are) counts)
+
   fewer : (s : ℕ) (x : Entry) → IsAmong x (images_of e s) → IsAmong x (m.images s)
   fewer s x among =
-      subst (λ (es : List Entry). IsAmong x es)
-      (is.images s (subst (λ (ids : List ℕ). IsAmong s ids) ids_are (entry_counts e core s x among))) among
+      subst (λ (es : List Entry). IsAmong x es) (is.images s (entry_imaged e s x among)) among
 
   module _ (k : Key) (x : Versioned) (has : (state_now e).contents k ≡ Some x) where
     abbrev object : Object
@@ -127,12 +130,20 @@ module _ {Holds : FailData → FailMemory → FleetState → Type 0} (lasts : La
     among : IsAmong (object_at k x) (images_of e place.0.segment)
     among = among_at_place e place.0 (object_at k x) place.2
 
+    some : IsSome (image_of e place.0.segment)
+    some = entry_imaged e place.0.segment (object_at k x) among
+
+    -- it counts, since some segment of the log set has an object
     counts : IsAmong place.0.segment (log_ids (log_of e) m)
-    counts = subst (λ (ids : List ℕ). IsAmong place.0.segment ids) ids_are
-        (entry_counts e core place.0.segment (object_at k x) among)
+    counts = elim ((imaged e core place.0.segment).0 some) as (λ _. IsAmong place.0.segment (log_ids (log_of e) m)) [
+      | inl there ↦ subst (λ (ids : List ℕ). IsAmong place.0.segment ids) ids_are there
+      | inr lost ↦ (let was = (tracked.found k x has) in
+          absurd (subst (λ (ids : List ℕ). IsAmong was.place.segment ids)
+          (sym ids_are ∙ given_up_none e core place.0.segment lost) was.counts))
+    ]
 
     image_is : images_of e place.0.segment ≡ m.images place.0.segment
-    image_is = is.images place.0.segment counts
+    image_is = is.images place.0.segment some
 
     there : SegmentHas (log_set_of (log_of e) m texts) place.0.segment (object_at k x)
     there = record {
@@ -165,7 +176,7 @@ module _ {Holds : FailData → FailMemory → FleetState → Type 0} (lasts : La
   same : IsSameMemory (log_of e) m (memory_of e)
   same = record {
     pass = is.pass;
-    images = is.images;
+    images = λ s counts. is.images s (still_imaged s counts);
     fewer = fewer;
     found = found;
     unindexed = unindexed e core;
@@ -229,7 +240,7 @@ module _ (d e : MasterData) (leaves : LeavesPass d e) where
     then_memory = record (memory_of d) { images = images; index = index; commits = committing }
 
     pub is_model : is_committing e ≡ committing
-        → ((s : ℕ) → IsAmong s (log_ids (log_of e) (memory_of d)) → images_of e s ≡ images s)
+        → ((s : ℕ) → IsSome (image_of e s) → images_of e s ≡ images s)
         → ((k : Key) (q : Place) (r : EntryPlace) → find e k ≡ Some q → index k ≡ Some r
         → IsAmong q.segment (victims_of d.pass) → IsAmong r.segment (survivors_of d.pass) → ⊥)
         → IsModel e (record (memory_of d) { images = images; index = index; commits = committing })

@@ -1,135 +1,216 @@
 -- A master's segments stay on their homes through steps that take no op.
-use Rattle.std.proofs.Common.{◌≡◌, ℕ, zero, suc, ◌+◌, ◌-◌, ◌<◌, ◌≤◌, Bool, true, false, List, [], ◌∷◌, ◌++◌, length}
-use Rattle.std.proofs.Common.{refl, sym, ap, subst, ◌∙◌, arith}
-use Rattle.std.specs.Prelude.{Option, Some, None, IfSome, slice_get, ◌==◌, nat_le, nat_lt, if◌then◌else◌}
-use Rattle.std.specs.Option.{option_map, option_map_or}
-use Rattle.std.proofs.lemmas.Bool.{eqb-false, le-ltb, lt-leb, ltb-true, ltb-false}
+use Rattle.std.proofs.Common.{◌≡◌, ℕ, zero, suc, ◌+◌, ◌<◌, ◌≤◌, Bool, true, false, List, [], ◌∷◌, ◌++◌, length}
+use Rattle.std.proofs.Common.{◌⊎◌, inl, inr, refl, sym, ap, subst, ◌∙◌, arith}
+use Rattle.std.specs.Prelude.{Option, Some, None, IfSome, slice_get, ◌==◌, nat_le, nat_lt, not, if◌then◌else◌}
+use Rattle.std.specs.Option.{option_map_or}
+use Rattle.std.proofs.lemmas.Bool.{eqb-true, eqb-false, ltb-true, ltb-false}
 use Rattle.cleaner.specs.declared.pass.Cursor.{Cursor}
-use Rattle.cleaner.specs.declared.pass.Pass.{Pass}
-use Rattle.cleaner.specs.Passes.{is_ready as is_ready_pass}
-use Rattle.cleaner.specs.Seals.{none_sealed, sealed_of}
-use Rattle.cleaner.proofs.SurvivorIds.{among_ids}
 use Rattle.entry.specs.declared.entry.Entry.{Entry}
 use Rattle.entry.specs.Bag.{IsAmong}
-use Rattle.entry.specs.Text.{opening_of}
+use Rattle.entry.proofs.BagLemmas.{among_either, among_image}
 use Rattle.entry.proofs.ListLemmas.{all_among}
 use Rattle.images.specs.Image.{Image}
+use Rattle.images.specs.Sorted.{replicas_of, changed}
 use Rattle.log_head.specs.declared.head.Roll.{Roll}
+use Rattle.log_head.specs.declared.head.UnitEnd.{UnitEnd}
 use Rattle.log_head.specs.Head.{HeadValue}
-use Rattle.log_head.specs.Log.{head_of, start_in}
 use Rattle.log_head.specs.Steps.{with_unit_end}
 use Rattle.log_head.proofs.Rolls.{zeros_length}
+use Rattle.failover_model.specs.Data.{Calm, is_failing}
+use Rattle.log_model.specs.Ids.{without}
 use Rattle.log_model.specs.Steps.{no_units}
+use Rattle.clean_model.proofs.KeptEntries.{has_is}
 use Rattle.master_state.specs.declared.config.Config.{Config}
+use Rattle.master_state.specs.declared.failover.Failover.{Failover}
 use Rattle.master_state.specs.declared.ledger.Posting.{Posting}
 use Rattle.master_state.specs.declared.ledger.Posting.TheVariants as posting
-use Rattle.master_state.specs.Budget.{survivors_of}
-use Rattle.master_state.specs.Config.{config_fault}
 use Rattle.master_state.specs.Data.{MasterData}
-use Rattle.master_state.specs.Invariant.{IsRollOf, IsOpenPass, IsCore}
+use Rattle.master_state.specs.Images.{survivor_images}
+use Rattle.master_state.specs.Invariant.{IsRollOf, IsCore}
 use Rattle.master_state.specs.Ledger.{forgotten, took_in, counts_in, shut_in}
 use Rattle.master_state.specs.Loading.{restored_data, settled_data}
-use Rattle.master_state.specs.Log.{home}
-use Rattle.master_state.specs.Steps.{appended, fresh_pass, rolling_data, start_now, halted}
-use Rattle.master_state.proofs.Imaging.{same_id, other_id}
-use Rattle.master_state.proofs.Refusals.{has_homes}
-use Rattle.master.specs.Placed.{placed, closed_of, sealed_now, IsPlaced}
+use Rattle.master_state.specs.Log.{home, placed, is_headless, log_of}
+use Rattle.master_state.specs.Steps.{appended, fresh_pass, rolling_data, start_now}
+use Rattle.master_state.proofs.Imaging.{ids_in, same_id, other_id}
+use Rattle.master_state.proofs.LogIds.{no_later}
+use Rattle.master_state.proofs.Rising.{Rise}
+use Rattle.master.specs.Placed.{closed_by, holders, is_opening, IsPlaced}
+use Rattle.master.proofs.InForce.{fails}
+use Rattle.std.specs.List.{AllByRecursion}
+
+-- ---- closed segments by their ids
+
+-- an id of theirs has an image
+pub image_there : (cs : List Image) (s : ℕ) → IsAmong s (ids_in cs)
+    → (x : Image) × IsAmong x cs × (x.id ≡ s) × (x.replicas ≡ replicas_of cs s)
+image_there [] s among = absurd among
+image_there (c ∷ cs) s among = go (c.id == s) refl among (image_there cs s) where
+  go : (t : Bool) → (c.id == s) ≡ t → IsAmong s (ids_in (c ∷ cs))
+      → (IsAmong s (ids_in cs) → (x : Image) × IsAmong x cs × (x.id ≡ s) × (x.replicas ≡ replicas_of cs s))
+      → (x : Image) × IsAmong x (c ∷ cs) × (x.id ≡ s) × (x.replicas ≡ replicas_of (c ∷ cs) s)
+  go true here m later = (c, inl refl, eqb-true c.id s here, rw here refl)
+  go false away (inl same) later = absurd (eqb-false c.id s away same)
+  go false away (inr m) later = (let x = later m in (x.0, inr x.1, x.2, rw away x.3))
+
+-- each is the one of its id
+pub replicas_own : (cs : List Image) → Rise (ids_in cs) → (x : Image) → IsAmong x cs
+    → replicas_of cs x.id ≡ x.replicas
+replicas_own [] rise x among = absurd among
+replicas_own (c ∷ cs) rise x (inl same) =
+    let own = same_id c.id in
+    let here : replicas_of (c ∷ cs) c.id ≡ c.replicas = rw own refl in
+    subst (λ (y : Image). replicas_of (c ∷ cs) y.id ≡ y.replicas) same here
+replicas_own (c ∷ cs) rise x (inr later) =
+    let lt = all_among (λ (z : ℕ). c.id < z) (ids_in cs) x.id rise.0 (among_image (λ (y : Image). y.id) cs x later) in
+    let away = other_id c.id x.id (λ same. omega (arith, lt, same)) in
+    rw away (replicas_own cs rise.1 x later)
+
+-- an image of which one was changed was there before
+pub changed_from : (cs : List Image) (id : ℕ) (f : Image → Image) (x : Image) → IsAmong x (changed cs id f)
+    → (y : Image) × IsAmong y cs × (x ≡ (if y.id == id then f y else y))
+changed_from [] id f x among = absurd among
+changed_from (c ∷ cs) id f x (inl same) = (c, inl refl, sym same)
+changed_from (c ∷ cs) id f x (inr later) = let y = changed_from cs id f x later in (y.0, inr y.1, y.2)
+
+-- a closed segment, or a survivor, is on its first homes
+pub homes_of : (d : MasterData) → IsPlaced d → (s : ℕ) → IsAmong s (ids_in d.closed)
+    → holders d s ≡ placed d.config d.failed s (replicas_of d.closed s)
+homes_of d p s among =
+    let x = image_there d.closed s among in
+    sym (ap (holders d) x.2) ∙ p.closed x.0 x.1 ∙ (λ i. placed d.config d.failed (x.2 i) (x.3 i))
 
 -- ---- nothing that counts changes
+
+-- each image of the one is one of the other, with as many replicas
+abbrev pub AreSame : List Image → List Image → Type 0
+AreSame cs ds = (x : Image) → IsAmong x ds → (y : Image) × IsAmong y cs × (y.id ≡ x.id) × (y.replicas ≡ x.replicas)
+
+pub same_images : (cs : List Image) → AreSame cs cs
+same_images cs x among = (x, among, refl, refl)
+
+-- some image is changed
+pub changed_same : (cs : List Image) (id : ℕ) (f : Image → Image) → ((x : Image) → (f x).id ≡ x.id)
+    → ((x : Image) → (f x).replicas ≡ x.replicas) → AreSame cs (changed cs id f)
+changed_same [] id f ids counts x among = absurd among
+changed_same (c ∷ cs) id f ids counts x (inl same) =
+    let is = own (c.id == id) same in (c, inl refl, is.0, is.1) where
+      own : (t : Bool) → (if t then f c else c) ≡ x → (c.id ≡ x.id) × (c.replicas ≡ x.replicas)
+      own true is = (sym (ids c) ∙ ap (λ (y : Image). y.id) is, sym (counts c) ∙ ap (λ (y : Image). y.replicas) is)
+      own false is = (ap (λ (y : Image). y.id) is, ap (λ (y : Image). y.replicas) is)
+changed_same (c ∷ cs) id f ids counts x (inr later) =
+    let rest = changed_same cs id f ids counts x later in (rest.0, inr rest.1, rest.2, rest.3)
 
 -- The ledger, and the segments that it speaks of.
 pub record SameHomes (d e : MasterData) : Type 0 where
   pub config : e.config ≡ d.config
+  pub failed : e.failed ≡ d.failed
+  pub failover : e.failover ≡ d.failover
   pub ledger : e.ledger ≡ d.ledger
   pub id : e.head.id ≡ d.head.id
   pub replicas : e.head.replicas ≡ d.head.replicas
   pub taken : e.head.taken ≡ d.head.taken
   pub roll : e.head.roll ≡ d.head.roll
-  pub others : (head_of e.head).start.others ≡ (head_of d.head).start.others
-  pub survivors : survivors_of e.pass ≡ survivors_of d.pass
-  pub sealed : (s : ℕ) → sealed_now e s ≡ sealed_now d s
+  pub units : is_opening d.failover ≡ true → e.head.units ≡ d.head.units
+  pub closed : AreSame d.closed e.closed
 
-abbrev IsNewPlaced : Config → List Posting → Roll → Type 0
-IsNewPlaced c ps r = took_in ps r.id ≡ placed c r.id r.opened
+abbrev pub IsNewPlaced : Config → List ℕ → List Posting → Roll → Type 0
+IsNewPlaced c failed ps r = without failed (took_in ps r.id) ≡ placed c failed r.id r.opened
 
 pub placed_same : (d e : MasterData) → SameHomes d e → IsPlaced d → IsPlaced e
 placed_same d e same p = record {
-  none = ap (λ (ps : List Posting). took_in ps 0) same.ledger ∙ p.none;
-  head = (λ i. took_in (same.ledger i) (same.id i)) ∙ p.head
-      ∙ sym (λ i. placed (same.config i) (same.id i) (length (same.taken i)));
-  counts = λ j k at. (λ i. counts_in (same.ledger i) (home (same.config i) (same.id i) j))
+  none = λ is. ap (λ (ps : List Posting). took_in ps 0) same.ledger ∙ p.none (sym headless ∙ is);
+  head = (λ i. without (same.failed i) (took_in (same.ledger i) (same.id i))) ∙ p.head
+      ∙ sym (λ i. placed (same.config i) (same.failed i) (same.id i) (length (same.taken i)));
+  counts = λ j k at. (λ i. counts_in (same.ledger i) (home (same.config i) (same.failed i) (same.id i) j))
       ∙ p.counts j k (sym (λ i. slice_get (same.taken i) j) ∙ at);
-  unopened = λ is b. ap (λ (ps : List Posting). counts_in ps b) same.ledger
-      ∙ p.unopened (sym (λ i. nat_le (same.replicas i) (length (same.taken i))) ∙ is) b;
+  unopened = λ is b. ap (λ (ps : List Posting). counts_in ps b) same.ledger ∙ p.unopened (sym headless ∙ is) b;
+  whole = λ is.
+      let was = sym (ap is_opening same.failover) ∙ is in
+      subst (λ (ns : List ℕ). AllByRecursion (λ (k : ℕ). length e.head.units ≤ k) ns) (sym same.taken)
+      (subst (λ (n : ℕ). AllByRecursion (λ (k : ℕ). n ≤ k) d.head.taken)
+      (sym (ap (λ (us : List UnitEnd). length us) (same.units was))) (p.whole was));
   new = new;
-  shut = ap shut_in same.ledger ∙ p.shut
-      ∙ sym (λ i. placed (same.config i) (same.id i) (closed_of (same.roll i)));
-  others = λ s older. ap (λ (ps : List Posting). took_in ps s) same.ledger
-      ∙ p.others s (subst (λ (ids : List ℕ). IsAmong s ids) same.others older)
-      ∙ sym (λ i. placed (same.config i) s (same.config i).replicas);
-  survivors = λ s among. ap (λ (ps : List Posting). took_in ps s) same.ledger
-      ∙ p.survivors s (subst (λ (ids : List ℕ). IsAmong s ids) same.survivors among)
-      ∙ sym (λ i. placed (same.config i) s (same.sealed s i));
+  shut = (λ i. without (same.failed i) (shut_in (same.ledger i))) ∙ p.shut
+      ∙ sym (λ i. placed (same.config i) (same.failed i) (same.id i)
+      (option_map_or (λ (r : Roll). r.closed) (same.roll i) (closed_by (same.failover i))));
+  closed = λ x among.
+      let y = same.closed x among in
+      (λ i. without (same.failed i) (took_in (same.ledger i) (sym y.2 i))) ∙ p.closed y.0 y.1
+      ∙ (λ i. placed (sym same.config i) (sym same.failed i) (y.2 i) (y.3 i));
 } where
-  new : IfSome e.head.roll (IsNewPlaced e.config e.ledger)
+  headless : is_headless e ≡ is_headless d
+  headless = λ i. option_map_or (λ (f : Failover). f.is_first) (same.failover i)
+      (not (nat_le (same.replicas i) (length (same.taken i))))
+
+  new : IfSome e.head.roll (IsNewPlaced e.config e.failed e.ledger)
   new =
-      subst (λ (o : Option Roll). IfSome o (IsNewPlaced e.config e.ledger)) (sym same.roll)
-      (subst (λ (ps : List Posting). IfSome d.head.roll (IsNewPlaced e.config ps)) (sym same.ledger)
-      (subst (λ (c : Config). IfSome d.head.roll (IsNewPlaced c d.ledger)) (sym same.config) p.new))
+      subst (λ (o : Option Roll). IfSome o (IsNewPlaced e.config e.failed e.ledger)) (sym same.roll)
+      (subst (λ (ps : List Posting). IfSome d.head.roll (IsNewPlaced e.config e.failed ps)) (sym same.ledger)
+      (subst (λ (bs : List ℕ). IfSome d.head.roll (IsNewPlaced e.config bs d.ledger)) (sym same.failed)
+      (subst (λ (c : Config). IfSome d.head.roll (IsNewPlaced c d.failed d.ledger)) (sym same.config) p.new)))
 
 -- ---- more at the head's end
 
--- what is appended to an image leaves its opening
-others_more : (d : MasterData) → IsCore d → (unit : List Entry)
-    → (start_in d.head.id (opening_of (d.head.image ++ unit))).others ≡ (head_of d.head).start.others
-others_more d core unit =
-    ap (λ (image : List Entry). (start_in d.head.id (opening_of (image ++ unit))).others) core.image.image
-    ∙ sym (ap (λ (image : List Entry). (start_in d.head.id (opening_of image)).others) core.image.image)
+-- Beside the head all stays that homes go by.
+pub record SameBeside (d e : MasterData) : Type 0 where
+  pub config : e.config ≡ d.config
+  pub failed : e.failed ≡ d.failed
+  pub failover : e.failover ≡ d.failover
+  pub ledger : e.ledger ≡ d.ledger
+  pub closed : e.closed ≡ d.closed
 
-pub placed_more : (d e : MasterData) → IsCore d → IsPlaced d → (number : ℕ) (unit : List Entry) → e.config ≡ d.config
-    → e.ledger ≡ d.ledger → e.head ≡ with_unit_end d.head number unit → e.pass ≡ d.pass → IsPlaced e
-placed_more d e core p number unit config ledger head pass = placed_same d e (record {
-  config = config;
-  ledger = ledger;
-  id = ap (λ (h : HeadValue). h.id) head;
-  replicas = ap (λ (h : HeadValue). h.replicas) head;
-  taken = ap (λ (h : HeadValue). h.taken) head;
-  roll = ap (λ (h : HeadValue). h.roll) head;
-  others = ap (λ (h : HeadValue). (head_of h).start.others) head ∙ others_more d core unit;
-  survivors = ap survivors_of pass;
-  sealed = λ s i. option_map_or (λ (q : Pass). sealed_of (config i).replicas q.sealed q.survivors.first s) (pass i) 0;
+-- so does what they go by in the head
+placed_beside : (d e : MasterData) → IsPlaced d → SameBeside d e → e.head.id ≡ d.head.id
+    → e.head.replicas ≡ d.head.replicas → e.head.taken ≡ d.head.taken → e.head.roll ≡ d.head.roll
+    → (is_opening d.failover ≡ true → e.head.units ≡ d.head.units) → IsPlaced e
+placed_beside d e p same id replicas taken roll units = placed_same d e (record {
+  config = same.config;
+  failed = same.failed;
+  failover = same.failover;
+  ledger = same.ledger;
+  id = id;
+  replicas = replicas;
+  taken = taken;
+  roll = roll;
+  units = units;
+  closed = subst (AreSame d.closed) (sym same.closed) (same_images d.closed);
 }) p
 
-pub placed_appended : (d e : MasterData) → IsCore d → IsPlaced d → (number : ℕ) (unit : List Entry)
-    → e.config ≡ d.config → e.ledger ≡ d.ledger → e.head ≡ appended d.head number unit → e.pass ≡ d.pass → IsPlaced e
-placed_appended d e core p number (x ∷ unit) config ledger head pass =
-    placed_more d e core p number (x ∷ unit) config ledger head pass
-placed_appended d e core p number [] config ledger head pass = placed_same d e (record {
-  config = config;
-  ledger = ledger;
-  id = ap (λ (h : HeadValue). h.id) head;
-  replicas = ap (λ (h : HeadValue). h.replicas) head;
-  taken = ap (λ (h : HeadValue). h.taken) head;
-  roll = ap (λ (h : HeadValue). h.roll) head;
-  others = ap (λ (h : HeadValue). (head_of h).start.others) head;
-  survivors = ap survivors_of pass;
-  sealed = λ s i. option_map_or (λ (q : Pass). sealed_of (config i).replicas q.sealed q.survivors.first s) (pass i) 0;
-}) p
+pub placed_more : (d e : MasterData) → IsPlaced d → (number : ℕ) (unit : List Entry) → SameBeside d e
+    → e.head ≡ with_unit_end d.head number unit → (is_opening d.failover ≡ true → ⊥) → IsPlaced e
+placed_more d e p number unit same head never =
+    placed_beside d e p same (ap (λ (h : HeadValue). h.id) head) (ap (λ (h : HeadValue). h.replicas) head)
+    (ap (λ (h : HeadValue). h.taken) head) (ap (λ (h : HeadValue). h.roll) head) (λ is. absurd (never is))
+
+-- nothing is appended while a failover is open
+calm_opens : (d : MasterData) → (log_of d).mode ≡ Calm → is_opening d.failover ≡ true → ⊥
+calm_opens d calm is = go d.failover refl where
+  go : (o : Option Failover) → d.failover ≡ o → ⊥
+  go None none = (let never : true ≡ false = sym is ∙ ap is_opening none in cc)
+  go (Some f) some = (let never : true ≡ false = sym (fails d f some) ∙ ap is_failing calm in cc)
+
+pub placed_appended : (d e : MasterData) → IsPlaced d → (number : ℕ) (unit : List Entry) → SameBeside d e
+    → e.head ≡ appended d.head number unit → (unit ≡ []) ⊎ ((log_of d).mode ≡ Calm) → IsPlaced e
+placed_appended d e p number (x ∷ unit) same head (inl none) = absurd (cc)
+placed_appended d e p number (x ∷ unit) same head (inr calm) =
+    placed_more d e p number (x ∷ unit) same head (calm_opens d calm)
+placed_appended d e p number [] same head calm =
+    placed_beside d e p same (ap (λ (h : HeadValue). h.id) head) (ap (λ (h : HeadValue). h.replicas) head)
+    (ap (λ (h : HeadValue). h.taken) head) (ap (λ (h : HeadValue). h.roll) head)
+    (λ is. ap (λ (h : HeadValue). h.units) head)
 
 -- ---- a new master
 
-pub placed_restored : (c : Config) (safe : ℕ) → config_fault c ≡ None → IsCore (restored_data c safe)
-    → IsPlaced (restored_data c safe)
-placed_restored c safe ok core = record {
-  none = refl;
+pub placed_restored : (c : Config) (safe : ℕ) → IsPlaced (restored_data c safe)
+placed_restored c safe = record {
+  none = λ is. refl;
   head = refl;
   counts = λ j k at. absurd (cc);
   unopened = λ is b. refl;
+  whole = λ is. absurd (cc);
   new = tt;
   shut = refl;
-  others = λ s older. absurd (subst (λ (ids : List ℕ). IsAmong s ids)
-      (core.first (lt-leb c.replicas 0 (has_homes c ok).some)).others older);
-  survivors = λ s among. absurd among;
+  closed = λ x among. absurd among;
 }
 
 -- ---- the end of loading
@@ -140,67 +221,59 @@ counts_none zero j k at = absurd (cc)
 counts_none (suc n) zero k at = cc
 counts_none (suc n) (suc j) k at = counts_none n j k at
 
+all_above : (ns : List ℕ) → AllByRecursion (λ (k : ℕ). 0 ≤ k) ns
+all_above [] = tt
+all_above (n ∷ ns) = (omega arith, all_above ns)
+
 pub placed_settled : (d : MasterData) → IsPlaced d → IsPlaced (settled_data d)
 placed_settled d p =
     let size = zeros_length (length d.head.taken) in
+    let headless : is_headless (settled_data d) ≡ is_headless d =
+    ap (λ (n : ℕ). option_map_or (λ (f : Failover). f.is_first) d.failover (not (nat_le d.head.replicas n))) size in
     record {
-      none = p.none;
-      head = p.head ∙ sym (ap (placed d.config d.head.id) size);
+      none = λ is. p.none (sym headless ∙ is);
+      head = p.head ∙ sym (ap (placed d.config d.failed d.head.id) size);
       counts = λ j k at. counts_none (length d.head.taken) j k at;
       unopened = λ is b. refl;
+      whole = λ is. all_above (no_units (length d.head.taken));
       new = p.new;
       shut = p.shut;
-      others = p.others;
-      survivors = p.survivors;
+      closed = p.closed;
     }
 
 -- ---- a roll begins
 
-survivor_used : (d : MasterData) (o : Option Pass) → IfSome o (IsOpenPass d) → (s : ℕ) → IsAmong s (survivors_of o)
-    → s < d.next
-survivor_used d None is s among = absurd among
-survivor_used d (Some q) is s among = (is.survivors.each s among).used
-
 module _ (d : MasterData) (core : IsCore d) where
-  older_used : (s : ℕ) → IsAmong s (head_of d.head).start.others → s < d.next
-  older_used s older =
-      let lt = all_among (λ (z : ℕ). z < (head_of d.head).start.id) (head_of d.head).start.others s core.below older in
-      let own = core.image.id in
-      let used = core.used in
-      omega (arith, lt, own, used)
+  -- each closed segment was used before
+  pub closed_used : (x : Image) → IsAmong x d.closed → x.id < d.next
+  closed_used x among = go (nat_lt x.id d.next) refl where
+    go : (t : Bool) → nat_lt x.id d.next ≡ t → x.id < d.next
+    go true is = ltb-true x.id d.next is
+    go false is =
+        let there = has_is (ids_in d.closed) x.id (among_image (λ (c : Image). c.id) d.closed x among) in
+        let none = no_later d core x.id (ltb-false x.id d.next is) in
+        absurd (cc)
 
   -- a segment that was used before isn't the one that begins
   pub not_begun : (s : ℕ) → s < d.next → took_in (posting.Began d.next ∷ d.ledger) s ≡ took_in d.ledger s
   not_begun s lt = let away = other_id s d.next (λ same. omega (arith, lt, same)) in rw away refl
 
-  told_survivors : (o : Option Pass)
-      → survivors_of (option_map (λ (q : Pass). record q { is_committing = is_ready_pass q }) o) ≡ survivors_of o
-  told_survivors None = refl
-  told_survivors (Some q) = refl
-
-  told_sealed : (s : ℕ) (o : Option Pass) → option_map_or
-      (λ (q : Pass). sealed_of d.config.replicas q.sealed q.survivors.first s)
-      (option_map (λ (q : Pass). record q { is_committing = is_ready_pass q }) o) 0
-      ≡ option_map_or (λ (q : Pass). sealed_of d.config.replicas q.sealed q.survivors.first s) o 0
-  told_sealed s None = refl
-  told_sealed s (Some q) = refl
-
-  pub placed_rolling : IsPlaced d → d.head.roll ≡ None → (start_now d).id ≡ d.next → IsPlaced (rolling_data d)
-  placed_rolling p none id =
+  pub placed_rolling : IsPlaced d → d.head.roll ≡ None → d.failover ≡ None → (start_now d).id ≡ d.next
+      → IsPlaced (rolling_data d)
+  placed_rolling p none calm id =
       let real = core.real in
       let used = core.used in
       record {
-        none = not_begun 0 (omega (arith, real, used)) ∙ p.none;
-        head = not_begun d.head.id core.used ∙ p.head;
+        none = λ is. not_begun 0 (omega (arith, real, used)) ∙ p.none is;
+        head = ap (without d.failed) (not_begun d.head.id core.used) ∙ p.head;
         counts = p.counts;
         unopened = p.unopened;
-        new = ap (took_in (posting.Began d.next ∷ d.ledger)) id ∙ (let own = same_id d.next in rw own refl);
-        shut = p.shut ∙ ap (λ (o : Option Roll). placed d.config d.head.id (closed_of o)) none;
-        others = λ s older. not_begun s (older_used s older) ∙ p.others s older;
-        survivors = λ s among.
-            let was = subst (λ (ids : List ℕ). IsAmong s ids) (told_survivors d.pass) among in
-            not_begun s (survivor_used d d.pass core.pass s was) ∙ p.survivors s was
-            ∙ sym (ap (placed d.config s) (told_sealed s d.pass));
+        whole = p.whole;
+        new = ap (λ (s : ℕ). without d.failed (took_in (posting.Began d.next ∷ d.ledger) s)) id
+            ∙ (let own = same_id d.next in rw own refl);
+        shut = p.shut ∙ (λ i. placed d.config d.failed d.head.id
+            (option_map_or (λ (r : Roll). r.closed) (none i) (closed_by (calm i))));
+        closed = λ x among. ap (without d.failed) (not_begun x.id (closed_used x among)) ∙ p.closed x among;
       }
 
   -- ---- a pass begins
@@ -228,56 +301,49 @@ module _ (d : MasterData) (core : IsCore d) where
         let below = within_or s (first + n) (eqb-false s (first + n) away) (omega (arith, lt)) in
         rw away (later below)
 
-  -- no replica of a new survivor is sealed
-  unsealed : (replicas first s : ℕ) → sealed_of replicas none_sealed first s ≡ 0
-  unsealed replicas first s =
-      let t = le-ltb (s - first) 0 (omega arith) in rw t (go ((s - first) == 0))
-    where
-      go : (t : Bool) → (if t then none_sealed.replicas else none_sealed.replicas) ≡ none_sealed.replicas
-      go true = refl
-      go false = refl
+  -- a new survivor has one of the ids, and no replica
+  new_survivor : (c : Config) (ids : List ℕ) (x : Image) → IsAmong x (survivor_images c ids)
+      → IsAmong x.id ids × (0 ≡ x.replicas)
+  new_survivor c [] x among = absurd among
+  new_survivor c (z ∷ ids) x (inl same) =
+      (inl (ap (λ (y : Image). y.id) same), ap (λ (y : Image). y.replicas) same)
+  new_survivor c (z ∷ ids) x (inr later) = let rest = new_survivor c ids x later in (inr rest.0, rest.1)
 
-  pub placed_begun : IsPlaced d → (victims : List ℕ) (count : ℕ) (cursor : Cursor) (closed : List Image)
+  pub placed_begun : IsPlaced d → (victims ids : List ℕ) (count : ℕ) (cursor : Cursor)
+      → ((s : ℕ) → IsAmong s ids → (d.next ≤ s) × (s < d.next + count))
       → IsPlaced (record d {
-        closed = closed;
+        closed = d.closed ++ survivor_images d.config ids;
         next = d.next + count;
         pass = Some (fresh_pass victims (record { first = d.next; count = count }) cursor);
         ledger = posting.Survivors d.next count ∷ d.ledger;
       })
-  placed_begun p victims count cursor closed =
+  placed_begun p victims ids count cursor within =
       let real = core.real in
       let used = core.used in
       let took = took_in d.ledger in
       record {
-        none = forgotten_below d.next count took 0 (omega (arith, real, used)) ∙ p.none;
-        head = forgotten_below d.next count took d.head.id core.used ∙ p.head;
+        none = λ is. forgotten_below d.next count took 0 (omega (arith, real, used)) ∙ p.none is;
+        head = ap (without d.failed) (forgotten_below d.next count took d.head.id core.used) ∙ p.head;
         counts = p.counts;
         unopened = p.unopened;
+        whole = p.whole;
         new = new d.head.roll core.roll p.new;
         shut = p.shut;
-        others = λ s older. forgotten_below d.next count took s (older_used s older) ∙ p.others s older;
-        survivors = λ s among.
-            let within = among_ids d.next count s among in
-            forgotten_in d.next count took s within.0 within.1
-            ∙ sym (ap (placed d.config s) (unsealed d.config.replicas d.next s));
+        closed = λ x among. elim (among_either x d.closed (survivor_images d.config ids) among)
+            as (λ _. without d.failed (forgotten d.next count (took_in d.ledger) x.id)
+            ≡ placed d.config d.failed x.id x.replicas) [
+              | inl older ↦ ap (without d.failed)
+                  (forgotten_below d.next count (took_in d.ledger) x.id (closed_used x older)) ∙ p.closed x older
+              | inr new ↦ (
+                  let own = new_survivor d.config ids x new in
+                  let at = within x.id own.0 in
+                  ap (without d.failed) (forgotten_in d.next count (took_in d.ledger) x.id at.0 at.1)
+                  ∙ ap (placed d.config d.failed x.id) own.1)
+            ];
       }
     where
-      new : (o : Option Roll) → IfSome o (IsRollOf d) → IfSome o (IsNewPlaced d.config d.ledger)
-          → IfSome o (IsNewPlaced d.config (posting.Survivors d.next count ∷ d.ledger))
+      new : (o : Option Roll) → IfSome o (IsRollOf d) → IfSome o (IsNewPlaced d.config d.failed d.ledger)
+          → IfSome o (IsNewPlaced d.config d.failed (posting.Survivors d.next count ∷ d.ledger))
       new None is was = tt
-      new (Some r) is was = forgotten_below d.next count (took_in d.ledger) r.id is.used ∙ was
-
--- ---- a fault
-
-pub placed_halted : (d : MasterData) → IsPlaced d → IsPlaced (halted d)
-placed_halted d p = placed_same d (halted d) (record {
-  config = refl;
-  ledger = refl;
-  id = refl;
-  replicas = refl;
-  taken = refl;
-  roll = refl;
-  others = refl;
-  survivors = refl;
-  sealed = λ s. refl;
-}) p
+      new (Some r) is was =
+          ap (without d.failed) (forgotten_below d.next count (took_in d.ledger) r.id is.used) ∙ was

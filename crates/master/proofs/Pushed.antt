@@ -1,9 +1,10 @@
 -- The op that comes next, taken or not, keeps what holds of a master.
-use Rattle.std.proofs.Common.{◌≡◌, ℕ, suc, ◌⊎◌, ◌<◌, inl, inr, Bool, true, false, List, ◌∷◌, refl, sym}
+use Rattle.std.proofs.Common.{◌≡◌, ℕ, suc, ◌⊎◌, ◌<◌, inl, inr, Bool, true, false, List, [], ◌∷◌, length, refl, sym}
 use Rattle.std.proofs.Common.{ap, subst, ◌∙◌, arith}
 use Rattle.std.specs.Prelude.{Option, Some, None, IfSome, IsSome, ◌==◌, if◌then◌else◌}
 use Rattle.std.specs.Option.{option_map_or}
 use Rattle.std.proofs.lemmas.Bool.{eqb-true}
+use Rattle.std.proofs.lemmas.Option.{slice_get_within}
 use Rattle.cleaner.specs.declared.pass.Pass.{Pass as OpenPass}
 use Rattle.entry.specs.Bag.{IsAmong}
 use Rattle.replica.specs.Op.{OpValue}
@@ -21,39 +22,45 @@ use Rattle.log_head.proofs.Rolls.{rolls}
 use Rattle.log_model.specs.Data.{Start}
 use Rattle.log_model.specs.Ids.{has}
 use Rattle.log_model.specs.Ops.{op_of}
-use Rattle.failover_model.specs.Data.{Calm, FailData, HasTaken, IsNew}
+use Rattle.failover_model.specs.Data.{Calm, FailData, IsHome}
+use Rattle.failover_model.specs.Log.{Texts, IsLogHeld}
+use Rattle.failover_model.specs.Shown.{Shown}
 use Rattle.failover_model.specs.Text.{Replica}
 use Rattle.failover_model.specs.Steps.{ended, EndsRoll}
+use Rattle.failover_model.proofs.Lists.{some_is}
+use Rattle.failover_model.proofs.Replicas.{head_only}
 use Rattle.failover_bytes.specs.Ops.{log_op_for}
+use Rattle.failover_clean.specs.Fleet.{read_of}
 use Rattle.failover_clean.specs.Memory.{Spot, FailMemory}
 use Rattle.failover_clean.specs.Ops.{IsHeadOp}
 use Rattle.failover_clean.specs.Steps.{finished}
 use Rattle.master_state.specs.declared.ledger.Posting.{Posting}
 use Rattle.master_state.specs.declared.ledger.Posting.TheVariants as posting
 use Rattle.master_state.specs.declared.step.Step.TheVariants.{Push}
+use Rattle.master_state.specs.declared.waiting.Waiting.{Waiting}
 use Rattle.master_state.specs.Budget.{victims_of, is_committing}
 use Rattle.master_state.specs.Data.{MasterData}
 use Rattle.master_state.specs.Invariant.{AreApart, IsOpenPass, IsCore}
 use Rattle.master_state.specs.Ledger.{ended_with}
-use Rattle.master_state.specs.Log.{home, log_of, memory_of}
+use Rattle.master_state.specs.Log.{log_of, memory_of}
 use Rattle.master_state.specs.Steps.{pass_ended, roll_ended, backup_of, pushed_data}
 use Rattle.master_state.specs.Steps.{refusal_of, failed_data}
-use Rattle.master_state.proofs.Imaging.{same_roll}
+use Rattle.master_state.proofs.Imaging.{same_id, same_roll}
 use Rattle.master_state.proofs.Refusals.{push_passed}
 use Rattle.master.specs.Placed.{IsPlaced}
 use Rattle.master.specs.Pushes.{IsNextOp, answer_of}
 use Rattle.master.specs.Steps.{IsPushOp, Declines}
-use Rattle.master.specs.World.{World}
-use Rattle.master.proofs.Ended.{same_model, rolled_model, apart_then, ended_model}
+use Rattle.master.specs.World.{world_of}
+use Rattle.master.proofs.Counting.{AreUnfailed, held_unfailed}
+use Rattle.master.proofs.Ended.{segments_in, same_model, rolled_model, apart_then, ended_model}
 use Rattle.master.proofs.Handed.{taken_size, handed_kept, failed_tells}
-use Rattle.master.proofs.InForce.{new_now}
 use Rattle.master.proofs.Lasting.{Lasts, IsKeptAs}
 use Rattle.master.proofs.Models.{IsModel, own_holds}
-use Rattle.master.proofs.NextOps.{act_now, push_op, WholeOnceOpening, first_told, extends, next_told}
-use Rattle.master.proofs.NextOps.{new_mid, opens_new, new_after, took_new, head_push}
+use Rattle.master.proofs.NextOps.{act_now, push_op, WholeOnceShut, first_told, extends, next_told}
+use Rattle.master.proofs.NextOps.{new_mid, opens_new, new_after, head_push}
 use Rattle.master.proofs.NextOps.{no_roll, old_mid, old_posts, closed_one, closed_at, closes, ends, old_more, old_last}
 use Rattle.master.proofs.NextOps.{old_is}
-use Rattle.master.proofs.Placing.{home_within, home_placed}
+use Rattle.master.proofs.Placing.{core_within, core_left}
 use Rattle.master.proofs.PushedPlaces.{pushed_placed}
 use Rattle.master.proofs.PushedRest.{same_rest}
 
@@ -82,9 +89,9 @@ pub record IsCommitted (d e : MasterData) (mid : FailData) : Type 0 where
   pub opened : d.pass ≡ Some pass
   pub commits : is_committing d ≡ true
   pub model : IsModel e (finished mid (memory_of d))
-  pub apart : AreApart d.waiting
+  pub apart : AreApart (segments_in d.waiting)
       → ((w : Spot) → IsAmong w (memory_of d).waiting → IsAmong w.segment (victims_of d.pass) → ⊥)
-      → AreApart e.waiting
+      → AreApart (segments_in e.waiting)
 
 pub record IsPushed (d : MasterData) (push : Next) : Type 0 where
   pub mid : FailData
@@ -92,7 +99,8 @@ pub record IsPushed (d : MasterData) (push : Next) : Type 0 where
   pub after : IsCounted d (pushed_data d push) mid
       ⊎ (IsRolled d (pushed_data d push) mid ⊎ IsCommitted d (pushed_data d push) mid)
 
-module _ (d : MasterData) (core : IsCore d) (placed_now : IsPlaced d) where
+module _ (d : MasterData) (core : IsCore d) (placed_now : IsPlaced d) (calm : d.failover ≡ None)
+    (unfailed : AreUnfailed d) where
   -- a commit is a roll
   no_commit : d.head.roll ≡ None → is_committing d ≡ false
   no_commit none = go d.pass core.pass where
@@ -110,8 +118,8 @@ module _ (d : MasterData) (core : IsCore d) (placed_now : IsPlaced d) where
       → IsPushed d (next.OpenFirst j)
   first_pushed j waits later =
       let e = pushed_data d (next.OpenFirst j) in
-      let told = first_told d core placed_now j waits in
-      let model = same_model d e core later refl (λ s. refl) refl refl refl refl (omega arith) in
+      let told = first_told d core placed_now calm unfailed j waits in
+      let model = same_model d e core later refl refl (λ s. refl) refl refl refl (omega arith) in
       record {
         mid = told.0;
         op = inr (inl told.1);
@@ -121,23 +129,23 @@ module _ (d : MasterData) (core : IsCore d) (placed_now : IsPlaced d) where
             n = last.0;
             ends = last.1;
             log = last.2;
-            ordinary = no_commit (no_roll d core placed_now j waits);
+            ordinary = no_commit (no_roll d core placed_now calm unfailed j waits);
             model = model;
             waiting = refl;
           }))
         ];
       }
 
-  extend_pushed : WholeOnceOpening d → (j : ℕ) → IsNextPush d.head (Some (next.Extend j))
+  extend_pushed : WholeOnceShut d → (j : ℕ) → IsNextPush d.head (Some (next.Extend j))
       → IsCore (pushed_data d (next.Extend j)) → IsPushed d (next.Extend j)
   extend_pushed whole j waits later =
       let e = pushed_data d (next.Extend j) in
       record {
         mid = log_of e;
-        op = inl (extends d core placed_now waits.0 whole j waits).extends;
+        op = inl (extends d core placed_now calm unfailed waits.0 whole j waits).extends;
         after = inl (record {
           log = refl;
-          model = same_model d e core later refl (λ s. refl) refl refl refl refl (omega arith);
+          model = same_model d e core later refl refl (λ s. refl) refl refl refl (omega arith);
           waiting = refl;
         });
       }
@@ -157,14 +165,14 @@ module _ (d : MasterData) (core : IsCore d) (placed_now : IsPlaced d) where
   roll_model r rolls opened closed ps later =
       let q : Roll = record r { opened = opened; closed = closed } in
       let e : MasterData = record d { head = record d.head { roll = Some q }; ledger = ps } in
-      same_model d e core later refl (same_roll d.head d.closed r q rolls refl refl) refl refl refl refl (omega arith)
+      same_model d e core later refl refl (same_roll d.head d.closed r q rolls refl refl) refl refl refl (omega arith)
 
   new_pushed : (j : ℕ) → IsNextPush d.head (Some (next.OpenNew j)) → IsCore (pushed_data d (next.OpenNew j))
       → IsPushed d (next.OpenNew j)
   new_pushed j waits later =
       let r = waits.1 in
       let ps = posting.Took (segment_of d.head (next.OpenNew j)) (backup_of d (next.OpenNew j)) ∷ d.ledger in
-      let mid = new_mid d core placed_now waits.0.opened j waits in
+      let mid = new_mid d core placed_now calm unfailed waits.0.opened j waits in
       let e : MasterData = record d { head = with_new_replica d.head r; ledger = ps } in
       let is : pushed_data d (next.OpenNew j) ≡ e =
       ap (λ (o : Option Roll). option_map_or
@@ -172,9 +180,9 @@ module _ (d : MasterData) (core : IsCore d) (placed_now : IsPlaced d) where
       waits.2 in
       record {
         mid = mid;
-        op = inr (inl (opens_new d core placed_now waits.0.opened j waits));
+        op = inr (inl (opens_new d core placed_now calm unfailed waits.0.opened j waits));
         after = inl (subst (λ (x : MasterData). IsCounted d x mid) (sym is) (record {
-          log = ap log_of (sym is) ∙ new_after d core placed_now waits.0.opened j waits;
+          log = ap log_of (sym is) ∙ new_after d core placed_now calm unfailed waits.0.opened j waits;
           model = roll_model r waits.2 (suc r.opened) r.closed ps (subst IsCore is later);
           waiting = refl;
         }));
@@ -187,16 +195,16 @@ module _ (d : MasterData) (core : IsCore d) (placed_now : IsPlaced d) where
     r = waits.1
 
     abbrev mid : FailData
-    mid = old_mid d core placed_now waits.0.opened j waits
+    mid = old_mid d core placed_now calm unfailed waits.0.opened j waits
 
     abbrev posts : List Posting
-    posts = old_posts d core placed_now waits.0.opened j waits
+    posts = old_posts d core placed_now calm unfailed waits.0.opened j waits
 
     abbrev one : List Posting → Bool → MasterData
-    one = closed_one d core placed_now waits.0.opened j waits
+    one = closed_one d core placed_now calm unfailed waits.0.opened j waits
 
     abbrev at : List Posting → Bool → MasterData
-    at = closed_at d core placed_now waits.0.opened j waits
+    at = closed_at d core placed_now calm unfailed waits.0.opened j waits
 
     abbrev rolled : MasterData
     rolled = one (posting.Ended ∷ posts) true
@@ -208,7 +216,7 @@ module _ (d : MasterData) (core : IsCore d) (placed_now : IsPlaced d) where
         → IsCore rolled → After rolled
     ordinary_end last log plain later = inr (inl (record {
       n = start_of waits.1;
-      ends = ends d core placed_now waits.0.opened j waits last;
+      ends = ends d core placed_now calm unfailed waits.0.opened j waits last;
       log = log;
       ordinary = plain;
       model = rolled_model d core waits.1 waits.2 (posting.Ended ∷ posts) later;
@@ -223,13 +231,13 @@ module _ (d : MasterData) (core : IsCore d) (placed_now : IsPlaced d) where
         → IsCore (if t then pass_ended p rolled else rolled) → After (if t then pass_ended p rolled else rolled)
     pass_end last p opened true is log later = inr (inr (record {
       n = start_of waits.1;
-      ends = ends d core placed_now waits.0.opened j waits last;
+      ends = ends d core placed_now calm unfailed waits.0.opened j waits last;
       log = log;
       pass = p;
       opened = opened;
       commits = commits_as p opened ∙ is;
-      model = ended_model d core waits.1 waits.2 (posting.Ended ∷ posts) placed_now p opened is mid refl refl log;
-      apart = apart_then d core waits.1 waits.2 (posting.Ended ∷ posts) placed_now p opened is mid refl refl log;
+      model = ended_model d core waits.1 waits.2 (posting.Ended ∷ posts) placed_now p opened is mid refl refl;
+      apart = apart_then d core waits.1 waits.2 (posting.Ended ∷ posts) placed_now p opened is mid refl refl;
     }))
     pass_end last p opened false is log later = ordinary_end last log (commits_as p opened ∙ is) later
 
@@ -245,30 +253,65 @@ module _ (d : MasterData) (core : IsCore d) (placed_now : IsPlaced d) where
         → After (at (ended_with t posts) t)
     close_end true is later =
         roll_end (eqb-true (suc j) d.config.replicas is) d.pass refl
-        (old_last d core placed_now waits.0.opened j waits) later
+        (old_last d core placed_now calm unfailed waits.0.opened j waits) later
     close_end false is later = inl (record {
-      log = old_more d core placed_now waits.0.opened j waits;
+      log = old_more d core placed_now calm unfailed waits.0.opened j waits;
       model = roll_model waits.1 waits.2 waits.1.opened (suc waits.1.closed) posts later;
       waiting = refl;
     })
 
     old_pushed : IsCore (pushed_data d (next.CloseOld j)) → IsPushed d (next.CloseOld j)
     old_pushed later =
-        let is = old_is d core placed_now waits.0.opened j waits in
+        let is = old_is d core placed_now calm unfailed waits.0.opened j waits in
         record {
           mid = mid;
-          op = inr (inr (inr (inr (closes d core placed_now waits.0.opened j waits))));
+          op = inr (inr (inr (inr (closes d core placed_now calm unfailed waits.0.opened j waits))));
           after = subst After (sym is) (close_end (suc j == d.config.replicas) refl (subst IsCore is later));
         }
 
   -- ---- each push
 
-  pub is_pushed : WholeOnceOpening d → (push : Next) → IsNextPush d.head (Some push) → IsCore (pushed_data d push)
+  pub is_pushed : WholeOnceShut d → (push : Next) → IsNextPush d.head (Some push) → IsCore (pushed_data d push)
       → IsPushed d push
   is_pushed whole (next.OpenFirst j) waits later = first_pushed j waits later
   is_pushed whole (next.Extend j) waits later = extend_pushed whole j waits later
+  is_pushed whole (next.OpenWhole j) waits later = absurd waits
   is_pushed whole (next.OpenNew j) waits later = new_pushed j waits later
   is_pushed whole (next.CloseOld j) waits later = old_pushed j waits later
+
+-- ---- what the backups hold
+
+-- once the head is closed on a home, some replica of a new head is there, and so each home has all units
+pub shut_whole : (d : FailData) (texts : Texts) (p : Shown) → IsLogHeld d texts p → (b : ℕ)
+    → IsHome d d.head.start.id b → has d.shut b ≡ true → d.counts b ≡ length d.head.units
+shut_whole d texts p held b home shut =
+    let there = some_is (p.holds b d.head.start.id) (held.mirrored.head b home.0) in
+    let closed = held.mirrored.shut b there.0 shut there.1 in
+    let new = ((head_only d texts p held.logged held.mirrored b there.0 there.1).shut closed).1 in
+    let first = first_of (d.took new.n.id) (let some = held.some in let all = new.opened in omega arith) in
+    let holds = held.mirrored.new new.n first.0 new.is_new first.1 in
+    held.mirrored.whole new.n first.0 b new.is_new (subst (λ (o : Option Replica). IsSome o) (sym holds) refl) home
+  where
+    first_of : (bs : List ℕ) → 0 < length bs → (c : ℕ) × (has bs c ≡ true)
+    first_of [] some = absurd (omega arith)
+    first_of (c ∷ bs) some = (c, (let own = same_id c in rw own refl))
+
+-- a push is for one of the replicas that there should be
+pub few_for : (d : MasterData) → IsCore d → (push : Next) → IsNextPush d.head (Some push)
+    → replica_of push < d.config.replicas
+few_for d core (next.OpenFirst j) waits = (let lt = waits.1 in let same = core.replicas in omega arith)
+few_for d core (next.Extend j) waits =
+    let lt = slice_get_within d.head.taken j waits.1.0 waits.1.1 in
+    let all = waits.0 in
+    let same = core.replicas in
+    omega arith
+few_for d core (next.OpenWhole j) waits = absurd waits
+few_for d core (next.OpenNew j) waits = (let lt = waits.4 in let same = core.replicas in omega arith)
+few_for d core (next.CloseOld j) waits =
+    let lt = (rolls d.head waits.1 core.head waits.2).closed in
+    let at = waits.3 in
+    let same = core.replicas in
+    omega arith
 
 -- ---- the op
 
@@ -281,31 +324,36 @@ pub record EndsPass (Holds : FailData → FailMemory → FleetState → Type 0) 
       → IsAmong w.segment (victims_of d.pass) → ⊥
 
 module _ {Holds : FailData → FailMemory → FleetState → Type 0} (lasts : Lasts Holds) (d : MasterData)
-    (push : Next) (f : FleetState) (kept : IsKeptAs Holds d f) (waits : IsNextPush d.head (Some push)) where
+    (push : Next) (f : FleetState) (kept : IsKeptAs Holds d f) (calm : d.failover ≡ None)
+    (waits : IsNextPush d.head (Some push)) where
   abbrev backup : ℕ
   backup = backup_of d push
 
   abbrev bytes : OpValue
   bytes = op_of d.config.master (log_op_for d.config.master backup (segment_of d.head push) (act_now d push))
 
-  pub whole_once : WholeOnceOpening d
-  whole_once r rolling some b took =
-      let all = (rolls d.head r kept.core.head rolling).whole in
-      let p = lasts.held (log_of d) (memory_of d) f kept.holds in
-      let first = home d.config r.id 0 in
-      let is_new : IsNew (log_of d) (start_of r) = inl (new_now d kept.core r rolling) in
-      let there : HasTaken (log_of d) (start_of r).id first =
-      ap (λ (bs : List ℕ). has bs first) (took_new d kept.core kept.placed all r rolling)
-      ∙ home_placed d.config r.id r.opened 0 some in
-      let held = p.1.mirrored.new (start_of r) first is_new there in
-      p.1.mirrored.whole (start_of r) first b is_new
-      (subst (λ (x : Option Replica). IsSome x) (sym held) refl) (took, refl)
+  -- the log's texts are held
+  abbrev held : (texts : Texts) × IsLogHeld (log_of d) texts (read_of (log_of d) f)
+  held = lasts.held (log_of d) (memory_of d) f kept.holds
+
+  pub unfailed : AreUnfailed d
+  unfailed = held_unfailed d held.0 (read_of (log_of d) f) held.1
+
+  pub whole_once : WholeOnceShut d
+  whole_once = shut_whole (log_of d) held.0 (read_of (log_of d) f) held.1
 
   pub told : IsNextOp d (push_op d push) (answer_of push backup (segment_of d.head push)) (log_of (pushed_data d push))
-  told = next_told d kept.core kept.placed whole_once push waits
+  told = next_told d kept.core kept.placed calm unfailed whole_once push waits
 
-  within : backup < d.config.backups
-  within = home_within d.config kept.core.config (segment_of d.head push) (replica_of push)
+  -- it is on a backup that there is and that hasn't failed
+  few : replica_of push < d.config.replicas
+  few = few_for d kept.core push waits
+
+  pub within : backup < d.config.backups
+  within = core_within d kept.core (segment_of d.head push) (replica_of push) few
+
+  pub works : has d.failed backup ≡ false
+  works = core_left d kept.core (segment_of d.head push) (replica_of push) few
 
   pub push_not_wrong : (g : FleetState) (x : TakeFault) → Refuses f backup bytes x g → x ≡ take_fault.Wrong → ⊥
   push_not_wrong g x refused is =
@@ -315,15 +363,13 @@ module _ {Holds : FailData → FailMemory → FleetState → Type 0} (lasts : La
       (subst (λ (y : TakeFault). Refuses f backup bytes y g) is refused)
 
   pub push_declines : d.is_halted ≡ false → (g : FleetState) (x : TakeFault) → Refuses f backup bytes x g
-      → Declines (record { knows = d; fleet = f }) Push (refusal_of x) (record { knows = failed_data d x; fleet = g })
-  push_declines running g x refused =
-      let old : World = record { knows = d; fleet = f } in
-      inr (
-        push_passed d push running waits,
-        failed_tells d f backup (segment_of d.head push) (act_now d push) (IsPushOp old)
-            (answer_of push backup (segment_of d.head push), log_of (pushed_data d push), told) g x refused
-            (push_not_wrong g x refused),
-      )
+      → Declines (world_of d f) Push (refusal_of d backup x) (world_of (failed_data d backup x) g)
+  push_declines running g x refused = inr (
+    push_passed d push running waits,
+    inr (inr (failed_tells d f backup (segment_of d.head push) (act_now d push) (IsPushOp (world_of d f))
+        (inl (answer_of push backup (segment_of d.head push), log_of (pushed_data d push), told)) g x refused
+        (push_not_wrong g x refused))),
+  )
 
   module _ (passing : EndsPass Holds d) (core : IsCore (pushed_data d push)) (g : FleetState)
       (takes : Takes f backup bytes g) where
@@ -331,7 +377,7 @@ module _ {Holds : FailData → FailMemory → FleetState → Type 0} (lasts : La
     e = pushed_data d push
 
     is : IsPushed d push
-    is = is_pushed d kept.core kept.placed whole_once push waits core
+    is = is_pushed d kept.core kept.placed calm unfailed whole_once push waits core
 
     -- what holds once the op is taken
     then_holds : Holds is.mid (memory_of d) g
@@ -341,13 +387,16 @@ module _ {Holds : FailData → FailMemory → FleetState → Type 0} (lasts : La
     own m l same there model =
         own_holds lasts e core m g (subst (λ (x : FailData). Holds x m g) (sym same) there) model
 
-    after : Holds (log_of e) (memory_of e) g × AreApart e.waiting
-    after = elim is.after as (λ _. Holds (log_of e) (memory_of e) g × AreApart e.waiting) [
-      | inl a ↦ (own (memory_of d) is.mid a.log then_holds a.model, subst AreApart (sym a.waiting) kept.apart)
+    still_apart : e.waiting ≡ d.waiting → AreApart (segments_in e.waiting)
+    still_apart same = subst (λ (ws : List Waiting). AreApart (segments_in ws)) (sym same) kept.apart
+
+    after : Holds (log_of e) (memory_of e) g × AreApart (segments_in e.waiting)
+    after = elim is.after as (λ _. Holds (log_of e) (memory_of e) g × AreApart (segments_in e.waiting)) [
+      | inl a ↦ (own (memory_of d) is.mid a.log then_holds a.model, still_apart a.waiting)
       | inr (inl a) ↦ (
         own (memory_of d) (ended is.mid a.n Calm) a.log
             (lasts.ends is.mid (memory_of d) g a.n Calm then_holds a.ends a.ordinary) a.model,
-        subst AreApart (sym a.waiting) kept.apart,
+        still_apart a.waiting,
       )
       | inr (inr a) ↦ (
         own (finished is.mid (memory_of d)) (ended is.mid a.n Calm) a.log
@@ -359,4 +408,4 @@ module _ {Holds : FailData → FailMemory → FleetState → Type 0} (lasts : La
     pub taken_kept : IsKeptAs Holds (pushed_data d push) g
     taken_kept =
         handed_kept d (pushed_data d push) f g kept (taken_size f backup bytes g takes.1) core
-        (pushed_placed d kept.core kept.placed push waits core) (same_rest d push).0 after.1 after.0
+        (pushed_placed d kept.core kept.placed calm unfailed push waits core) (same_rest d push).0 after.1 after.0

@@ -1,12 +1,18 @@
--- What a push for a record keeps.
-use Rattle.std.proofs.Common.{ℕ, Bool, true, false, sym, subst}
-use Rattle.std.specs.Prelude.{Result, Ok, Err}
+-- What a push for a record keeps, and when it is made.
+use Rattle.std.proofs.Common.{◌≡◌, ℕ, ◌<◌, ◌≤◌, inl, inr, Bool, true, false, length, sym, ap, subst, ◌∙◌, arith}
+use Rattle.std.specs.Prelude.{Result, Ok, Err, nat_lt}
+use Rattle.std.proofs.lemmas.Bool.{ltb-false, ltb-true}
+use Rattle.replica.specs.Picture.{FleetState}
+use Rattle.failover_model.specs.Data.{durable_of}
 use Rattle.master_state.specs.declared.step.Refusal.{Refusal}
 use Rattle.master_state.specs.declared.step.Step.TheVariants.{Push}
-use Rattle.master.specs.Invariant.{IsWellKept}
+use Rattle.master_state.specs.Data.{MasterData}
+use Rattle.master_state.specs.Log.{durable_now, log_of}
+use Rattle.master.specs.Invariant.{IsServed, IsWellKept}
 use Rattle.master.specs.Keeps.{Keeps}
 use Rattle.master.specs.Steps.{PushesFor}
 use Rattle.master.specs.World.{World}
+use Rattle.master.proofs.Counting.{counted, kept_unfailed}
 use Rattle.master.proofs.Keeping.{keeps_same, steps_keep}
 
 pub pushes_keep : (place : ℕ) (old new : World) (r : Result Bool Refusal) → IsWellKept old.knows old.fleet
@@ -14,3 +20,19 @@ pub pushes_keep : (place : ℕ) (old new : World) (r : Result Bool Refusal) → 
 pushes_keep place old new (Ok true) kept is = subst (Keeps 1 old) (sym is.1) (keeps_same 1 old)
 pushes_keep place old new (Ok false) kept is = steps_keep old new Push (Ok is.1) kept is.2
 pushes_keep place old new (Err r) kept is = steps_keep old new Push (Err r) kept is.1
+
+-- ---- whether the record is durable
+
+module _ (d : MasterData) (f : FleetState) (place : ℕ) (within : place < length d.history) where
+  -- what is counted is the durable count; one that is loading has no record
+  pub served_count : IsServed d f → durable_now d ≡ durable_of (log_of d)
+  served_count (inl kept) = counted d kept.core kept.placed (kept_unfailed d f kept.kept)
+  served_count (inr loaded) = absurd (let none = ap length loaded.bare.history in omega arith)
+
+  pub is_counted : IsServed d f → nat_lt place (durable_now d) ≡ true → place < durable_of (log_of d)
+  is_counted served is =
+      ltb-true place (durable_of (log_of d)) (sym (ap (nat_lt place) (served_count served)) ∙ is)
+
+  pub awaits : IsServed d f → nat_lt place (durable_now d) ≡ false → durable_of (log_of d) ≤ place
+  awaits served is =
+      ltb-false place (durable_of (log_of d)) (sym (ap (nat_lt place) (served_count served)) ∙ is)

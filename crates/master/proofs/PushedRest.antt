@@ -28,12 +28,12 @@ ended_rest (Some p) e = go p.is_committing where
   go true = (refl, refl, refl, refl)
   go false = (refl, refl, refl, refl)
 
-closed_rest : (d : MasterData) (r : Roll) → SameRest (closed_data d r) d
+pub closed_rest : (d : MasterData) (r : Roll) → SameRest (closed_data d r) d
 closed_rest d r = go (suc r.closed == d.head.replicas) where
   closed_first : MasterData
   closed_first = record d {
     head = with_closed_replica d.head r;
-    closed = with_closed d.closed d.head.id (old_image d.head r);
+    closed = with_closed d.closed d.head.id d.config.replicas (old_image d.head r);
   }
 
   gives : Bool → MasterData
@@ -47,6 +47,7 @@ closed_rest d r = go (suc r.closed == d.head.replicas) where
 taken_rest : (d : MasterData) (push : Next) → SameRest (taken_data d push) d
 taken_rest d (next.OpenFirst j) = (refl, refl, refl, refl)
 taken_rest d (next.Extend j) = (refl, refl, refl, refl)
+taken_rest d (next.OpenWhole j) = (refl, refl, refl, refl)
 taken_rest d (next.OpenNew j) = go d.head.roll where
   gives : Option Roll → MasterData
   gives o = option_map_or (λ (r : Roll). record d { head = with_new_replica d.head r }) o d

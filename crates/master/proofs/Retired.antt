@@ -10,11 +10,10 @@ use Rattle.failover_clean.proofs.KeptFleets.{others_leave_all}
 use Rattle.master_state.specs.Data.{MasterData}
 use Rattle.master_state.specs.Log.{log_of, memory_of}
 use Rattle.master_state.specs.Steps.{halted}
-use Rattle.master_state.proofs.Beginning.{halted_core}
+use Rattle.master_state.proofs.Posted.{halted_core}
 use Rattle.master.specs.Invariant.{IsWellKept}
 use Rattle.master.specs.World.{retired_data}
-use Rattle.master.proofs.Placements.{placed_halted}
-use Rattle.master.proofs.Unraised.{unraised_on}
+use Rattle.master.proofs.LostPlaces.{placed_halted}
 
 -- the number of the master is that of its configuration
 pub of_master : (f g : FleetState) (n m : ℕ) (result : Result Unit TakeFault) → n ≡ m → Retires f n result g
@@ -34,7 +33,6 @@ beside_kept d f g kept same least backups =
       kept = still.0 kept.kept;
       known = λ going. still.1 (kept.known going);
       backups = (let le = kept.backups in omega (arith, le, backups));
-      least = unraised_on d.config.master f g least kept.least;
       apart = kept.apart;
     }
 
@@ -52,7 +50,6 @@ halted_kept d f kept = record {
   kept = kept.kept;
   known = λ never. absurd (cc);
   backups = kept.backups;
-  least = kept.least;
   apart = kept.apart;
 }
 

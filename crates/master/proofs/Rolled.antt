@@ -1,25 +1,25 @@
 -- A roll that begins keeps what holds of a master, be it an ordinary one or a commit.
-use Rattle.std.proofs.Common.{◌≡◌, ℕ, ◌-◌, inl, Bool, true, false, List, [], map, length, refl, sym, ap, subst, ◌∙◌}
-use Rattle.std.proofs.Common.{arith}
-use Rattle.std.specs.Prelude.{Option, Some, None, ◌==◌, nat_lt, if◌then◌else◌}
+use Rattle.std.proofs.Common.{◌≡◌, ◌≤◌, ℕ, inl, inr, Bool, true, false, List, [], map, length, refl, sym, ap, subst}
+use Rattle.std.proofs.Common.{◌∙◌, arith}
+use Rattle.std.specs.Prelude.{Option, Some, None, is_none, ◌==◌, if◌then◌else◌}
 use Rattle.std.specs.List.{AllByRecursion}
 use Rattle.std.specs.Option.{option_map, option_map_or}
-use Rattle.std.proofs.lemmas.Bool.{and_parts, eqb-true, lt-ltb}
+use Rattle.std.proofs.lemmas.Bool.{and_parts, eqb-true}
 use Rattle.std.proofs.lemmas.Option.{same_Some}
 use Rattle.cleaner.specs.declared.pass.Pass.{Pass as OpenPass}
-use Rattle.cleaner.specs.Passes.{images_in, rest_of, is_at_end, is_ready as is_ready_pass}
-use Rattle.cleaner.specs.Seals.{sealed_of}
-use Rattle.cleaner.proofs.SurvivorIds.{among_ids}
+use Rattle.cleaner.specs.Passes.{images_in, survivor_ids, rest_of, is_at_end, is_ready as is_ready_pass}
+use Rattle.cleaner.specs.Seals.{first_lacking}
+use Rattle.cleaner.proofs.Lacking.{none_is_lacking}
 use Rattle.entry.specs.declared.key.Key.{Key}
 use Rattle.entry.specs.declared.entry.Entry.{Entry}
 use Rattle.entry.specs.Bag.{IsAmong}
 use Rattle.entry.specs.Format.{IsEntry}
 use Rattle.replica.specs.Picture.{FleetState}
 use Rattle.places.specs.declared.place.Place.{Place}
-use Rattle.images.specs.Sorted.{segment_of}
+use Rattle.images.specs.Image.{Image}
+use Rattle.images.specs.Sorted.{segment_of, replicas_of}
 use Rattle.log_head.specs.declared.head.Roll.{Roll}
 use Rattle.log_head.specs.Steps.{start_after, fresh_roll}
-use Rattle.log_head.proofs.Digests.{without_none}
 use Rattle.log_model.specs.Data.{Start, start_entries}
 use Rattle.clean_model.specs.Intact.{IsCommit}
 use Rattle.clean_model.specs.Memory.{Place as EntryPlace}
@@ -34,7 +34,6 @@ use Rattle.master_state.specs.declared.step.StepAnswer.{StepAnswer}
 use Rattle.master_state.specs.Budget.{victims_of, survivors_of, is_ready, is_committing}
 use Rattle.master_state.specs.Data.{MasterData}
 use Rattle.master_state.specs.Invariant.{IsCore}
-use Rattle.master_state.specs.Ledger.{took_in}
 use Rattle.master_state.specs.Loading.{IsBare}
 use Rattle.master_state.specs.Log.{is_opened, log_of, state_now, images_of, find, entry_place, rest_now, memory_of}
 use Rattle.master_state.specs.Steps.{listed_in, start_now, rolling_data, next_now, BeginsRoll, MayRollNow}
@@ -47,69 +46,72 @@ use Rattle.master_state.proofs.Indexing.{Grow, found_grown}
 use Rattle.master_state.proofs.LogIds.{no_segment, no_next}
 use Rattle.master_state.proofs.Refusals.{may_begin, open_parts}
 use Rattle.master.specs.Invariant.{IsWellKept, IsWellLoaded}
-use Rattle.master.specs.Placed.{sealed_now, IsPlaced}
-use Rattle.master.proofs.InForce.{force_opened, start_real}
+use Rattle.master.specs.Placed.{IsPlaced}
+use Rattle.master.proofs.InForce.{headed, force_headed, start_real}
 use Rattle.master.proofs.Lasting.{Lasts, all_lasts, loading_lasts, IsKeptAs, kept_as, well_kept, loaded_as, well_loaded}
 use Rattle.master.proofs.Lasting.{unhanded_kept}
+use Rattle.master.proofs.LogSets.{closed_in}
 use Rattle.master.proofs.Models.{IsModel, LeavesPass, is_model, own_holds}
 use Rattle.master.proofs.OpenPasses.{none_left}
-use Rattle.master.proofs.Placements.{placed_rolling}
+use Rattle.master.proofs.Placements.{homes_of, placed_rolling}
 use Rattle.master.proofs.Placing.{placed_length}
 use Rattle.master.proofs.Victims.{victim_below, never_both}
 
 -- ---- the open pass, once it says whether its commit is under way
 
-abbrev told : Option OpenPass → Option OpenPass
-told o = option_map (λ (p : OpenPass). record p { is_committing = is_ready_pass p }) o
+module _ (replicas : ℕ) (cs : List Image) where
+  abbrev told : Option OpenPass → Option OpenPass
+  told o = option_map (λ (p : OpenPass). record p { is_committing = is_ready_pass replicas cs p }) o
 
-same_victims : (o : Option OpenPass) → victims_of (told o) ≡ victims_of o
-same_victims None = refl
-same_victims (Some p) = refl
+  pub same_victims : (o : Option OpenPass) → victims_of (told o) ≡ victims_of o
+  same_victims None = refl
+  same_victims (Some p) = refl
 
-same_survivors : (o : Option OpenPass) → survivors_of (told o) ≡ survivors_of o
-same_survivors None = refl
-same_survivors (Some p) = refl
+  pub same_survivors : (o : Option OpenPass) → survivors_of (told o) ≡ survivors_of o
+  same_survivors None = refl
+  same_survivors (Some p) = refl
 
-same_rest : (images : ℕ → List Entry) (o : Option OpenPass)
-    → option_map_or (rest_of images) (told o) [] ≡ option_map_or (rest_of images) o []
-same_rest images None = refl
-same_rest images (Some p) = refl
+  pub same_rest : (images : ℕ → List Entry) (o : Option OpenPass)
+      → option_map_or (rest_of images) (told o) [] ≡ option_map_or (rest_of images) o []
+  same_rest images None = refl
+  same_rest images (Some p) = refl
 
-committing : (o : Option OpenPass) → option_map_or (λ (p : OpenPass). p.is_committing) (told o) false
-    ≡ option_map_or is_ready_pass o false
-committing None = refl
-committing (Some p) = refl
+  pub committing : (o : Option OpenPass) → option_map_or (λ (p : OpenPass). p.is_committing) (told o) false
+      ≡ option_map_or (is_ready_pass replicas cs) o false
+  committing None = refl
+  committing (Some p) = refl
 
 -- ---- a pass that is ready
 
 module _ (d : MasterData) (core : IsCore d) (p : IsPlaced d) where
   -- it is at its end
-  done_by : (o : Option OpenPass) → d.pass ≡ o → option_map_or is_ready_pass o false ≡ true → rest_now d ≡ []
+  done_by : (o : Option OpenPass) → d.pass ≡ o
+      → option_map_or (is_ready_pass d.config.replicas d.closed) o false ≡ true → rest_now d ≡ []
   done_by None none ready = absurd (cc)
   done_by (Some q) opened ready =
       ap (λ (o : Option OpenPass). option_map_or (rest_of (images_in d.closed)) o []) opened
       ∙ none_left d core q opened (and_parts (is_at_end q) _ ready).0
 
   -- each survivor is sealed whole
-  sealed_by : (o : Option OpenPass) → d.pass ≡ o → option_map_or is_ready_pass o false ≡ true → (s : ℕ)
-      → IsAmong s (survivors_of o)
-      → option_map_or (λ (q : OpenPass). sealed_of d.config.replicas q.sealed q.survivors.first s) o 0
-      ≡ d.config.replicas
-  sealed_by None none ready s among = absurd (cc)
-  sealed_by (Some q) opened ready s among =
-      let all = eqb-true q.sealed.survivors q.survivors.count (and_parts (is_at_end q) _ ready).1 in
-      let within = among_ids q.survivors.first q.survivors.count s among in
-      let test : nat_lt (s - q.survivors.first) q.sealed.survivors ≡ true =
-      lt-ltb (s - q.survivors.first) q.sealed.survivors (omega (arith, all, within.0, within.1)) in
-      rw test refl
+  sealed_by : (o : Option OpenPass) → option_map_or (is_ready_pass d.config.replicas d.closed) o false ≡ true
+      → (s : ℕ) → IsAmong s (survivors_of o) → d.config.replicas ≤ replicas_of d.closed s
+  sealed_by None ready s among = absurd (cc)
+  sealed_by (Some q) ready s among =
+      (none_is_lacking d.config.replicas d.closed (survivor_ids q.survivors)).0
+      (none_from (first_lacking d.config.replicas d.closed (survivor_ids q.survivors))
+      (and_parts (is_at_end q) _ ready).1) s among
+    where
+      none_from : (o : Option (ℕ × ℕ)) → is_none o ≡ true → o ≡ None
+      none_from None is = refl
+      none_from (Some x) is = absurd (cc)
 
   pub ready_pass : is_ready d ≡ true → IsReady (log_of d) (memory_of d)
   ready_pass ready = record {
     done = ap (map (entry_place d)) (done_by d.pass refl ready);
     sealed = λ s among.
-        let whole = sealed_by d.pass refl ready s among in
-        let count = ap length (without_none (took_in d.ledger s) ∙ p.survivors s among)
-        ∙ placed_length d.config s (sealed_now d s) in
+        let whole = sealed_by d.pass ready s among in
+        let count = ap length (homes_of d p s (closed_in d core s (inr among)))
+        ∙ placed_length d.config d.failed s (replicas_of d.closed s) in
         omega (arith, whole, count);
   }
 
@@ -125,7 +127,7 @@ CommitKeeps Holds d f =
     (rolled (log_of d) (memory_of d) (commit_start (log_of d) (memory_of d)) true) f
 
 module _ {Holds : FailData → FailMemory → FleetState → Type 0} (lasts : Lasts Holds) (d e : MasterData) (f : FleetState)
-    (answer : StepAnswer) (kept : IsKeptAs Holds d f) (commit : CommitKeeps Holds d f)
+    (answer : StepAnswer) (kept : IsKeptAs Holds d f) (commit : CommitKeeps Holds d f) (calm : d.failover ≡ None)
     (is : BeginsRoll d answer e) (may : MayRollNow d) (core : IsCore e) where
   abbrev m : FailMemory
   m = memory_of d
@@ -162,7 +164,7 @@ module _ {Holds : FailData → FailMemory → FleetState → Type 0} (lasts : La
 
   -- it begins with what the log says
   start_same : start_now d ≡ n
-  start_same = next_is d kept.core opened
+  start_same = next_is d kept.core (headed d calm opened)
 
   none : d.head.roll ≡ None
   none = (open_parts d.head may.opened).1
@@ -170,7 +172,7 @@ module _ {Holds : FailData → FailMemory → FleetState → Type 0} (lasts : La
   -- there is a head
   real : (log_of d).head.start.id ≡ 0 → ⊥
   real none = start_real d kept.core
-      (sym (ap (λ (h : FailHead). h.start.id) (force_opened d.config.format d.head opened)) ∙ none)
+      (sym (ap (λ (h : FailHead). h.start.id) (force_headed d (headed d calm opened))) ∙ none)
 
   -- ---- the model
 
@@ -187,7 +189,7 @@ module _ {Holds : FailData → FailMemory → FleetState → Type 0} (lasts : La
       (rolled (log_of d) m (next_of t) t) f
   rolled_by true ready =
       commit ready (record {
-        may = inl (open_calm d.head may.opened, refl);
+        may = inl (open_calm d may.opened calm, refl);
         real = real;
         ready = ready_pass d kept.core kept.placed ready;
         commit = subst (λ (t : Bool). IsCommit (log_of d).head.start m.pass (next_of t)) ready (may.commit ready);
@@ -197,7 +199,7 @@ module _ {Holds : FailData → FailMemory → FleetState → Type 0} (lasts : La
       }) (subst IsHead ready whole)
   rolled_by false unready =
       lasts.roll (log_of d) m f (Rolls (next_start (log_of d))) kept.holds (record {
-        may = inl (open_calm d.head may.opened, refl);
+        may = inl (open_calm d may.opened calm, refl);
         some = λ none. absurd (real none);
       }) (subst IsHead unready whole)
 
@@ -231,11 +233,11 @@ module _ {Holds : FailData → FailMemory → FleetState → Type 0} (lasts : La
   leaves = record {
     pass = ap (λ (x : MasterData). (memory_of x).pass) is.rest
         ∙ (λ i. record {
-          victims = same_victims d.pass i;
-          survivors = same_survivors d.pass i;
+          victims = same_victims d.config.replicas d.closed d.pass i;
+          survivors = same_survivors d.config.replicas d.closed d.pass i;
         });
     waiting = ap (λ (x : MasterData). (memory_of x).waiting) is.rest;
-    rest = ap rest_now is.rest ∙ same_rest (images_in d.closed) d.pass;
+    rest = ap rest_now is.rest ∙ same_rest d.config.replicas d.closed (images_in d.closed) d.pass;
     victims = λ s victim.
         others_same s (λ own. (let lt = victim_below d kept.core s victim in let used = kept.core.used in omega arith));
   }
@@ -267,12 +269,12 @@ module _ {Holds : FailData → FailMemory → FleetState → Type 0} (lasts : La
 
   model : IsModel e then_memory
   model = is_model d e leaves then_memory.images m.index (is_ready d)
-      (ap is_committing is.rest ∙ committing d.pass) (λ s counts. same_images s) behind
+      (ap is_committing is.rest ∙ committing d.config.replicas d.closed d.pass) (λ s counts. same_images s) behind
 
   pub rolled_kept_as : IsKeptAs Holds e f
   rolled_kept_as =
       unhanded_kept d e f kept core
-      (subst IsPlaced (sym is.rest) (placed_rolling d kept.core kept.placed none (start_id (is_ready d))))
+      (subst IsPlaced (sym is.rest) (placed_rolling d kept.core kept.placed none calm (start_id (is_ready d))))
       (ap (λ (x : MasterData). x.config) is.rest) (ap (λ (x : MasterData). x.waiting) is.rest)
       (own_holds lasts e core then_memory f rolled_holds model)
 
@@ -283,22 +285,26 @@ module _ (d e : MasterData) (f : FleetState) (answer : StepAnswer) (is : BeginsR
   running : d.is_halted ≡ false
   running = (may_begin d is.passed).running
 
+  calm : d.failover ≡ None
+  calm = (may_begin d is.passed).calm
+
   pub rolled_kept : IsWellKept d f → IsWellKept e f
   rolled_kept kept =
       well_kept e f (rolled_kept_as all_lasts d e f answer (kept_as d f kept running)
       (λ ready now whole. commit_holds_all (log_of d) (memory_of d) f (commit_start (log_of d) (memory_of d))
-      (Rolls (commit_start (log_of d) (memory_of d))) (kept.known running) now whole) is may core)
+      (Rolls (commit_start (log_of d) (memory_of d))) (kept.known running) now whole) calm is may core)
 
   -- one that is loading has no pass to commit
   unready : IsBare d → is_ready d ≡ true → ⊥
   unready bare ready =
-      let never : false ≡ true = sym (ap (λ (o : Option OpenPass). option_map_or is_ready_pass o false) bare.pass)
+      let never : false ≡ true =
+      sym (ap (λ (o : Option OpenPass). option_map_or (is_ready_pass d.config.replicas d.closed) o false) bare.pass)
       ∙ ready in
       cc
 
   pub rolled_loaded : IsWellLoaded d f → IsWellLoaded e f
   rolled_loaded loaded =
       well_loaded e f (rolled_kept_as loading_lasts d e f answer (loaded_as d f loaded running)
-      (λ ready now whole. absurd (unready loaded.bare ready)) is may core)
+      (λ ready now whole. absurd (unready loaded.bare ready)) calm is may core)
       (subst IsBare (sym is.rest) (rolling_bare d loaded.bare))
       (ap (λ (x : MasterData). x.is_halted) is.rest ∙ running)

@@ -1,5 +1,5 @@
 -- A push keeps a master, and one that is loading.
-use Rattle.std.proofs.Common.{◌≡◌, ℕ, inl, inr, false, refl, sym, subst, ◌∙◌, arith}
+use Rattle.std.proofs.Common.{◌≡◌, ℕ, ◌<◌, inl, inr, false, refl, sym, ◌∙◌}
 use Rattle.std.specs.Prelude.{Some, None}
 use Rattle.cleaner.specs.declared.pass.Pass.{Pass as OpenPass}
 use Rattle.replica.specs.Op.{OpValue}
@@ -9,6 +9,7 @@ use Rattle.replica.specs.declared.op.TakeFault.{TakeFault}
 use Rattle.replica.specs.declared.op.TakeFault.TheVariants as take_fault
 use Rattle.log_head.specs.declared.next.Next.{Next}
 use Rattle.log_head.specs.Next.{IsNextPush, replica_of, segment_of}
+use Rattle.log_model.specs.Ids.{has}
 use Rattle.log_model.specs.Ops.{op_of}
 use Rattle.failover_model.specs.Data.{Calm}
 use Rattle.failover_bytes.specs.Ops.{log_op_for}
@@ -16,27 +17,24 @@ use Rattle.failover_clean.specs.Fleet.{HoldsAll, HoldsLoading}
 use Rattle.failover_clean.proofs.FleetSteps.{finish_holds_all}
 use Rattle.master_state.specs.declared.step.Refusal.TheVariants.{Halted, Nothing}
 use Rattle.master_state.specs.declared.step.Step.TheVariants.{Push}
-use Rattle.master_state.specs.Causes.{is_pushed}
+use Rattle.master_state.specs.Causes.{is_done}
 use Rattle.master_state.specs.Data.{MasterData}
 use Rattle.master_state.specs.Invariant.{IsCore}
 use Rattle.master_state.specs.Loading.{IsBare}
 use Rattle.master_state.specs.Log.{log_of, memory_of}
 use Rattle.master_state.specs.Steps.{backup_of, pushed_data, refusal_of, failed_data}
-use Rattle.master_state.proofs.Beginning.{halted_core}
 use Rattle.master_state.proofs.Refusals.{passes, push_passed}
 use Rattle.master_commands.proofs.LoadedCore.{pushed_bare}
 use Rattle.master.specs.Invariant.{IsWellKept, IsWellLoaded, IsServed, StaysServed}
 use Rattle.master.specs.Pushes.{IsNextOp, answer_of}
 use Rattle.master.specs.Steps.{Declines}
 use Rattle.master.specs.World.{world_of}
-use Rattle.master.proofs.Handed.{fault_size, op_failed}
+use Rattle.master.proofs.Handed.{op_failed, loading_failed}
 use Rattle.master.proofs.Lasting.{all_lasts, loading_lasts, kept_as, well_kept, loaded_as, well_loaded}
-use Rattle.master.proofs.NextOps.{act_now, push_op, head_push}
-use Rattle.master.proofs.Placements.{placed_halted}
-use Rattle.master.proofs.Placing.{home_within}
-use Rattle.master.proofs.Pushed.{EndsPass, told, push_not_wrong, push_declines, taken_kept}
+use Rattle.master.proofs.NextOps.{act_now, push_op, IsHeadPush, head_push}
+use Rattle.master.proofs.Placing.{core_within, core_left}
+use Rattle.master.proofs.Pushed.{EndsPass, few_for, told, push_not_wrong, push_declines, taken_kept}
 use Rattle.master.proofs.PushedRest.{same_rest}
-use Rattle.master.proofs.Unraised.{unraised_on}
 
 -- ---- passes
 
@@ -60,7 +58,7 @@ none_ends d bare = record {
 
 -- ---- a push
 
-module _ (d : MasterData) (push : Next) (f : FleetState) (running : d.is_halted ≡ false)
+module _ (d : MasterData) (push : Next) (f : FleetState) (running : d.is_halted ≡ false) (calm : d.failover ≡ None)
     (waits : IsNextPush d.head (Some push)) where
   abbrev backup : ℕ
   backup = backup_of d push
@@ -70,61 +68,60 @@ module _ (d : MasterData) (push : Next) (f : FleetState) (running : d.is_halted 
 
   pub served_told : IsServed d f
       → IsNextOp d (push_op d push) (answer_of push backup (segment_of d.head push)) (log_of (pushed_data d push))
-  served_told (inl kept) = told all_lasts d push f (kept_as d f kept running) waits
-  served_told (inr loaded) = told loading_lasts d push f (loaded_as d f loaded running) waits
+  served_told (inl kept) = told all_lasts d push f (kept_as d f kept running) calm waits
+  served_told (inr loaded) = told loading_lasts d push f (loaded_as d f loaded running) calm waits
 
   pub served_not_wrong : IsServed d f → (g : FleetState) (x : TakeFault) → Refuses f backup bytes x g
       → x ≡ take_fault.Wrong → ⊥
-  served_not_wrong (inl kept) = push_not_wrong all_lasts d push f (kept_as d f kept running) waits
-  served_not_wrong (inr loaded) = push_not_wrong loading_lasts d push f (loaded_as d f loaded running) waits
+  served_not_wrong (inl kept) = push_not_wrong all_lasts d push f (kept_as d f kept running) calm waits
+  served_not_wrong (inr loaded) = push_not_wrong loading_lasts d push f (loaded_as d f loaded running) calm waits
+
+  -- it is on a backup that there is and that hasn't failed
+  pub served_within : IsCore d → backup < d.config.backups
+  served_within core = core_within d core (segment_of d.head push) (replica_of push) (few_for d core push waits)
+
+  pub served_works : IsCore d → has d.failed backup ≡ false
+  served_works core = core_left d core (segment_of d.head push) (replica_of push) (few_for d core push waits)
 
   pub served_declines : IsServed d f → (g : FleetState) (x : TakeFault) → Refuses f backup bytes x g
-      → Declines (world_of d f) Push (refusal_of x) (world_of (failed_data d x) g)
-  served_declines (inl kept) = push_declines all_lasts d push f (kept_as d f kept running) waits running
-  served_declines (inr loaded) = push_declines loading_lasts d push f (loaded_as d f loaded running) waits running
+      → Declines (world_of d f) Push (refusal_of d backup x) (world_of (failed_data d backup x) g)
+  served_declines (inl kept) = push_declines all_lasts d push f (kept_as d f kept running) calm waits running
+  served_declines (inr loaded) = push_declines loading_lasts d push f (loaded_as d f loaded running) calm waits running
 
-  -- a master halts
+  op_of_head : IsServed d f → IsHeadPush d push
+  op_of_head served = head_push d push (answer_of push backup (segment_of d.head push)) (served_told served)
+
+  -- a failover opens, or the master halts
   failed_kept : IsWellKept d f → (g : FleetState) (x : TakeFault) → Refuses f backup bytes x g
-      → IsWellKept (failed_data d x) g
+      → IsWellKept (failed_data d backup x) g
   failed_kept kept =
-      let op = head_push d push (answer_of push backup (segment_of d.head push)) (served_told (inl kept)) in
+      let op = op_of_head (inl kept) in
       op_failed d f kept running backup (segment_of d.head push) (act_now d push) op.mid (memory_of d)
-      (inl (op.op, refl)) (home_within d.config kept.core.config (segment_of d.head push) (replica_of push))
+      (inl (op.op, refl)) (served_within kept.core) (served_works kept.core)
 
   -- something is left to be pushed, so one that halts can't be finished
-  lags : is_pushed d.head ≡ false
-  lags = (passes (is_pushed d.head) Nothing None (passes d.is_halted Halted _ (push_passed d push running waits)).1).0
+  lags : is_done d ≡ false
+  lags = (passes (is_done d) Nothing None (passes d.is_halted Halted _ (push_passed d push running waits)).1).0
 
   failed_loaded : IsWellLoaded d f → (g : FleetState) (x : TakeFault) → Refuses f backup bytes x g
-      → IsWellLoaded (failed_data d x) g
-  failed_loaded loaded g take_fault.NoMemory refused = subst (IsWellLoaded d) (sym refused) loaded
-  failed_loaded loaded g take_fault.Spent refused = subst (IsWellLoaded d) (sym refused.1) loaded
-  failed_loaded loaded g take_fault.Wrong refused =
-      absurd (served_not_wrong (inr loaded) g take_fault.Wrong refused refl)
-  failed_loaded loaded g take_fault.Fault refused =
-      let size = fault_size f backup bytes g refused in
-      record {
-        core = halted_core d loaded.core;
-        bare = record { history = loaded.bare.history; pass = loaded.bare.pass; waiting = loaded.bare.waiting };
-        placed = placed_halted d loaded.placed;
-        loading = λ never. absurd (cc);
-        backups = (let le = loaded.backups in let count = size.backups in omega arith);
-        least = unraised_on d.config.master f g size.least loaded.least;
-        halted = λ is. lags;
-      }
+      → IsWellLoaded (failed_data d backup x) g
+  failed_loaded loaded =
+      let op = op_of_head (inr loaded) in
+      loading_failed d f loaded running backup (segment_of d.head push) (act_now d push) op.mid
+      (inl op.op) (served_within loaded.core) (served_works loaded.core) lags
 
   pub served_failed : (g : FleetState) (x : TakeFault) → Refuses f backup bytes x g
-      → StaysServed d f (failed_data d x) g
+      → StaysServed d f (failed_data d backup x) g
   served_failed g x refused = (λ kept. failed_kept kept g x refused, λ loaded. failed_loaded loaded g x refused)
 
   module _ (core : IsCore (pushed_data d push)) (g : FleetState) (takes : Takes f backup bytes g) where
     pub served_taken : StaysServed d f (pushed_data d push) g
     served_taken = (
       λ kept. well_kept (pushed_data d push) g
-          (taken_kept all_lasts d push f (kept_as d f kept running) waits (all_ends d f (kept.known running)) core g
-          takes),
+          (taken_kept all_lasts d push f (kept_as d f kept running) calm waits (all_ends d f (kept.known running)) core
+          g takes),
       λ loaded. well_loaded (pushed_data d push) g
-          (taken_kept loading_lasts d push f (loaded_as d f loaded running) waits (none_ends d loaded.bare) core g
-          takes)
+          (taken_kept loading_lasts d push f (loaded_as d f loaded running) calm waits (none_ends d loaded.bare) core
+          g takes)
           (pushed_bare d loaded.bare push) ((same_rest d push).2 ∙ running),
     )

@@ -1,10 +1,8 @@
 -- A new master is kept.
-use Rattle.std.proofs.Common.{◌≡◌, ℕ, ◌≤◌, inl, inr, refl}
-use Rattle.std.proofs.Common.{sym, ap, subst}
-use Rattle.std.specs.Prelude.{None}
+use Rattle.std.proofs.Common.{◌≡◌, ℕ, ◌≤◌, inl, inr, Bool, true, false, [], refl, sym, ap, subst}
+use Rattle.std.specs.Prelude.{Some, None, IsSome, unwrap_or, ◌==◌, if◌then◌else◌}
 use Rattle.std.specs.Option.{option_map}
 use Rattle.std.proofs.lemmas.Option.{same_Some}
-use Rattle.entry.specs.Bag.{IsAmong}
 use Rattle.replica.specs.Picture.{FleetState}
 use Rattle.log_model.specs.Data.{Start, start_entries}
 use Rattle.failover_model.specs.Data.{bare, FailData, IsNew}
@@ -14,7 +12,6 @@ use Rattle.failover_bytes.specs.Segments.{HeadsAreSegments}
 use Rattle.failover_bytes.specs.Spelled.{read_replica}
 use Rattle.failover_bytes.specs.Text.{IsWholeText}
 use Rattle.failover_clean.specs.Fleet.{HoldsAll}
-use Rattle.failover_clean.specs.Memory.{log_ids}
 use Rattle.failover_clean.specs.Steps.{first_memory}
 use Rattle.failover_clean.proofs.FleetSteps.{fresh_holds_all}
 use Rattle.master_state.specs.declared.config.Config.{Config}
@@ -22,7 +19,7 @@ use Rattle.master_state.specs.Config.{config_fault}
 use Rattle.master_state.specs.Data.{fresh_data}
 use Rattle.master_state.specs.Invariant.{IsCore}
 use Rattle.master_state.specs.Loading.{restored_data}
-use Rattle.master_state.specs.Log.{fail_config, log_of, images_of}
+use Rattle.master_state.specs.Log.{fail_config, log_of, image_of, images_of}
 use Rattle.master_state.proofs.Beginning.{restored_log}
 use Rattle.master_state.proofs.Refusals.{has_homes}
 use Rattle.master.specs.Invariant.{IsWellKept}
@@ -61,14 +58,15 @@ may_begin c f ok nothing least = record {
 -- ---- its memory is the model's
 
 module _ (c : Config) (safe : ℕ) (log : log_of (restored_data c safe) ≡ restored (fail_config c) safe) where
-  image_at : (s : ℕ) → IsAmong s (log_ids (log_of (restored_data c safe)) (first_memory (fail_config c) safe))
+  -- the first head alone has an image
+  image_at : (s : ℕ) → IsSome (image_of (restored_data c safe) s)
       → images_of (restored_data c safe) s ≡ start_entries c.master (restored_start c.format safe)
-  image_at s among =
-      elim (subst (λ (l : FailData). IsAmong s (log_ids l (first_memory (fail_config c) safe))) log among)
-      as (λ _. images_of (restored_data c safe) s ≡ start_entries c.master (restored_start c.format safe)) [
-        | inl is ↦ sym (ap (images_of (restored_data c safe)) is)
-        | inr none ↦ absurd none
-      ]
+  image_at s some = go (1 == s) some where
+    go : (t : Bool) → IsSome (if t then Some (start_entries c.master (restored_start c.format safe)) else None)
+        → unwrap_or (if t then Some (start_entries c.master (restored_start c.format safe)) else None) []
+        ≡ start_entries c.master (restored_start c.format safe)
+    go true some = refl
+    go false none = absurd (cc)
 
   pub first_model : IsModel (restored_data c safe) (first_memory (fail_config c) safe)
   first_model = record {
@@ -90,12 +88,11 @@ fresh_kept c f ok core backups nothing least =
     let log = restored_log c 1 core.head ok in
     well_kept (fresh_data c) f (record {
       core = core;
-      placed = placed_restored c 1 ok core;
+      placed = placed_restored c 1;
       holds = own_holds_all (fresh_data c) core (first_memory (fail_config c) 1) f
           (subst (λ (l : FailData). HoldsAll l (first_memory (fail_config c) 1) f) (sym log)
           (fresh_holds_all (fail_config c) f (may_begin c f ok nothing least) (first_heads c 1 core)))
           (first_model c 1 log);
       backups = backups;
-      least = least;
       apart = tt;
     })

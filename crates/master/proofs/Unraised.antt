@@ -1,12 +1,10 @@
--- No take raises a least head.
-use Rattle.std.proofs.Common.{◌≡◌, ℕ, ◌∙◌, ap}
+-- No step raises the least head of another master.
+use Rattle.std.proofs.Common.{◌≡◌, ℕ, ◌∙◌, arith}
 use Rattle.replica.specs.Picture.{FleetState}
-use Rattle.master.specs.Registry.{IsUnraised, AreUnraisedAbove}
+use Rattle.master.specs.Registry.{AreUnraisedAbove}
 
--- another fleet with the same least heads
-pub unraised_on : (master : ℕ) (f g : FleetState) → g.least ≡ f.least → IsUnraised master f → IsUnraised master g
-unraised_on master f g same is = ap (λ (h : ℕ → ℕ). h master) same ∙ is
-
-pub above_on : (number : ℕ) (f g : FleetState) → g.least ≡ f.least → AreUnraisedAbove number f
+-- another fleet with the same least heads of all masters but this one
+pub above_on : (number : ℕ) (f g : FleetState) → ((m : ℕ) → (m ≡ number → ⊥) → g.least m ≡ f.least m)
+    → AreUnraisedAbove number f
     → AreUnraisedAbove number g
-above_on number f g same are m above = unraised_on m f g same (are m above)
+above_on number f g same are m above = same m (λ is. omega (arith, is, above)) ∙ are m above

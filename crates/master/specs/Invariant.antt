@@ -1,14 +1,14 @@
 -- What a master keeps, and one that is loading. What it knows, its memory, and the fleet obey the laws of a log.
-use Rattle.std.specs.Prelude.{◌≡◌, ◌≤◌, ◌⊎◌, true, false}
+use Rattle.std.specs.Prelude.{◌≡◌, ◌≤◌, ◌⊎◌, map, true, false}
 use Rattle.replica.specs.Picture.{FleetState}
 use Rattle.failover_clean.specs.Fleet.{KeepsAll, HoldsAll, HoldsLoading}
-use Rattle.master_state.specs.Causes.{is_pushed}
+use Rattle.master_state.specs.declared.waiting.Waiting.{Waiting}
+use Rattle.master_state.specs.Causes.{is_done}
 use Rattle.master_state.specs.Data.{MasterData}
 use Rattle.master_state.specs.Invariant.{AreApart, IsCore}
 use Rattle.master_state.specs.Loading.{IsBare}
 use Rattle.master_state.specs.Log.{log_of, memory_of}
 use Rattle.master.specs.Placed.{IsPlaced}
-use Rattle.master.specs.Registry.{IsUnraised}
 
 -- All is intact on the fleet. While it works, the master knows what its backups hold.
 pub record IsWellKept (d : MasterData) (f : FleetState) : Type 0 where
@@ -17,9 +17,8 @@ pub record IsWellKept (d : MasterData) (f : FleetState) : Type 0 where
   pub kept : KeepsAll (log_of d) (memory_of d) f
   pub known : d.is_halted ≡ false → HoldsAll (log_of d) (memory_of d) f
   pub backups : d.config.backups ≤ f.backups
-  pub least : IsUnraised d.config.master f
   -- no segment waits twice
-  pub apart : AreApart d.waiting
+  pub apart : AreApart (map (λ (w : Waiting). w.segment) d.waiting)
 
 -- One that is loading has no history. Nothing is promised of it yet, so what a fault left of the backups doesn't
 -- matter: after one it is never finished.
@@ -29,9 +28,8 @@ pub record IsWellLoaded (d : MasterData) (f : FleetState) : Type 0 where
   pub placed : IsPlaced d
   pub loading : d.is_halted ≡ false → HoldsLoading (log_of d) (memory_of d) f
   pub backups : d.config.backups ≤ f.backups
-  pub least : IsUnraised d.config.master f
   -- some replica lacks a part of what was loaded
-  pub halted : d.is_halted ≡ true → is_pushed d.head ≡ false
+  pub halted : d.is_halted ≡ true → is_done d ≡ false
 
 -- a master, or one that is loading
 abbrev pub IsServed : MasterData → FleetState → Type 0

@@ -12,8 +12,8 @@ pub record Keeps (most : ℕ) (old new : World) : Type 0 where
   pub takes : (old.fleet.takes ≤ new.fleet.takes) × (new.fleet.takes ≤ old.fleet.takes + most)
   -- no replica of another master changed
   pub others : (b m s : ℕ) → (m ≡ old.knows.config.master → ⊥) → new.fleet.picture b m s ≡ old.fleet.picture b m s
-  -- no least head is raised
-  pub least : new.fleet.least ≡ old.fleet.least
+  -- no least head of another master is raised
+  pub least : (m : ℕ) → (m ≡ old.knows.config.master → ⊥) → new.fleet.least m ≡ old.fleet.least m
   -- what was durable stays durable
   pub durable : durable_of (log_of old.knows) ≤ durable_of (log_of new.knows)
   -- the history only grows, at its end

@@ -7,5 +7,7 @@ pub mod Steps
 pub mod Loading
 pub mod Registry
 pub mod Placed
+pub mod Mends
 pub mod Invariant
 pub mod Shown
+pub mod Left

@@ -33,5 +33,5 @@ pub record KeepsLoading (old new : World) : Type 0 where
   pub takes : (old.fleet.takes ≤ new.fleet.takes) × (new.fleet.takes ≤ old.fleet.takes + 1)
   -- no replica of another master changed
   pub others : (b m s : ℕ) → (m ≡ old.knows.config.master → ⊥) → new.fleet.picture b m s ≡ old.fleet.picture b m s
-  -- no least head is raised
-  pub least : new.fleet.least ≡ old.fleet.least
+  -- no least head of another master is raised
+  pub least : (m : ℕ) → (m ≡ old.knows.config.master → ⊥) → new.fleet.least m ≡ old.fleet.least m

@@ -31,7 +31,7 @@ pub record ExtendsNext (d : MasterData) (o : Op) (e : FailData) : Type 0 where
   pub extends : Extends (log_of d) o e
   pub replica : ℕ
   pub lagging : IsLagging (length d.head.units) d.head.taken (Some replica)
-  pub home : extends.b ≡ home d.config d.head.id replica
+  pub home : extends.b ≡ home d.config d.failed d.head.id replica
   pub whole : extends.to ≡ length d.head.units
 
 -- What the answer of a push says of its op. Opened: the first head or a new head is opened on its next backup.
@@ -52,6 +52,7 @@ HasLeft d e s = (has (victims_of d.pass) s ≡ true) × (e.pass ≡ None) × (im
 pub record Pushes (old : World) (answer : StepAnswer) (new : World) : Type 0 where
   pub op : Op
   pub running : old.knows.is_halted ≡ false
+  pub calm : old.knows.failover ≡ None
   pub next : IsNextOp old.knows op answer (log_of new.knows)
   -- the op is counted and posted; with the last Close of a commit the pass ends
   pub push : Next
@@ -65,5 +66,6 @@ pub record Pushes (old : World) (answer : StepAnswer) (new : World) : Type 0 whe
 abbrev pub answer_of : Next → ℕ → ℕ → StepAnswer
 answer_of (next.OpenFirst j) backup segment = Opened backup segment
 answer_of (next.Extend j) backup segment = Extended backup segment
+answer_of (next.OpenWhole j) backup segment = Opened backup segment
 answer_of (next.OpenNew j) backup segment = Opened backup segment
 answer_of (next.CloseOld j) backup segment = Closed backup segment

@@ -2,6 +2,7 @@
 use Rattle.std.specs.Prelude.{◌≡◌, ◌⊎◌, ℕ, ◌<◌, ◌≤◌, Bool, true, false, List, [], ◌∷◌, Result, Ok, Err, Some, None}
 use Rattle.failover_model.specs.Data.{FailData, durable_of}
 use Rattle.failover_model.specs.Shown.{Op}
+use Rattle.failover_model.specs.Runs.{IsOn}
 use Rattle.failover_bytes.specs.Ops.{RefusesOp}
 use Rattle.replica.specs.declared.op.TakeFault.TheVariants as take_fault
 use Rattle.master_state.specs.declared.step.Refusal.{Refusal}
@@ -14,7 +15,12 @@ use Rattle.master_state.specs.Causes.{command_refusal, roll_refusal, compact_ref
 use Rattle.master_state.specs.Causes.{copy_refusal}
 use Rattle.master_state.specs.Causes.{seal_refusal, free_refusal}
 use Rattle.master_state.specs.Log.{log_of}
-use Rattle.master_state.specs.Steps.{Applies, BeginsRoll, Compacts, BeginsPass, Copies, halted}
+use Rattle.master_state.specs.Budget.{may_turn}
+use Rattle.master_state.specs.Steps.{Applies, BeginsRoll, Compacts, BeginsPass, Copies, halted, may_lose, lost_data}
+use Rattle.master_mending.specs.declared.mending.Mend.{Mend}
+use Rattle.master_mending.specs.declared.mending.Mend.TheVariants as mend
+use Rattle.master_mending.specs.Mending.{IsNextMend, turned_data}
+use Rattle.master.specs.Mends.{IsMendOp, MendsOn}
 use Rattle.master.specs.Keeps.{Keeps}
 use Rattle.master.specs.Passes.{IsSealOp, Seals, IsFreeOp, Frees}
 use Rattle.master.specs.Pushes.{IsNextOp, Pushes}
@@ -27,7 +33,7 @@ use Rattle.master.specs.World.{World}
 -- it was; a push, a seal and a free are one op each that the fleet took
 abbrev pub Accepts : World → Step → StepAnswer → World → Type 0
 Accepts old (Apply seat command) answer new = Applies old.knows seat command answer new.knows × (new.fleet ≡ old.fleet)
-Accepts old Push answer new = Pushes old answer new
+Accepts old Push answer new = Pushes old answer new ⊎ MendsOn old answer new
 Accepts old BeginRoll answer new = BeginsRoll old.knows answer new.knows × (new.fleet ≡ old.fleet)
 Accepts old (Compact id) answer new = Compacts old.knows id answer new.knows × (new.fleet ≡ old.fleet)
 Accepts old (BeginClean ids) answer new = BeginsPass old.knows ids answer new.knows × (new.fleet ≡ old.fleet)
@@ -37,17 +43,36 @@ Accepts old Free answer new = Frees old answer new
 
 -- ---- refused
 
--- the take of an op like this failed; after a fault its op may have been taken, and the master stays halted
+-- The take of an op like this failed. After a fault its op may have been taken. If the backup then counts as failed, a
+-- failover is open; else the master stays halted.
 abbrev pub FailsTake : (Op → Type 0) → World → Refusal → World → Type 0
 FailsTake IsOp old refusal.NoMemory new = new ≡ old
 FailsTake IsOp old refusal.Spent new = (old.fleet.takes ≡ old.fleet.end) × (new ≡ old)
-FailsTake IsOp old refusal.Halted new = (new.knows ≡ halted old.knows)
+FailsTake IsOp old (refusal.Lost b) new = (may_lose old.knows ≡ true) × (new.knows ≡ lost_data old.knows b)
+    × ((op : Op) × IsOp op × IsOn b op
+    × RefusesOp old.knows.config.master old.fleet op take_fault.Fault new.fleet)
+FailsTake IsOp old refusal.Halted new = (may_lose old.knows ≡ false) × (new.knows ≡ halted old.knows)
     × ((op : Op) × IsOp op × RefusesOp old.knows.config.master old.fleet op take_fault.Fault new.fleet)
 FailsTake IsOp old _ new = ⊥
 
 -- the op is the next one of a push
 abbrev pub IsPushOp : World → Op → Type 0
-IsPushOp old op = (answer : StepAnswer) × (e : FailData) × IsNextOp old.knows op answer e
+IsPushOp old op = ((answer : StepAnswer) × (e : FailData) × IsNextOp old.knows op answer e)
+    ⊎ ((push : Mend) × (e : FailData) × IsNextMend old.knows push × (push ≡ mend.Turn → ⊥)
+    × IsMendOp old.knows push op e)
+
+-- the new head of the open failover may not be opened: the master stays halted, though no backup was asked
+abbrev pub IsStuck : World → Refusal → World → Type 0
+IsStuck old r new = IsNextMend old.knows mend.Turn × (may_turn old.knows ≡ false) × (r ≡ refusal.Halted)
+    × (new ≡ record old { knows = halted old.knows })
+
+-- The first Open of the new head ended in a fault. It may have been taken, so the head has its id, and the master stays
+-- halted.
+abbrev pub FailsTurn : World → Refusal → World → Type 0
+FailsTurn old r new = IsNextMend old.knows mend.Turn × (r ≡ refusal.Halted)
+    × (new.knows ≡ halted (turned_data old.knows))
+    × ((op : Op) × (e : FailData) × IsMendOp old.knows mend.Turn op e
+    × RefusesOp old.knows.config.master old.fleet op take_fault.Fault new.fleet)
 
 -- A refusal is the one of the first test that fails. If no test fails, it comes from memory or from the fleet. It
 -- changes nothing, except after a fault: then the master stays halted.
@@ -64,7 +89,8 @@ Declines old (BeginClean ids) r new = (new ≡ old)
 Declines old Copy r new = (new ≡ old) × (copy_refusal old.knows ≡ Some r)
 Declines old Push r new =
     ((push_refusal old.knows ≡ Some r) × (new ≡ old))
-    ⊎ ((push_refusal old.knows ≡ None) × FailsTake (IsPushOp old) old r new)
+    ⊎ ((push_refusal old.knows ≡ None)
+    × (IsStuck old r new ⊎ (FailsTurn old r new ⊎ FailsTake (IsPushOp old) old r new)))
 Declines old Seal r new =
     ((seal_refusal old.knows ≡ Some r) × (new ≡ old))
     ⊎ ((seal_refusal old.knows ≡ None) × FailsTake (IsSealOp old.knows) old r new)

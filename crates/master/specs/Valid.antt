@@ -1,21 +1,24 @@
 -- What is true of every master and its fleet, after each step.
-use Rattle.std.specs.Prelude.{◌≡◌, ◌≤◌, ◌↔◌, ℕ, length, true, None, IsSome}
+use Rattle.std.specs.Prelude.{◌≡◌, ◌≤◌, ◌⊎◌, ◌↔◌, ℕ, length, true, None, IsSome}
 use Rattle.entry.specs.Bag.{IsAmong}
 use Rattle.replica.specs.Picture.{FleetState}
 use Rattle.versioned_map.specs.History.{IsLegal}
-use Rattle.failover_model.specs.Data.{durable_of}
+use Rattle.failover_model.specs.Data.{Mends, durable_of}
 use Rattle.failover_bytes.specs.Choice.{Counts, IsNewestCounted, newest_opened}
 use Rattle.failover_bytes.specs.Sound.{IsSoundInBytes}
 use Rattle.failover_clean.specs.Covered.{IsCovered}
 use Rattle.failover_clean.specs.Fleet.{CountsDurable, read_of, shown_for}
 use Rattle.failover_clean.specs.Memory.{log_ids}
 use Rattle.master_state.specs.Budget.{used_seglets}
-use Rattle.master_state.specs.Causes.{is_pushed}
+use Rattle.master_state.specs.Causes.{is_done}
 use Rattle.master_state.specs.Config.{config_fault}
 use Rattle.master_state.specs.Data.{MasterData}
 use Rattle.master_state.specs.Log.{opening_of, log_of, state_now, durable_now, image_of, memory_of, IsIndexed}
 use Rattle.master.specs.Placed.{IsPlaced}
-use Rattle.master.specs.Registry.{IsUnraised}
+
+-- the first head, if a backup's failure has kept it from being open: a new one takes its place
+abbrev pub IsGivenUp : MasterData → ℕ → Type 0
+IsGivenUp d s = ((log_of d).mode ≡ Mends) × ((log_of d).head.start.id ≡ 0) × (s ≡ d.head.id)
 
 -- What is true of a master, by what it knows and what its fleet holds. `Master::show_valid` gives it at any time, and
 -- each step keeps it. Three of its fields are what the store is for. `legal`: the replies are those of the versioned
@@ -32,8 +35,8 @@ pub record IsValid (d : MasterData) (f : FleetState) : Type 0 where
   pub index : IsIndexed d
   -- the version that the next new key gets is the map's
   pub safe : d.safe ≡ (state_now d).safe
-  -- memory has an image of each segment of the log set, and of no other
-  pub imaged : (s : ℕ) → IsSome (image_of d s) ↔ IsAmong s (log_ids (log_of d) (memory_of d))
+  -- memory has an image of each segment of the log set, and of no other, but for a first head that is given up
+  pub imaged : (s : ℕ) → IsSome (image_of d s) ↔ (IsAmong s (log_ids (log_of d) (memory_of d)) ⊎ IsGivenUp d s)
   -- no more seglets of memory are counted than there are
   pub budget : used_seglets d ≤ d.config.seglets
   -- whatever backups are left, they hold a prefix that has each durable command, or a loss is named
@@ -43,12 +46,10 @@ pub record IsValid (d : MasterData) (f : FleetState) : Type 0 where
       (newest_opened (log_of d))
   -- a segment's replicas go to its homes
   pub placed : IsPlaced d
-  -- any head of the master may be used
-  pub least : IsUnraised d.config.master f
   -- memory and the replicas of the log hold the map
   pub covered : IsCovered (log_of d) (memory_of d) (read_of (log_of d) f)
   pub durable : CountsDurable (log_of d) (shown_for (log_of d) f)
   -- what the master counts is the durable count
   pub counted : durable_now d ≡ durable_of (log_of d)
   -- if nothing waits to be pushed, each record is durable
-  pub pushed : is_pushed d.head ≡ true → durable_of (log_of d) ≡ length d.history
+  pub pushed : is_done d ≡ true → durable_of (log_of d) ≡ length d.history

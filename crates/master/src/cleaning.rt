@@ -2,7 +2,7 @@
 
 ghost use Rattle.std.specs.Prelude.{◌≡◌, None, true, IfOk, IfErr, OnErr};
 ghost use Rattle.tablet_will.specs.Sizes.{are_sizes};
-ghost use Rattle.master_space.specs.Choosing.{chosen, next_step, NeedsChoice};
+ghost use Rattle.master_space.specs.Choosing.{chosen, next_step, pending_step, NeedsChoice};
 ghost use Rattle.master_state.specs.Log.{state_now};
 ghost use Rattle.master_state.specs.Sizes.{AreSizesOf};
 ghost use Rattle.master.specs.Steps.{Accepts, Declines};
@@ -10,7 +10,7 @@ ghost use Rattle.master.specs.World.{world};
 
 use crate::master::Master;
 use entry::{NoMemory, Row, Size};
-use master_core::{Chooses, Cleans, Measures, Posting, Refusal, Step, StepAnswer};
+use master_core::{Chooses, Cleans, Measures, Posting, Refusal, Step, StepAnswer, pending_step};
 use replica::{Act, Fleet, Op};
 
 impl<F: Fleet> Master<F> {
@@ -23,14 +23,22 @@ impl<F: Fleet> Master<F> {
         self.core.choose()
     }
 
-    /// The step that a cleaner makes next: an open pass goes on, then a roll, then what waits is freed, and then the
-    /// next pass begins, if it may and has victims. `None` if nothing is to be done. It is never a command. Nothing
-    /// changes, and only a choice of victims takes memory.
+    /// The step that a cleaner makes next: an open failover goes on, then an open pass, then a roll, then what waits is
+    /// freed, and then the next pass begins, if it may and has victims. `None` if nothing is to be done. It is never a
+    /// command. Nothing changes, and only a choice of victims takes memory.
     pub fn next_step(&self) -> Result<Option<Step>, NoMemory>
         ensures next { IfOk result (λ step. step ≡ next_step self.now.knows) }
         ensures refused { OnErr result ((self.now.knows.pass ≡ None) × NeedsChoice self.now.knows) }
     {
         self.core.next_step()
+    }
+
+    /// The step that is under way: an open failover goes on, then an open pass, then a roll, and then what waits is freed.
+    /// `None` if nothing is. Nothing changes, and it takes no memory.
+    pub fn pending_step(&self) -> Option<Step>
+        ensures { result ≡ pending_step self.now.knows }
+    {
+        pending_step(&self.core)
     }
 
     /// The sizes of the live objects, by table, then by place. Each is the length of the object's entry, and lies in a
@@ -65,9 +73,7 @@ impl<F: Fleet> Master<F> {
         ensures accepted { IfOk result (λ a. Accepts (world F.state self.old) Step.Seal a (world F.state self.new)) }
         ensures refused { IfErr result (λ r. Declines (world F.state self.old) Step.Seal r (world F.state self.new)) }
     {
-        if self.core.is_halted() {
-            return Err(Refusal::Halted);
-        }
+        self.core.admit()?;
         let Some((survivor, replica)) = self.core.to_seal() else {
             return Err(Refusal::Nothing);
         };
@@ -79,7 +85,7 @@ impl<F: Fleet> Master<F> {
                 self.core.sealed();
                 Ok(StepAnswer::Sealed(backup))
             }
-            Err(fault) => Err(self.core.fail(fault)),
+            Err(fault) => Err(self.core.fail(backup, fault)),
         }
     }
 
@@ -88,9 +94,7 @@ impl<F: Fleet> Master<F> {
         ensures accepted { IfOk result (λ a. Accepts (world F.state self.old) Step.Free a (world F.state self.new)) }
         ensures refused { IfErr result (λ r. Declines (world F.state self.old) Step.Free r (world F.state self.new)) }
     {
-        if self.core.is_halted() {
-            return Err(Refusal::Halted);
-        }
+        self.core.admit()?;
         let Some((segment, replica)) = self.core.to_free() else {
             return Err(Refusal::Nothing);
         };
@@ -105,7 +109,7 @@ impl<F: Fleet> Master<F> {
                 self.core.freed();
                 Ok(StepAnswer::Freed(segment, backup))
             }
-            Err(fault) => Err(self.core.fail(fault)),
+            Err(fault) => Err(self.core.fail(backup, fault)),
         }
     }
 }

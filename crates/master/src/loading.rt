@@ -2,7 +2,7 @@
 
 ghost use Rattle.std.specs.Prelude.{◌≡◌, ◌≤◌, ℕ, None, true, false, IfOk, IfErr, OnOk, OnErr};
 ghost use Rattle.entry.specs.View.{shown_object};
-ghost use Rattle.master_state.specs.Causes.{is_pushed};
+ghost use Rattle.master_state.specs.Causes.{is_done};
 ghost use Rattle.master_state.specs.Config.{config_fault};
 ghost use Rattle.master_state.specs.Loading.{restored_data, IsNewObject, Loads, Settles};
 ghost use Rattle.master.specs.Loading.{IsNewEntry, LoadsEntry, DeclinesLoad, KeepsLoading};
@@ -143,9 +143,9 @@ impl<F: Fleet> Loading<F> {
     pub fn finish(self) -> Result<Master<F>, Loading<F>>
         ensures settled { IfOk result (λ m. Settles self.knows m.knows × (m.fleet ≡ self.fleet)) }
         ensures valid { IfOk result (λ m. IsValid m.knows (F.state m.fleet)) }
-        ensures done { OnOk result (is_pushed self.knows.head ≡ true) }
+        ensures done { OnOk result (is_done self.knows ≡ true) }
         ensures refused { IfErr result (λ l. l ≡ self) }
-        ensures lags { OnErr result (is_pushed self.knows.head ≡ false) }
+        ensures lags { OnErr result (is_done self.knows ≡ false) }
     {
         if !self.core.can_finish() {
             return Err(self);

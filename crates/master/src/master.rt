@@ -1,10 +1,12 @@
 //! One master over a fleet of backups.
 
 ghost use Rattle.std.specs.Prelude.{List, ◌⊎◌, ◌≡◌, ◌≤◌, ◌<◌, ℕ, None, Ok, Err, length, IfOk, IfErr, IfSome};
-ghost use Rattle.std.specs.Prelude.{OnOk, OnErr};
+ghost use Rattle.std.specs.Prelude.{OnOk, OnErr, ◌↔◌, ◌+◌, ◌*◌};
 ghost use Rattle.std.specs.Result.{result_err};
 ghost use Rattle.history.specs.View.{shown_command};
 ghost use Rattle.failover_model.specs.Data.{durable_of};
+ghost use Rattle.master_mending.specs.Left.{left_now};
+ghost use Rattle.master_state.specs.Budget.{most_segments};
 ghost use Rattle.master_state.specs.Causes.{command_refusal};
 ghost use Rattle.master_state.specs.Steps.{IsFound, reply_now};
 ghost use Rattle.master_state.specs.Config.{config_fault};
@@ -12,6 +14,7 @@ ghost use Rattle.master_state.specs.Data.{fresh_data};
 ghost use Rattle.master_state.specs.Log.{log_of};
 ghost use Rattle.master.specs.Invariant.{IsWellKept};
 ghost use Rattle.master.specs.Keeps.{Keeps};
+ghost use Rattle.master.specs.Left.{GoesOn};
 ghost use Rattle.master.specs.Registry.{IsUnraised};
 ghost use Rattle.master.specs.Steps.{Accepts, Declines, Steps, PushesFor, IsRun};
 ghost use Rattle.master.specs.Valid.{IsValid};
@@ -20,7 +23,7 @@ ghost use Rattle.master.specs.World.{world};
 use crate::{pushing, retiring};
 use entry::{NoMemory, Tablet};
 use history::{CommandRef, History};
-use master_core::{Commands, Compacts, Config, Core, Refusal, Rolls, Step, StepAnswer};
+use master_core::{Commands, Compacts, Config, Core, Mends, Refusal, Rolls, Step, StepAnswer};
 use replica::{Bench, Fleet, TakeFault};
 use std::alloc::Global;
 use std::marker::Model;
@@ -36,8 +39,9 @@ use versioned_map::{Command, Reply};
 ///
 /// - What holds: `show_valid`, after each step. Stop after any step, drop the master, lose backups: a recovery finds
 ///   each durable command, or names the head or the segment that is lost.
-/// - Refusals: each step names its own (`Refusal`), and then nothing has changed. After `Fault` the backup may have
-///   taken the op, and the master is halted: it takes no further step, and a recovery goes on.
+/// - Refusals: each step names its own (`Refusal`), and then nothing has changed. After a fault of a backup that may have
+///   taken the op. If the refusal is `Lost`, the master goes on without it, and pushes end the failover; if it is
+///   `Halted`, the master takes no further step, and a recovery goes on.
 /// - Cost: a command hashes its key, looks it up, and copies its unit to the end of the head; it scans nothing. An
 ///   object takes its entry in a segment and a place in the index, and each command a record in the history until the
 ///   master ends.
@@ -102,7 +106,7 @@ impl<F: Fleet> Master<F> {
     }
 
     /// What is true before and after each method.
-    fn show_kept(&self)
+    pub fn show_kept(&self)
         ensures { IsWellKept self.now.knows (F.state self.now.fleet) }
     {
         let _alloc = self.alloc;
@@ -152,6 +156,15 @@ impl<F: Fleet> Master<F> {
         self.core.history()
     }
 
+    /// How many pushes the open failover still needs, at most: 0 just if none is open. Each of its pushes lowers it.
+    pub fn failover_left(&self) -> u64
+        ensures left { result ≡ left_now self.now.knows }
+        ensures none { (self.now.knows.failover ≡ None) ↔ (result ≡ 0) }
+        ensures few { result ≤ self.now.knows.config.replicas * (most_segments self.now.knows.config + 2) + 1 }
+    {
+        self.core.failover_left()
+    }
+
     /// Which test would refuse a step with this command, if any. It does not look at memory.
     pub fn would(&self, _seat: u64, command: &Command) -> Result<(), Refusal>
         ensures { result_err result ≡ command_refusal self.now.knows command.now }
@@ -175,6 +188,7 @@ impl<F: Fleet> Master<F> {
     pub fn step(&mut self, step: Step) -> Result<StepAnswer, Refusal>
         ensures was_valid { IsValid self.old.knows (F.state self.old.fleet) }
         ensures gives { Steps (world F.state self.old) step result (world F.state self.new) }
+        ensures goes_on { GoesOn (world F.state self.old) step result (world F.state self.new) }
         ensures keeps { Keeps 1 (world F.state self.old) (world F.state self.new) }
         ensures valid { IsValid self.new.knows (F.state self.new.fleet) }
     {

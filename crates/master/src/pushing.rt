@@ -1,12 +1,13 @@
 //! One op of a push, on the core of a master and its fleet.
 
-ghost use Rattle.std.specs.Prelude.{◌≡◌, ◌<◌, length, Some, false, IfOk, IfErr};
+ghost use Rattle.std.specs.Prelude.{◌≡◌, ◌<◌, length, None, Some, false, IsSome, IfOk, IfErr};
 ghost use Rattle.log_head.specs.Next.{IsNextPush};
 ghost use Rattle.master.specs.Invariant.{IsServed, StaysServed};
 ghost use Rattle.master.specs.Pushes.{answer_of};
 ghost use Rattle.master.specs.Steps.{Accepts, Declines, PushesFor};
 ghost use Rattle.master.specs.World.{world_of};
 
+use crate::mending::mend;
 use log_head::Next;
 use master_core::{Core, Refusal, Rolls, Step, StepAnswer};
 use replica::Fleet;
@@ -22,6 +23,9 @@ pub(crate) fn push<F: Fleet>(core: &mut Core, fleet: &mut F) -> Result<StepAnswe
 {
     if core.is_halted() {
         return Err(Refusal::Halted);
+    }
+    if core.failover.is_some() {
+        return mend(core, fleet);
     }
     match core.next_push() {
         None => Err(Refusal::Nothing),
@@ -41,6 +45,9 @@ pub(crate) fn push_for<F: Fleet>(
         (world_of core.new (F.state fleet.new)) }
     ensures served { StaysServed core.old (F.state fleet.old) core.new (F.state fleet.new) }
 {
+    if core.failover.is_some() {
+        return mend_for(core, fleet, place);
+    }
     let Some(next) = core.next_push_for(place) else {
         return Ok(true);
     };
@@ -53,10 +60,32 @@ pub(crate) fn push_for<F: Fleet>(
     }
 }
 
+/// The same while a failover is open: the durable count stays as it began.
+fn mend_for<F: Fleet>(core: &mut Core, fleet: &mut F, place: u64) -> Result<bool, Refusal>
+    requires within { place < length core.old.history }
+    requires failing { IsSome core.old.failover }
+    requires served { IsServed core.old (F.state fleet.old) }
+    ensures gives { PushesFor place (world_of core.old (F.state fleet.old)) result
+        (world_of core.new (F.state fleet.new)) }
+    ensures served { StaysServed core.old (F.state fleet.old) core.new (F.state fleet.new) }
+{
+    if place < core.durable() {
+        return Ok(true);
+    }
+    if core.is_halted() {
+        return Err(Refusal::Halted);
+    }
+    match mend(core, fleet) {
+        Ok(_) => Ok(false),
+        Err(refusal) => Err(refusal),
+    }
+}
+
 /// Hands the op of a push to its backup.
 #[inline(always)]
 fn hand<F: Fleet>(core: &mut Core, fleet: &mut F, next: Next) -> Result<StepAnswer, Refusal>
     requires running { core.old.is_halted ≡ false }
+    requires calm { core.old.failover ≡ None }
     requires next { IsNextPush core.old.head (Some next) }
     requires served { IsServed core.old (F.state fleet.old) }
     ensures accepted { IfOk result (λ a.
@@ -74,7 +103,7 @@ fn hand<F: Fleet>(core: &mut Core, fleet: &mut F, next: Next) -> Result<StepAnsw
             core.took(next);
             Ok(answer(next, backup, segment))
         }
-        Err(fault) => Err(core.fail(fault)),
+        Err(fault) => Err(core.fail(backup, fault)),
     }
 }
 
@@ -85,6 +114,7 @@ fn answer(next: Next, backup: u64, segment: u64) -> StepAnswer
     match next {
         Next::OpenFirst(_) => StepAnswer::Opened(backup, segment),
         Next::Extend(_) => StepAnswer::Extended(backup, segment),
+        Next::OpenWhole(_) => StepAnswer::Opened(backup, segment),
         Next::OpenNew(_) => StepAnswer::Opened(backup, segment),
         Next::CloseOld(_) => StepAnswer::Closed(backup, segment),
     }

@@ -22,7 +22,7 @@ pub(crate) fn retire<F: Bench>(core: &mut Core, fleet: &mut F) -> Result<(), Tak
         Ok(()) => Ok(()),
         Err(fault) => match fault {
             TakeFault::Fault => {
-                let _ = core.fail(TakeFault::Fault);
+                core.halt();
                 Err(TakeFault::Fault)
             }
             _ => Err(fault),

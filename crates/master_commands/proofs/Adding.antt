@@ -1,7 +1,7 @@
 -- A command that no test refuses is added to a core.
 use Rattle.std.proofs.Common.{◌≡◌, ◌⊎◌, ℕ, ◌+◌, ◌≤◌, inl, inr, Bool, true, false, ◌==◌, List, [], ◌∷◌, ◌++◌, length}
 use Rattle.std.proofs.Common.{refl, sym, ap, subst, ◌∙◌, arith}
-use Rattle.std.specs.Prelude.{Option, Some, None, IfSome, IsSome, ◌<◌, nat_le, sum_by, if◌then◌else◌}
+use Rattle.std.specs.Prelude.{Option, Some, None, IfSome, IsSome, ◌<◌, sum_by, if◌then◌else◌}
 use Rattle.std.specs.Option.{option_map, option_map_or}
 use Rattle.std.proofs.lemmas.Bool.{eqb-true}
 use Rattle.versioned_map.specs.Represents.{unit_of}
@@ -41,32 +41,33 @@ use Rattle.failover_model.specs.Steps.{applied}
 use Rattle.master_commands.specs.declared.change.Change.{Change}
 use Rattle.master_state.specs.declared.step.StepAnswer.TheVariants.{Applied}
 use Rattle.images.specs.Images.{count_of}
-use Rattle.master_state.specs.declared.config.Config.{Config}
-use Rattle.master_state.specs.Budget.{whole_seglets, seglets_of, head_seglets, used_seglets, newest_digest}
+use Rattle.cleaner.specs.Seals.{first_lacking}
+use Rattle.master_state.specs.declared.failover.Failover.{Failover}
+use Rattle.master_state.specs.Budget.{head_seglets, used_seglets, newest_digest, is_working}
 use Rattle.master_state.specs.Budget.{victims_of, survivors_of, is_committing}
 use Rattle.master_state.specs.Causes.{command_refusal, dead_segment, unit_now, is_empty}
 use Rattle.master_commands.specs.Change.{unit_of_change, safe_of_change, IsJudged, IsSought}
 use Rattle.master_state.specs.Steps.{appended, reply_now, record_now, Applies, Fits, MayApplyNow}
-use Rattle.master_state.specs.Ledger.{counts_in, shut_in, took_in}
 use Rattle.master_state.specs.Data.{MasterData}
 use Rattle.master_state.specs.Images.{images_among}
 use Rattle.compactor.specs.Places.{keys_in}
 use Rattle.master_state.specs.Index.{LiesFound}
-use Rattle.master_state.specs.Invariant.{IsIndex, IsFirst, IsRollOf, IsOpenPass, NameBelow, IsCore}
-use Rattle.master_state.specs.Log.{fail_config, opening_of, is_opened, in_force, mode_of, log_of, state_now, held_now}
+use Rattle.master_state.specs.Invariant.{IsIndex, IsFirst, IsRollOf, IsOpenPass, IsFailover, NameBelow, IsCore}
+use Rattle.master_state.specs.Log.{opening_of, is_headless, in_force, mode_of, log_of, state_now, held_now}
 use Rattle.master_state.specs.Log.{images_of, find, log_set_ids}
 use Rattle.master_state.proofs.Finding.{each_among, index_of}
 use Rattle.master_state.proofs.Imaging.{same_id, head_images, appended_grow, appended_own, appended_other}
 use Rattle.master_state.proofs.Indexing.{Grow, Indexes}
 use Rattle.master_commands.proofs.Changes.{unit_names}
-use Rattle.master_commands.proofs.HeadsInForce.{open_opened, open_calm, mode_same, force_unit}
+use Rattle.master_commands.proofs.HeadsInForce.{open_headed, open_calm, headless_same, mode_same, force_unit}
 use Rattle.master_commands.proofs.Indexed.{IsMovedBy, WasFound, was_found, given, command_at, goes_on, KeepsOthers}
 use Rattle.master_commands.proofs.Indexed.{keeps_others}
 use Rattle.master_state.proofs.Holding.{kept_again}
 use Rattle.master_state.proofs.Naming.{dead_below}
 use Rattle.master_state.proofs.Passing.{GoesOn, goes_on as goes_on_pass, victim_below}
 use Rattle.cleaner.proofs.Ends.{rest_segment}
-use Rattle.master_state.proofs.Refusals.{IsAdmitted, is_admitted, passed_early, unit_fits, unit_open, open_parts}
+use Rattle.master_state.proofs.Refusals.{IsAdmitted, is_admitted, passed_early, unit_fits, unit_working, working_parts}
+use Rattle.master_state.proofs.Refusals.{open_parts}
 
 -- ---- the head with a unit, where there is one
 
@@ -113,16 +114,15 @@ within_then h n most (e ∷ es) within fits =
     let len = length-append (text_of h.image) (text_of (e ∷ es)) in
     omega arith
 
--- a unit changes no count: a head that takes one has no roll
-pub counts_then : (c : Config) (h : HeadValue) (n : ℕ) (u : List Entry) → (is_empty u ≡ false → is_open h ≡ true)
-    → head_seglets c (appended h n u) ≡ head_seglets c h
-counts_then c h n [] opened = refl
-counts_then c h n (e ∷ es) opened =
-    let none = (open_parts h (opened refl)).1 in
-    ap (λ (o : Option Roll). option_map_or (λ (r : Roll). seglets_of c (h.image ++ (e ∷ es)) + whole_seglets c) o
-    (whole_seglets c)) none
-    ∙ ap (λ (o : Option Roll). option_map_or (λ (r : Roll). seglets_of c h.image + whole_seglets c) o
-    (whole_seglets c)) (sym none)
+-- a unit changes no count: a head that takes one has no roll, and no failover is open
+pub counts_then : (d : MasterData) (n : ℕ) (u : List Entry) → (is_empty u ≡ false → is_working d ≡ true)
+    → head_seglets (record d { head = appended d.head n u }) ≡ head_seglets d
+counts_then d n [] works = refl
+counts_then d n (e ∷ es) works =
+    let parts = working_parts d (works refl) in
+    let calm = parts.1 in
+    let none = (open_parts d.head parts.0).1 in
+    rw (none, calm) refl
 
 -- where a change puts its object, if it makes one
 abbrev pub IsPlaced : MasterData → Command → Change → ℕ → Type 0
@@ -168,20 +168,11 @@ module _ (d : MasterData) (core : IsCore d) (command : Command) (change : Change
     unit = unit_of_change dead command change
 
     abbrev pub added : MasterData
-    added = record {
-      config = d.config;
+    added = record d {
       head = appended d.head (length d.history) (unit_of_change dead command change);
-      closed = d.closed;
-      next = d.next;
       index = new;
       safe = safe_of_change d.safe change;
       history = d.history ++ record_now d seat command ∷ [];
-      pass = d.pass;
-      waiting = d.waiting;
-      freed = d.freed;
-      is_halted = d.is_halted;
-      origin = d.origin;
-      ledger = d.ledger;
     }
 
     admitted : IsAdmitted d command
@@ -198,53 +189,52 @@ module _ (d : MasterData) (core : IsCore d) (command : Command) (change : Change
               (length d.history) u;
         }) unit_is
 
+    -- what appends a unit works
+    works : is_empty unit ≡ false → is_working d ≡ true
+    works some = unit_working d command passed (ap is_empty (sym unit_is) ∙ some)
+
+    works_now : (unit_now d command ≡ []) ⊎ (is_working d ≡ true)
+    works_now = go (unit_now d command) refl where
+      go : (u : List Entry) → unit_now d command ≡ u → (u ≡ []) ⊎ (is_working d ≡ true)
+      go [] is = inl refl
+      go (e ∷ es) is = inr (unit_working d command passed (ap is_empty is))
+
     fits_now : (unit_now d command ≡ []) ⊎ Fits d (unit_now d command)
     fits_now =
         subst (λ (u : List Entry). (u ≡ []) ⊎ Fits d u) unit_is
-        (fits_then d (length d.history) unit
-        (λ some. unit_open d command passed (ap is_empty (sym unit_is) ∙ some)) head)
+        (fits_then d (length d.history) unit (λ some. (working_parts d (works some)).0) head)
 
-    opened_then : is_opened added.head ≡ is_opened d.head
-    opened_then =
-        let same = (same_appended d.head (length d.history) unit).1 in
-        let taken = taken_appended d.head (length d.history) unit in
-        λ i. nat_le (same i) (length (taken i))
+    headless_then : is_headless added ≡ is_headless d
+    headless_then =
+        headless_same d added refl (same_appended d.head (length d.history) unit).1
+        (taken_appended d.head (length d.history) unit)
 
-    force_then : in_force d.config.format added.head ≡ record (in_force d.config.format d.head)
-        { units = with_unit (in_force d.config.format d.head).units (length d.history) (unit_now d command) }
+    force_then : in_force added ≡ record (in_force d)
+        { units = with_unit (in_force d).units (length d.history) (unit_now d command) }
     force_then =
-        force_unit d.config.format (length d.history) (unit_now d command) d.head added.head opened_then head_then
-        (elim fits_now as (λ _. (unit_now d command ≡ []) ⊎ (is_opened d.head ≡ true)) [
+        force_unit d added (length d.history) (unit_now d command) refl headless_then head_then
+        (elim works_now as (λ _. (unit_now d command ≡ []) ⊎ (is_headless d ≡ false)) [
           | inl none ↦ inl none
-          | inr fits ↦ inr (open_opened d.head fits.opened)
+          | inr is ↦ (let parts = working_parts d is in inr (open_headed d parts.0 parts.1))
         ])
 
-    mode_then : mode_of added.head ≡ mode_of d.head
+    mode_then : mode_of added ≡ mode_of d
     mode_then =
         let same = same_appended d.head (length d.history) unit in
-        mode_same d.head added.head same.1 (taken_appended d.head (length d.history) unit) same.2
+        mode_same d added refl same.1 (taken_appended d.head (length d.history) unit) same.2
         (ap (λ (l : Head). l.start) head_then)
 
     log_then : log_of added ≡ applied (log_of d) (dead_segment d command) (record_now d seat command)
-    log_then = λ i. record {
-      config = fail_config d.config;
-      opening = opening_of d;
+    log_then = λ i. record (log_of d) {
       history = d.history ++ record_now d seat command ∷ [];
       head = force_then i;
-      counts = counts_in d.ledger;
-      shut = shut_in d.ledger;
       mode = mode_then i;
-      abandoned = [];
-      took = took_in d.ledger;
-      failed = [];
-      frozen = 0;
-      next = d.next;
     }
 
-    calm_now : (unit_now d command ≡ []) ⊎ (mode_of d.head ≡ Calm)
-    calm_now = elim fits_now as (λ _. (unit_now d command ≡ []) ⊎ (mode_of d.head ≡ Calm)) [
+    calm_now : (unit_now d command ≡ []) ⊎ (mode_of d ≡ Calm)
+    calm_now = elim works_now as (λ _. (unit_now d command ≡ []) ⊎ (mode_of d ≡ Calm)) [
       | inl none ↦ inl none
-      | inr fits ↦ inr (open_calm d.head fits.opened)
+      | inr is ↦ (let parts = working_parts d is in inr (open_calm d parts.0 parts.1))
     ]
 
     pub may : MayApplyNow d seat command
@@ -376,8 +366,7 @@ module _ (d : MasterData) (core : IsCore d) (command : Command) (change : Change
     used_then : used_seglets added ≡ used_seglets d
     used_then =
         ap (λ (n : ℕ). n + sum_by (count_of d.config.segment d.config.seglet) d.closed)
-        (counts_then d.config d.head (length d.history) unit
-        (λ some. unit_open d command passed (ap is_empty (sym unit_is) ∙ some)))
+        (counts_then d (length d.history) unit works)
 
     module _ (p : OpenPass) (is : IsOpenPass d p) where
       abbrev rest : List Place
@@ -409,6 +398,8 @@ module _ (d : MasterData) (core : IsCore d) (command : Command) (change : Change
             keeps = subst (λ (ids : List ℕ). KeepsNoMore (log_set_ids d) ids d.index new (images_in d.closed) rest)
                 (sym ids_then) keeps_no_more;
             live = λ k q finds victim. others_on.found_on k q (λ same. not_victim q victim same) finds;
+            replicas = λ s m. refl;
+            failed = λ none. none;
             free = λ early. (let used = used_then in omega arith);
             listed = λ early. (let ids = ap (λ (l : List ℕ). length l) newest_then in omega arith);
             rolls = λ commits some. subst (λ (o : Option Roll). IsSome o) (sym same.2) some;
@@ -441,16 +432,39 @@ module _ (d : MasterData) (core : IsCore d) (command : Command) (change : Change
           used = is.used;
         }
 
-    -- a head that is not opened takes no unit
-    first_then : is_opened added.head ≡ false → IsFirst added.head
+    -- a head that isn't in force takes no unit
+    first_then : is_headless added ≡ true → IsFirst added.head
     first_then not =
-        let was = core.first (sym opened_then ∙ not) in
-        elim fits_now as (λ _. IsFirst added.head) [
+        let was = core.first (sym headless_then ∙ not) in
+        elim works_now as (λ _. IsFirst added.head) [
           | inl none ↦ subst (λ (u : List Entry). IsFirst (appended d.head (length d.history) u))
               (sym (unit_is ∙ none)) was
-          | inr fits ↦ (let never : false ≡ true = sym not ∙ opened_then ∙ open_opened d.head fits.opened in
-              absurd (cc))
+          | inr is ↦ (let parts = working_parts d is in
+              let never : true ≡ false = sym not ∙ headless_then ∙ open_headed d parts.0 parts.1 in absurd (cc))
         ]
+
+    -- while a failover is open nothing is appended
+    failover_then : IfSome d.failover (IsFailover added)
+    failover_then = go d.failover refl core.failover where
+      stays : (f : Failover) → IsFailover d f → unit ≡ [] → IsFailover added f
+      stays f is none =
+          subst (λ (u : List Entry). IsFailover (record added { head = appended d.head (length d.history) u }) f)
+          (sym none) (record {
+            some = is.some;
+            closed = is.closed;
+            mends = is.mends;
+            opens = is.opens;
+            first = is.first;
+            closes = is.closes;
+            repairs = is.repairs;
+          })
+
+      go : (o : Option Failover) → d.failover ≡ o → IfSome o (IsFailover d) → IfSome o (IsFailover added)
+      go None at is = tt
+      go (Some f) at is = elim works_now as (λ _. IsFailover added f) [
+        | inl none ↦ stays f is (unit_is ∙ none)
+        | inr working ↦ (let calm = (working_parts d working).1 in absurd (cc))
+      ]
 
     pub added_core : IsCore added
     added_core = record {
@@ -471,10 +485,16 @@ module _ (d : MasterData) (core : IsCore d) (command : Command) (change : Change
       roll = roll_then;
       pass = pass_then;
       named = named_then;
-      freed = core.freed;
-      budget = subst (λ (n : ℕ). n + sum_by (count_of d.config.segment d.config.seglet) d.closed ≤ d.config.seglets)
-          (sym (counts_then d.config d.head (length d.history) unit
-          (λ some. unit_open d command passed (ap is_empty (sym unit_is) ∙ some)))) core.budget;
+      replicas_few = core.replicas_few;
+      waiting = core.waiting;
+      digest = (let same = ap (λ (ids : List ℕ). length ids) digest_then in let few = core.digest in omega arith);
+      listed = (let same = ap (λ (ids : List ℕ). length ids) newest_then in let few = core.listed in omega arith);
+      failed = (let f = core.failed in record { few = f.few; there = f.there; apart = f.apart; two = f.two });
+      whole = λ calm. subst (λ (l : Head). first_lacking d.config.replicas d.closed l.start.others ≡ None)
+          (sym head_then) (core.whole calm);
+      failover = failover_then;
+      abandoned = core.abandoned;
+      budget = subst (λ (n : ℕ). n ≤ d.config.seglets) (sym used_then) core.budget;
       legal = legal_then;
       index = index_then;
     }

@@ -1,8 +1,8 @@
 -- An object is loaded to a core, and the loading ends.
 use Rattle.std.proofs.Common.{◌≡◌, ◌⊎◌, ℕ, zero, suc, ◌+◌, ◌<◌, ◌≤◌, inl, inr, Bool, true, false, ◌==◌, List, [], ◌∷◌}
-use Rattle.std.proofs.Common.{◌++◌, length}
+use Rattle.std.proofs.Common.{◌++◌, length, map, filter}
 use Rattle.std.proofs.Common.{refl, sym, ap, subst, ◌∙◌, arith}
-use Rattle.std.specs.Prelude.{◌&&◌, Option, Some, None, IfSome, not, nat_le, sum_by, slice_get, if◌then◌else◌}
+use Rattle.std.specs.Prelude.{◌&&◌, Option, Some, None, IfSome, is_none, not, nat_le, sum_by, slice_get, if◌then◌else◌}
 use Rattle.std.specs.Option.{option_map, option_map_or}
 use Rattle.std.specs.List.{AllByRecursion}
 use Rattle.std.proofs.lemmas.Bool.{and_parts, not-false, eqb-true, leb-true}
@@ -10,6 +10,7 @@ use Rattle.std.proofs.lemmas.List.{append-nil}
 use Rattle.std.proofs.lemmas.Option.{same_Some}
 use Rattle.cleaner.specs.declared.pass.Pass.{Pass as OpenPass}
 use Rattle.cleaner.specs.Passes.{is_ready as is_ready_pass}
+use Rattle.cleaner.specs.Seals.{first_lacking}
 use Rattle.compactor.specs.Places.{IsAtPlace, keys_in}
 use Rattle.entry.specs.declared.key.Key.{Key}
 use Rattle.entry.specs.declared.entry.Object.{Object}
@@ -26,17 +27,18 @@ use Rattle.places.specs.Map.{Places, found}
 use Rattle.images.specs.Images.{count_of}
 use Rattle.log_head.specs.declared.head.Roll.{Roll}
 use Rattle.log_head.specs.declared.head.UnitEnd.{UnitEnd}
-use Rattle.log_head.specs.Head.{HeadValue, IsHeadValue, is_open}
-use Rattle.log_head.specs.Log.{head_of, start_of, settled_head, units_from, IsImageOf}
+use Rattle.log_head.specs.Head.{HeadValue, IsHeadValue, is_open, digest_of}
+use Rattle.log_head.specs.Log.{head_of, settled_head, units_from, IsImageOf}
 use Rattle.log_head.specs.declared.next.Next.{Next}
 use Rattle.log_head.specs.declared.next.Next.TheVariants as next
 use Rattle.log_head.specs.Steps.{with_unit_end, settled, with_new_replica, with_closed_replica, old_image}
 use Rattle.log_head.proofs.Rolls.{zeros_length}
+use Rattle.log_head.proofs.RollLog.{digest_is}
 use Rattle.log_head.proofs.SettledLog.{settled_is, image_settled}
-use Rattle.failover_model.specs.Data.{Calm, Rolls}
+use Rattle.failover_model.specs.Data.{Calm}
 use Rattle.failover_model.specs.Steps.{adopted}
 use Rattle.failover_clean.specs.Loading.{with_object}
-use Rattle.log_model.specs.Data.{Head, fewest}
+use Rattle.log_model.specs.Data.{Head, fewest, ids_of}
 use Rattle.log_model.specs.Ids.{all_inserted}
 use Rattle.log_model.specs.Log.{AreBelow, IsWhole}
 use Rattle.log_model.proofs.Counts.{fewest_below}
@@ -45,41 +47,43 @@ use Rattle.versioned_map.specs.History.{commands_of, IsLegal}
 use Rattle.versioned_map.specs.Versioned.{State, after, with_contents}
 use Rattle.master_commands.specs.declared.change.Change.TheVariants as change
 use Rattle.master_state.specs.declared.step.Refusal.TheVariants.{TooBig, NoTablet, Full, Rolling}
-use Rattle.master_state.specs.Budget.{may_roll, survivors_of}
-use Rattle.master_state.specs.Causes.{has_room, is_pushed}
+use Rattle.master_state.specs.declared.failover.Failover.{Failover}
+use Rattle.master_state.specs.declared.waiting.Waiting.{Waiting}
+use Rattle.master_state.specs.Budget.{used_seglets, newest_digest, is_working, may_roll, survivors_of}
+use Rattle.master_state.specs.Causes.{has_room, is_pushed, is_done}
 use Rattle.master_state.specs.Data.{MasterData}
 use Rattle.master_state.specs.Images.{images_among, with_closed}
 use Rattle.master_state.specs.Index.{LiesFound}
-use Rattle.master_state.specs.Invariant.{IsIndex, IsFirst, IsRollOf, IsOpenPass, NameBelow, IsCore}
+use Rattle.master_state.specs.Invariant.{IsIndex, IsFirst, IsRollOf, IsOpenPass, IsFailover, NameBelow, IsCore}
 use Rattle.master_state.specs.Loading.{IsBare, loaded_unit, is_object_too_big, load_refusal, IsNewObject, origin_with}
 use Rattle.master_state.specs.Loading.{Loads, MayLoadNow, settled_data}
-use Rattle.master_state.specs.Ledger.{counts_in, shut_in, took_in}
 use Rattle.master_state.specs.Steps.{rolling_data, closed_data, roll_ended, taken_data, ledger_after, pushed_data}
-use Rattle.master_state.specs.Log.{fail_config, opening_of, is_opened, mode_of, log_of, state_now, images_of, find}
+use Rattle.master_state.specs.Steps.{still_waits, lost_waiting, lost_data}
+use Rattle.master_state.specs.Log.{opening_of, is_headless, mode_of, log_of, state_now, images_of, find}
 use Rattle.master_commands.proofs.Adding.{head_appended, within_then, counts_then}
-use Rattle.master_commands.proofs.HeadsInForce.{open_opened, open_calm, mode_same, force_unit, force_settled}
+use Rattle.master_commands.proofs.HeadsInForce.{open_headed, open_calm, mode_same, force_unit, force_settled}
 use Rattle.master_state.proofs.Finding.{each_among, index_of}
 use Rattle.master_state.proofs.Imaging.{same_id, head_images, appended_grow, appended_own, appended_other}
 use Rattle.master_state.proofs.Indexing.{Grow, Indexes}
 use Rattle.master_commands.proofs.Indexed.{IsMovedBy, absent_grown, KeepsOthers, put_stands, set_index, put_at_place}
-use Rattle.master_state.proofs.Refusals.{passes, open_parts}
+use Rattle.master_state.proofs.Refusals.{passes, open_parts, working_parts}
 
 -- ---- the tests
 
 -- What holds of an object that no test refuses.
 pub record IsAdmitted (d : MasterData) (o : Object) : Type 0 where
   pub key : have_key d.config.tablets o.key ≡ true
-  pub opened : is_open d.head ≡ true
+  pub works : is_working d ≡ true
   pub room : length (text_of d.head.image) + length (text_of (loaded_unit o)) ≤ d.config.segment
 
 pub is_admitted : (d : MasterData) (o : Object) → load_refusal d o ≡ None → IsAdmitted d o
 is_admitted d o passed =
     let big = passes (is_object_too_big o d.config.segment) TooBig _ passed in
     let key = passes (not (have_key d.config.tablets o.key)) NoTablet _ big.1 in
-    let full = passes (is_open d.head && (not (has_room d (loaded_unit o)) && not (may_roll d 2))) Full _ key.1 in
-    let due = passes (not (is_open d.head && has_room d (loaded_unit o))) Rolling None full.1 in
-    let both = and_parts (is_open d.head) (has_room d (loaded_unit o)) (not-false _ due.0) in
-    record { key = not-false _ key.0; opened = both.0; room = leb-true _ d.config.segment both.1 }
+    let full = passes (is_working d && (not (has_room d (loaded_unit o)) && not (may_roll d 2))) Full _ key.1 in
+    let due = passes (not (is_working d && has_room d (loaded_unit o))) Rolling None full.1 in
+    let both = and_parts (is_working d) (has_room d (loaded_unit o)) (not-false _ due.0) in
+    record { key = not-false _ key.0; works = both.0; room = leb-true _ d.config.segment both.1 }
 
 -- ---- an object
 
@@ -124,41 +128,26 @@ module _ (d : MasterData) (core : IsCore d) (bare : IsBare d) (o : Object) (is_n
       × IsImageOf d.config.master loaded.head (head_of loaded.head)
   head_then = head_appended d.config.master d.head 0 unit core.image head
 
-  opened : is_opened d.head ≡ true
-  opened = open_opened d.head admitted.opened
+  opened : is_open d.head ≡ true
+  opened = (working_parts d admitted.works).0
+
+  calm : d.failover ≡ None
+  calm = (working_parts d admitted.works).1
 
   log_then : log_of loaded ≡ with_object (log_of d) o
   log_then =
-      let force = force_unit d.config.format 0 unit d.head loaded.head refl head_then.0 (inr opened) in
-      let mode = mode_same d.head loaded.head refl refl refl (ap (λ (l : Head). l.start) head_then.0) in
-      λ i. record {
-        config = fail_config d.config;
-        opening = opening_of loaded;
-        history = d.history;
-        head = force i;
-        counts = counts_in d.ledger;
-        shut = shut_in d.ledger;
-        mode = mode i;
-        abandoned = [];
-        took = took_in d.ledger;
-        failed = [];
-        frozen = 0;
-        next = d.next;
-      }
+      let force = force_unit d loaded 0 unit refl refl head_then.0 (inr (open_headed d opened calm)) in
+      let mode = mode_same d loaded refl refl refl refl (ap (λ (l : Head). l.start) head_then.0) in
+      λ i. record (log_of d) { opening = opening_of loaded; head = force i; mode = mode i }
 
   pub may_load : MayLoadNow d o
   may_load = (
-    record {
-      calm = open_calm d.head admitted.opened;
-      key = admitted.key;
-      absent = is_new.absent;
-      low = is_new.low;
-    },
-    record { opened = admitted.opened; segment = head.segment; limit = head.limit },
+    record { calm = open_calm d opened calm; key = admitted.key; absent = is_new.absent; low = is_new.low },
+    record { opened = opened; segment = head.segment; limit = head.limit },
   )
 
-  first_then : is_opened loaded.head ≡ false → IsFirst loaded.head
-  first_then not = (let never : false ≡ true = sym not ∙ opened in absurd (cc))
+  first_then : is_headless loaded ≡ true → IsFirst loaded.head
+  first_then not = (let never : true ≡ false = sym not ∙ open_headed d opened calm in absurd (cc))
 
   -- ---- the index
 
@@ -235,7 +224,21 @@ module _ (d : MasterData) (core : IsCore d) (bare : IsBare d) (o : Object) (is_n
         (appended_other d.head loaded.head d.closed s refl refl away) m)
 
   none : d.head.roll ≡ None
-  none = (open_parts d.head admitted.opened).1
+  none = (open_parts d.head opened).1
+
+  used_then : used_seglets loaded ≡ used_seglets d
+  used_then =
+      ap (λ (n : ℕ). n + sum_by (count_of d.config.segment d.config.seglet) d.closed)
+      (counts_then d 0 unit (λ some. admitted.works))
+
+  digest_then : digest_of loaded.head.image ≡ digest_of d.head.image
+  digest_then =
+      digest_is d.config.master loaded.head (head_of loaded.head) head_then.1
+      ∙ ap (λ (l : Head). ids_of l.start) head_then.0
+      ∙ sym (digest_is d.config.master d.head (head_of d.head) core.image)
+
+  newest_then : newest_digest loaded.head ≡ newest_digest d.head
+  newest_then = λ i. option_map_or (λ (r : Roll). digest_of r.image) d.head.roll (digest_then i)
 
   pub loaded_core : IsCore loaded
   loaded_core = record {
@@ -255,9 +258,16 @@ module _ (d : MasterData) (core : IsCore d) (bare : IsBare d) (o : Object) (is_n
     roll = subst (λ (r : Option Roll). IfSome r (IsRollOf loaded)) (sym none) tt;
     pass = subst (λ (p : Option OpenPass). IfSome p (IsOpenPass loaded)) (sym bare.pass) tt;
     named = named_then;
-    freed = core.freed;
-    budget = subst (λ (n : ℕ). n + sum_by (count_of d.config.segment d.config.seglet) d.closed ≤ d.config.seglets)
-        (sym (counts_then d.config d.head 0 unit (λ some. admitted.opened))) core.budget;
+    replicas_few = core.replicas_few;
+    waiting = core.waiting;
+    digest = (let same = ap (λ (ids : List ℕ). length ids) digest_then in let few = core.digest in omega arith);
+    listed = (let same = ap (λ (ids : List ℕ). length ids) newest_then in let few = core.listed in omega arith);
+    failed = (let f = core.failed in record { few = f.few; there = f.there; apart = f.apart; two = f.two });
+    whole = λ still. subst (λ (l : Head). first_lacking d.config.replicas d.closed l.start.others ≡ None)
+        (sym head_then.0) (core.whole still);
+    failover = subst (λ (f : Option Failover). IfSome f (IsFailover loaded)) (sym calm) tt;
+    abandoned = core.abandoned;
+    budget = subst (λ (n : ℕ). n ≤ d.config.seglets) (sym used_then) core.budget;
     legal = subst (λ (h : List Record). IsLegal (opening_of loaded) h) (sym bare.history) refl;
     index = index_then;
   }
@@ -287,32 +297,54 @@ all_at units j n [] all is = absurd (cc)
 all_at units zero n (m ∷ ns) all is = let same = same_Some m n is in let here = all.0 in omega arith
 all_at units (suc j) n (m ∷ ns) all is = all_at units j n ns all.1 is
 
-module _ (d : MasterData) (core : IsCore d) (pushed : is_pushed d.head ≡ true) where
+-- nothing waits to be pushed just if no failover is open, and each replica is open with all units
+pub done_parts : (d : MasterData) → is_done d ≡ true → (d.failover ≡ None) × (is_pushed d.head ≡ true)
+done_parts d done =
+    let parts = and_parts (is_none d.failover) (is_pushed d.head) done in (none d.failover parts.0, parts.1)
+  where
+    none : (o : Option Failover) → is_none o ≡ true → o ≡ None
+    none None is = refl
+    none (Some f) is = absurd (cc)
+
+module _ (d : MasterData) (core : IsCore d) (done : is_done d ≡ true) where
+  calm_done : d.failover ≡ None
+  calm_done = (done_parts d done).0
+
+  pushed : (is_open d.head ≡ true) × (fewest (length d.head.units) d.head.taken ≡ length d.head.units)
+  pushed = pushed_open d.head (done_parts d done).1
+
   open_then : (length d.head.taken ≡ d.head.replicas) × (d.head.roll ≡ None)
-  open_then = open_parts d.head (pushed_open d.head pushed).0
+  open_then = open_parts d.head pushed.0
 
   pub pushed_whole : IsWhole d.config.replicas (head_of d.head)
   pushed_whole = record {
     opened = open_then.0 ∙ core.replicas;
     all = λ j n is.
-        let least = (pushed_open d.head pushed).1 in
+        let least = pushed.1 in
         let low = fewest_below (length d.head.units) n j d.head.taken is in
         let high = all_at (length d.head.units) j n d.head.taken core.head.taken is in
         let count = unit_count (text_of d.head.image) d.head.base d.head.units in
         omega arith;
   }
 
-  pub pushed_calm : mode_of d.head ≡ Calm
-  pushed_calm = open_calm d.head (pushed_open d.head pushed).0
-
-  -- it is as open as it was
-  opened_same : is_opened (settled d.head) ≡ is_opened d.head
-  opened_same = ap (nat_le d.head.replicas) (zeros_length (length d.head.taken))
+  pub pushed_calm : mode_of d ≡ Calm
+  pushed_calm = open_calm d pushed.0 calm_done
 
   module _ (bare : IsBare d) (head : IsHeadValue (settled d.head)) where
     -- before that is posted
     abbrev ended : MasterData
     ended = record d { head = settled d.head }
+
+    -- it is as open as it was
+    headless_same_then : is_headless ended ≡ is_headless d
+    headless_same_then =
+        ap (λ (n : ℕ). option_map_or (λ (f : Failover). f.is_first) d.failover (not (nat_le d.head.replicas n)))
+        (zeros_length (length d.head.taken))
+
+    head_settled : head_of (settled d.head) ≡ settled_head d.config.replicas (head_of d.head)
+    head_settled =
+        settled_is d.config.master d.head (head_of d.head) core.image core.head.segment open_then.0
+        ∙ ap (λ (n : ℕ). settled_head n (head_of d.head)) core.replicas
 
     pub settled_core : IsCore (record d { head = settled d.head })
     settled_core = record {
@@ -327,46 +359,42 @@ module _ (d : MasterData) (core : IsCore d) (pushed : is_pushed d.head ≡ true)
       below = core.below;
       real = core.real;
       used = core.used;
-      first = λ not. let never : false ≡ true = sym not ∙ opened_same
-          ∙ open_opened d.head (pushed_open d.head pushed).0 in absurd (cc);
+      first = λ not.
+          let never : true ≡ false = sym not ∙ headless_same_then ∙ open_headed d pushed.0 calm_done in absurd (cc);
       next = core.next;
       roll = subst (λ (r : Option Roll). IfSome r (IsRollOf ended)) (sym open_then.1) tt;
       pass = subst (λ (p : Option OpenPass). IfSome p (IsOpenPass ended)) (sym bare.pass) tt;
       named = core.named;
-      freed = core.freed;
+      replicas_few = core.replicas_few;
+      waiting = core.waiting;
+      digest = core.digest;
+      listed = core.listed;
+      failed = (let f = core.failed in record { few = f.few; there = f.there; apart = f.apart; two = f.two });
+      whole = core.whole;
+      failover = subst (λ (f : Option Failover). IfSome f (IsFailover ended)) (sym calm_done) tt;
+      abandoned = core.abandoned;
       budget = core.budget;
       legal = core.legal;
       index = record { kept = core.index.kept; lies = core.index.lies; safe = core.index.safe };
     }
 
-    head_settled : head_of (settled d.head) ≡ settled_head d.config.replicas (head_of d.head)
-    head_settled =
-        settled_is d.config.master d.head (head_of d.head) core.image core.head.segment open_then.0
-        ∙ ap (λ (n : ℕ). settled_head n (head_of d.head)) core.replicas
+    still_open : is_open (settled d.head) ≡ true
+    still_open =
+        ap (λ (n : ℕ). (n == d.head.replicas) && is_none d.head.roll) (zeros_length (length d.head.taken))
+        ∙ pushed.0
 
-    mode_settled : mode_of (settled d.head) ≡ mode_of d.head
-    mode_settled = λ i.
-        if opened_same i then option_map_or (λ (r : Roll). Rolls (start_of r)) d.head.roll Calm
-        else Rolls (head_of d.head).start
+    mode_settled : mode_of ended ≡ mode_of d
+    mode_settled = open_calm ended still_open calm_done ∙ sym pushed_calm
 
     pub settled_log : log_of (settled_data d) ≡ adopted (log_of d) (opening_of d)
     settled_log =
-        let force = force_settled d.config.format d.config.replicas d.head (settled d.head) opened_same
-        head_settled in
+        let force = force_settled d ended d.config.replicas refl headless_same_then head_settled in
         let mode = mode_settled in
-        λ i. record {
-          config = fail_config d.config;
-          opening = opening_of d;
+        λ i. record (log_of d) {
           history = bare.history i;
           head = force i;
           counts = λ b. 0;
-          shut = shut_in d.ledger;
           mode = mode i;
-          abandoned = [];
-          took = took_in d.ledger;
-          failed = [];
-          frozen = 0;
-          next = d.next;
         }
 
 -- ---- what goes on
@@ -375,13 +403,14 @@ pub rolling_bare : (d : MasterData) → IsBare d → IsBare (rolling_data d)
 rolling_bare d is = record {
   history = is.history;
   pass = ap (λ (o : Option OpenPass). option_map (λ (p : OpenPass). record p
-      { is_committing = is_ready_pass p }) o) is.pass;
+      { is_committing = is_ready_pass d.config.replicas d.closed p }) o) is.pass;
   waiting = is.waiting;
 }
 
 taken_bare : (d : MasterData) → IsBare d → (push : Next) → IsBare (taken_data d push)
 taken_bare d is (next.OpenFirst j) = record { history = is.history; pass = is.pass; waiting = is.waiting }
 taken_bare d is (next.Extend j) = record { history = is.history; pass = is.pass; waiting = is.waiting }
+taken_bare d is (next.OpenWhole j) = record { history = is.history; pass = is.pass; waiting = is.waiting }
 taken_bare d is (next.OpenNew j) = go d.head.roll where
   go : (o : Option Roll) → IsBare (option_map_or (λ (r : Roll). record d { head = with_new_replica d.head r }) o d)
   go None = is
@@ -397,7 +426,10 @@ taken_bare d is (next.CloseOld j) = go d.head.roll where
   go None = is
   go (Some r) =
       closing (suc r.closed == d.head.replicas) d.pass
-      (record d { head = with_closed_replica d.head r; closed = with_closed d.closed d.head.id (old_image d.head r) })
+      (record d {
+        head = with_closed_replica d.head r;
+        closed = with_closed d.closed d.head.id d.config.replicas (old_image d.head r);
+      })
       is.pass (record { history = is.history; pass = is.pass; waiting = is.waiting })
 
 -- the op of a push is posted before it is counted
@@ -405,3 +437,11 @@ pub pushed_bare : (d : MasterData) → IsBare d → (push : Next) → IsBare (pu
 pushed_bare d is push =
     taken_bare (record d { ledger = ledger_after d push })
     (record { history = is.history; pass = is.pass; waiting = is.waiting }) push
+
+-- a backup fails
+pub lost_bare : (d : MasterData) → IsBare d → (b : ℕ) → IsBare (lost_data d b)
+lost_bare d is b = record {
+  history = is.history;
+  pass = ap (λ (o : Option OpenPass). option_map (λ (p : OpenPass). record p { is_committing = false }) o) is.pass;
+  waiting = ap (λ (ws : List Waiting). filter still_waits (map (lost_waiting d.config d.failed b) ws)) is.waiting;
+}

@@ -49,7 +49,7 @@ fn fit(core: &Core, command: &CommandRef<'_>, change: &Change) -> Result<(), Ref
     if change.is_nothing() {
         return Ok(());
     }
-    if !core.head.is_open() {
+    if !core.is_working() {
         return Err(Refusal::Rolling);
     }
     let limit = core.config.segment as usize;

@@ -8,7 +8,7 @@ ghost use Rattle.entry.specs.Text.{text_of};
 ghost use Rattle.entry.specs.View.{shown, shown_object};
 ghost use Rattle.log_head.specs.Head.{IsHeadValue, len_with};
 ghost use Rattle.log_head.specs.Steps.{with_unit_end};
-ghost use Rattle.master_state.specs.Causes.{is_pushed};
+ghost use Rattle.master_state.specs.Causes.{is_done};
 ghost use Rattle.master_commands.specs.Index.{IsAdded};
 ghost use Rattle.master_state.specs.Invariant.{IsCore};
 ghost use Rattle.master_state.specs.Loading.{IsBare, IsNewObject, Loads, MayLoadNow, Settles};
@@ -46,7 +46,7 @@ pub trait Loads {
 impl Loads for Core {
     ghost may_load = { λ core object. IsBare core × IsNewObject core object };
 
-    ghost may_begin = { λ core. IsBare core × (is_pushed core.head ≡ true) };
+    ghost may_begin = { λ core. IsBare core × (is_done core ≡ true) };
 
     fn presize(&mut self, objects: usize)
         ensures { self.new ≡ self.old }
@@ -77,17 +77,14 @@ impl Loads for Core {
     }
 
     fn can_finish(&self) -> bool
-        ensures { result ≡ is_pushed self.now.head }
+        ensures { result ≡ is_done self.now }
     {
-        match self.head.next_push() {
-            None => true,
-            Some(_) => false,
-        }
+        self.failover.is_none() && self.head.next_push().is_none()
     }
 
     fn begin_history(&mut self)
         requires bare { IsBare self.old }
-        requires done { is_pushed self.old.head ≡ true }
+        requires done { is_done self.old ≡ true }
         ensures settled { Settles self.old self.new }
         ensures valid { IsCore self.new }
     {
@@ -106,7 +103,7 @@ fn admit_object(core: &Core, object: &ObjectRef<'_>) -> Result<(), Refusal>
     if !core.config.tablets.have(&object.key) {
         return Err(Refusal::NoTablet);
     }
-    if !core.head.is_open() {
+    if !core.is_working() {
         return Err(Refusal::Rolling);
     }
     let limit = core.config.segment as usize;

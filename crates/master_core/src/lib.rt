@@ -1,12 +1,16 @@
 //! What a master knows without its fleet, and the steps that take nothing from the fleet. The crate has nothing of its
-//! own, and shows the names of three others: `master_state` (what a master knows), `master_commands` (what a command
-//! does to it, and how it is loaded) and `master_space` (rolls, compaction and cleaning).
+//! own, and shows the names of four others: `master_state` (what a master knows), `master_commands` (what a command
+//! does to it, and how it is loaded) `master_space` (rolls, compaction and cleaning) and
+//! `master_mending` (the pushes of a failover).
 #![tactic(auto)]
 
 pub use cleaner::{PassFault, Survivors};
 pub use hash_index::Place;
 pub use master_commands::{Commands, Loads, loading_goes_on};
-pub use master_space::{Chooses, Cleans, Compacts, Measures, Rolls};
+pub use master_mending::{
+    Mend, Mends, NewHead, begin_opening, ledger_of_turn, new_head, victims_of_commit,
+};
+pub use master_space::{Chooses, Cleans, Compacts, Measures, Rolls, mark, pending_step};
 pub use master_state::{
-    Config, ConfigFault, Core, KeyHasher, Posting, Refusal, Secret, Step, StepAnswer,
+    Config, ConfigFault, Core, KeyHasher, Part, Posting, Refusal, Secret, Step, StepAnswer,
 };

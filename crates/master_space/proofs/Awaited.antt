@@ -1,5 +1,6 @@
 -- Whether a record is durable, by the first unit that some replica lacks.
-use Rattle.std.proofs.Common.{◌≡◌, ◌⊎◌, ℕ, ◌<◌, ◌≤◌, true, false, not, Some, None, inl, inr, length, refl, sym, ap, ◌∙◌, arith}
+use Rattle.std.proofs.Common.{◌≡◌, ◌⊎◌, ℕ, ◌<◌, ◌≤◌, true, false, not, Some, None, inl, inr, length, refl, sym, ap}
+use Rattle.std.proofs.Common.{◌∙◌, arith}
 use Rattle.std.specs.Prelude.{Option, is_none, is_some, nat_le, nat_lt, slice_get}
 use Rattle.std.specs.Option.{option_map, option_map_or}
 use Rattle.std.proofs.lemmas.Bool.Decides.{leb_tells, nat_tests}
@@ -28,9 +29,9 @@ before_first None place all within = let test : nat_lt place all ≡ true = grin
 before_first (Some u) place all within = not_up_to u.number place
 
 pub none_durable : {A : Type 0} (d : MasterData) (place : ℕ) (o : Option A)
-    → place < length d.history → is_some o ≡ lacks_to d.head place
+    → place < length d.history → is_some o ≡ lacks_to d.head place → d.failover ≡ None
     → is_none o ≡ nat_lt place (durable_now d)
-none_durable d place o within lacks =
+none_durable d place o within lacks calm =
     none_not o ∙ ap not lacks
     ∙ before_first (slice_get d.head.units (everywhere d.head)) place (length d.history) within
-    ∙ ap (nat_lt place) (durable_is d)
+    ∙ ap (nat_lt place) (durable_is d calm)

@@ -25,7 +25,7 @@ use Rattle.log_model.specs.Ids.{all_inserted}
 use Rattle.segment.proofs.UnitLemmas.{head_few}
 use Rattle.std.proofs.Math.Nat.{mul-div-le}
 use Rattle.std.proofs.lemmas.List.{length-append}
-use Rattle.master_state.specs.Budget.{most_segments, used_seglets, survivors_of}
+use Rattle.master_state.specs.Budget.{most_segments, newest_digest, used_seglets, survivors_of}
 use Rattle.master_state.specs.Data.{MasterData}
 use Rattle.master_state.specs.Invariant.{IsOpenPass, IsSurvivor, IsCore, IsSpare, NameBelow, listed_now}
 use Rattle.master_state.specs.Log.{images_of, log_set_ids, find, state_now}
@@ -34,6 +34,7 @@ use Rattle.master_state.proofs.Imaging.{ids_in, other_id, rolled_grow}
 use Rattle.master_state.proofs.Indexing.{Grow, found_grown}
 use Rattle.master_state.proofs.LogIds.{no_segment, no_next, older_image}
 use Rattle.master_state.proofs.Passing.{victim_below}
+use Rattle.master_space.proofs.Calm.{no_failover}
 use Rattle.master_space.proofs.Placed.{closed_each, no_more}
 use Rattle.master_state.proofs.Refusals.{sizes_of}
 
@@ -103,8 +104,8 @@ module _ (d : MasterData) (core : IsCore d) (ids : List ℕ) (lens : Option (Lis
       }
 
   pub pass_then : (p : Pass) (b : Bool) → IsOpenPass d p
-      → (b ≡ false → IsSpare e (length p.victims) p.survivors.count)
-      → (b ≡ true → is_ready_pass p ≡ true) → IsOpenPass e (record p { is_committing = b })
+      → (d.failed ≡ [] → b ≡ false → IsSpare e (length p.victims) p.survivors.count)
+      → (b ≡ true → is_ready_pass d.config.replicas d.closed p ≡ true) → IsOpenPass e (record p { is_committing = b })
   pass_then p b opens spare ready = record {
     pass = (let is = opens.pass in record {
       victims = is.victims;
@@ -156,10 +157,14 @@ module _ (d : MasterData) (core : IsCore d) (ids : List ℕ) (lens : Option (Lis
         ]
     go false is false there = old (rw (is, there, none) refl)
 
-  pub begun_core : d.next ≤ 2 ^ 62 → survivors_of o ≡ survivors_of d.pass → ids ≡ listed_now e
+  newest_few : length ids + 1 ≤ most_segments d.config → length (newest_digest e.head) ≤ most_segments d.config
+  newest_few few =
+      let count = ap length (ids_listed (next_with d ids lens)) ∙ length-append ids (d.next ∷ []) in omega arith
+
+  pub begun_core : d.failover ≡ None → d.next ≤ 2 ^ 62 → survivors_of o ≡ survivors_of d.pass → ids ≡ listed_now e
       → length ids + 1 ≤ most_segments d.config
       → used_seglets e ≤ d.config.seglets → IfSome o (IsOpenPass e) → IsCore e
-  begun_core most same lists few budget pass = record {
+  begun_core calm most same lists few budget pass = record {
     config = core.config;
     replicas = core.replicas;
     history = core.history;
@@ -189,7 +194,14 @@ module _ (d : MasterData) (core : IsCore d) (ids : List ℕ) (lens : Option (Lis
     };
     pass = pass;
     named = named_then;
-    freed = core.freed;
+    replicas_few = core.replicas_few;
+    waiting = core.waiting;
+    digest = core.digest;
+    listed = newest_few few;
+    failed = (let f = core.failed in record { few = f.few; there = f.there; apart = f.apart; two = f.two });
+    whole = core.whole;
+    failover = no_failover d e calm;
+    abandoned = core.abandoned;
     budget = budget;
     legal = core.legal;
     index = (let i = index_again d core e.head d.closed grow valid core.segments in

@@ -1,12 +1,11 @@
 -- What a core counts, and what is left.
 use Rattle.std.proofs.Common.{ℕ, ◌+◌, ◌-◌, ◌≤◌, arith}
-use Rattle.std.specs.Prelude.{Option, Some, None, IsSome, sum_by}
-use Rattle.std.specs.Option.{option_map_or}
+use Rattle.std.specs.Prelude.{Option, Some, None, IsSome, is_some, ◌||◌, sum_by, if◌then◌else◌}
 use Rattle.images.specs.Image.{Image}
 use Rattle.images.specs.Images.{ImagesValue, count_of, free_seglets}
 use Rattle.log_head.specs.declared.head.Roll.{Roll}
 use Rattle.master_state.specs.declared.config.Config.{Config}
-use Rattle.master_state.specs.Budget.{whole_seglets, seglets_of}
+use Rattle.master_state.specs.Budget.{whole_seglets, seglets_of, has_abandoned}
 use Rattle.master_state.specs.Data.{MasterData}
 use Rattle.master_state.specs.Invariant.{IsCore, AreImagesOf}
 
@@ -19,8 +18,8 @@ pub closing_fits : (d : MasterData) → IsCore d → IsSome d.head.roll
     → seglets_of d.config d.head.image ≤ d.config.seglets - closed_seglets d
 closing_fits d core some = go d.head.roll some core.budget where
   go : (o : Option Roll) → IsSome o
-      → option_map_or (λ (r : Roll). seglets_of d.config d.head.image + whole_seglets d.config) o
-      (whole_seglets d.config) + closed_seglets d
+      → (if is_some o || has_abandoned d then seglets_of d.config d.head.image + whole_seglets d.config
+      else whole_seglets d.config) + closed_seglets d
       ≤ d.config.seglets
       → seglets_of d.config d.head.image ≤ d.config.seglets - closed_seglets d
   go None is le = absurd (cc)

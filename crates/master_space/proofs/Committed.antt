@@ -1,21 +1,24 @@
 -- The roll of a commit ends, and its pass with it: what a core keeps.
 use Rattle.std.proofs.Common.{◌≡◌, ℕ, ◌<◌, ◌≤◌, Bool, true, false, List, [], ◌∷◌, length, refl, sym, ap, subst, ◌∙◌}
-use Rattle.std.proofs.Common.{arith}
-use Rattle.std.specs.Prelude.{Option, Some, None, ◌==◌, unwrap_or, if◌then◌else◌}
+use Rattle.std.proofs.Common.{◌⊎◌, ◌+◌, inl, inr, arith}
+use Rattle.std.specs.Prelude.{Option, Some, None, ◌==◌, sum_by, unwrap_or, if◌then◌else◌}
 use Rattle.std.specs.List.{AllByRecursion}
-use Rattle.std.specs.Option.{option_map}
+use Rattle.std.specs.Option.{option_map, option_map_or}
 use Rattle.std.proofs.lemmas.Bool.{and_parts}
 use Rattle.cleaner.specs.declared.pass.Pass.{Pass}
 use Rattle.cleaner.specs.Passes.{images_in, survivor_ids, rest_of, AreVictims as AreOlder}
 use Rattle.cleaner.proofs.SurvivorIds.{among_ids}
+use Rattle.cleaner.specs.Seals.{first_lacking}
 use Rattle.cleaner.proofs.Ends.{end_none}
+use Rattle.cleaner.proofs.Lacking.{none_is_lacking}
+use Rattle.clean_model.proofs.CommitDigest.{all_out, without_from}
 use Rattle.compactor.specs.Places.{LiesAt, object_in, keys_in}
 use Rattle.entry.specs.declared.entry.Entry.{Entry}
 use Rattle.entry.specs.declared.entry.Entry.TheVariants as entry
 use Rattle.entry.specs.declared.entry.Object.{Object}
 use Rattle.entry.specs.declared.key.Key.{Key}
 use Rattle.entry.specs.Bag.{IsAmong}
-use Rattle.entry.proofs.ListLemmas.{all_from_among}
+use Rattle.entry.proofs.ListLemmas.{all_append, all_from_among}
 use Rattle.entry.specs.Meaning.{Versioned, Contents, object_at}
 use Rattle.entry.specs.Text.{text_of, IsSegment}
 use Rattle.places.specs.declared.place.Place.{Place}
@@ -24,30 +27,35 @@ use Rattle.places.specs.Map.{Places, found}
 use Rattle.places.proofs.Words.{kept_again, found_again, HasKey, each_told, all_then}
 use Rattle.images.specs.Image.{Image}
 use Rattle.images.specs.Images.{count_of}
-use Rattle.images.specs.Sorted.{segment_of}
+use Rattle.images.specs.Sorted.{segment_of, replicas_of}
 use Rattle.log_head.specs.declared.head.Roll.{Roll}
 use Rattle.log_head.specs.Head.{IsHeadValue}
 use Rattle.log_head.specs.Log.{head_of, start_of}
 use Rattle.log_head.specs.Steps.{in_force}
-use Rattle.log_model.specs.Data.{ids_of}
+use Rattle.log_model.specs.Data.{Head, Start, ids_of}
 use Rattle.log_model.specs.Ids.{has, all_inserted, without}
-use Rattle.master_state.specs.Budget.{used_seglets, survivors_of}
+use Rattle.master_state.specs.declared.failover.Failover.{Failover}
+use Rattle.master_state.specs.declared.ledger.Posting.{Posting}
+use Rattle.master_state.specs.declared.waiting.Waiting.{Waiting}
+use Rattle.master_state.specs.Budget.{whole_seglets, survivors_of}
 use Rattle.master_state.specs.Data.{MasterData}
-use Rattle.master_state.specs.Images.{new_image_or, staying}
+use Rattle.master_state.specs.Images.{new_image_or, staying, leaving}
 use Rattle.master_state.specs.Index.{LiesFound}
-use Rattle.master_state.specs.Invariant.{IsOpenPass, IsCore, NameBelow, listed_now, listed_with}
+use Rattle.master_state.specs.Invariant.{IsOpenPass, IsCore, NameBelow, AreWhole, listed_now, listed_with}
 use Rattle.master_state.specs.Log.{image_of as image_now, images_of, find, state_now}
 use Rattle.master_state.specs.Steps.{pass_ended}
-use Rattle.master_space.proofs.RollEnds.{rolls_of, closed_ids, closed_segments, closed_images, closed_used, same_in}
-use Rattle.master_space.proofs.RollEnds.{old_closed, ended}
+use Rattle.master_space.proofs.RollEnds.{HasFailover, left_as, rolls_of, head_then, old_closed, closed_ids}
+use Rattle.master_space.proofs.RollEnds.{closed_segments, closed_images, closed_sum, closed_few, closed_replicas}
+use Rattle.master_space.proofs.RollEnds.{none_found, log_whole, same_in, ended}
 use Rattle.master_state.proofs.Imaging.{ids_in, other_id}
 use Rattle.master_state.proofs.Indexing.{Indexes}
-use Rattle.master_space.proofs.Leaving.{staying_ids, staying_all, staying_sum, stays_found, leaves_gone}
+use Rattle.master_space.proofs.Leaving.{staying_ids, staying_all, staying_sum, stays_found, leaves_gone, leaving_valid}
 use Rattle.master_state.proofs.LogIds.{rises, apart}
 use Rattle.master_state.proofs.Passing.{has_among, victim_below}
 use Rattle.master_state.proofs.Refusals.{sizes_of}
 use Rattle.master_state.proofs.Rising.{Rise, AreOut, has_not, rise_range, rise_all, rise_left, without_all}
-use Rattle.master_space.proofs.Trimming.{trimmed_ids, trimmed_segment, trimmed_all, each_found, trimmed_sum}
+use Rattle.master_space.proofs.Trimming.{trimmed_ids, trimmed_segment, trimmed_all, trimmed_replicas, trimmed_few}
+use Rattle.master_space.proofs.Trimming.{each_found, trimmed_sum}
 
 -- ---- an index of images that stay where it leads
 
@@ -201,7 +209,8 @@ module _ (d : MasterData) (core : IsCore d) (r : Roll) (is : d.head.roll ≡ Som
       sym (ap (λ (o : Option (List Entry)). unwrap_or o []) found) ∙ same in
       subst (λ (xs : List Entry). length (text_of xs) ≤ d.config.segment) (sym image) (own.survivors.each s m).within
 
-  budget_then : used_seglets f ≤ d.config.seglets
+  budget_then : whole_seglets d.config + sum_by (count_of d.config.segment d.config.seglet) f.closed
+      ≤ d.config.seglets
   budget_then =
       let sizes = sizes_of d.config core.config in
       let least = sizes.least_seglet in
@@ -214,13 +223,67 @@ module _ (d : MasterData) (core : IsCore d) (r : Roll) (is : d.head.roll ≡ Som
       (each_found (λ (es : List Entry). length (text_of es) ≤ d.config.segment) survivors
       (staying p.victims g.closed) rise survivor_text) in
       let less = staying_sum (count_of d.config.segment d.config.seglet) p.victims g.closed in
-      let used = closed_used d core r is in
+      let same = closed_sum d core r is in
       let budget = core.budget in
       omega arith
 
-  pub committed_core : IsHeadValue (in_force d.head r) → IsCore f
-  committed_core valid =
-      ended d core r is f.closed None f.waiting valid ids_then
+  -- ---- replicas
+
+  few_then : AllByRecursion (λ (c : Image). c.replicas ≤ d.config.replicas) f.closed
+  few_then =
+      trimmed_few d.config.replicas survivors (staying p.victims g.closed)
+      (staying_all (λ (c : Image). c.replicas ≤ d.config.replicas) p.victims g.closed (closed_few d core r is))
+
+  waiting_then : AllByRecursion (λ (w : Waiting). (w.freed < w.replicas) × (w.replicas ≤ d.config.replicas)) f.waiting
+  waiting_then =
+      all_append (λ (w : Waiting). (w.freed < w.replicas) × (w.replicas ≤ d.config.replicas)) d.waiting
+      (leaving p.victims g.closed) core.waiting
+      (leaving_valid p.victims d.config.replicas g.closed (closed_few d core r is))
+
+  -- who stays has as many as before
+  stays_held : (s : ℕ) → has p.victims s ≡ false → replicas_of f.closed s ≡ replicas_of g.closed s
+  stays_held s other =
+      trimmed_replicas survivors (staying p.victims g.closed) s
+      ∙ ap (λ (o : Option Image). option_map_or (λ (c : Image). c.replicas) o 0)
+      (stays_found p.victims s g.closed other)
+
+  -- each survivor has all
+  survivors_whole : (s : ℕ) → IsAmong s survivors → d.config.replicas ≤ replicas_of d.closed s
+  survivors_whole =
+      (none_is_lacking d.config.replicas d.closed survivors).0
+      (none_found (first_lacking d.config.replicas d.closed survivors) (and_parts _ _ (own.commits commits).1).1)
+
+  not_victim : (s : ℕ) → (IsAmong s p.victims → ⊥) → has p.victims s ≡ false
+  not_victim s never = go (has p.victims s) refl where
+    go : (t : Bool) → has p.victims s ≡ t → has p.victims s ≡ false
+    go true test = absurd (never (has_among p.victims s test))
+    go false test = test
+
+  pub committed_whole : AreWhole d → AreWhole f
+  committed_whole whole =
+      (none_is_lacking d.config.replicas f.closed (head_of f.head).start.others).1
+      (λ s m. each s (all_out survivors (without p.victims (ids_of (head_of d.head).start)) s
+      (subst (λ (ids : List ℕ). IsAmong s ids)
+      (ap (λ (l : Head). l.start.others) (head_then d core r is) ∙ listed_is) m)))
+    where
+      each : (s : ℕ) → IsAmong s (without p.victims (ids_of (head_of d.head).start)) ⊎ IsAmong s survivors
+          → d.config.replicas ≤ replicas_of f.closed s
+      each s (inl m) =
+          let from = without_from p.victims (ids_of (head_of d.head).start) s m in
+          let same = stays_held s (not_victim s from.1) in
+          let le = log_whole d core r is whole s from.0 in
+          omega arith
+      each s (inr m) =
+          let same = stays_held s (stay_out s m) in
+          let other = closed_replicas d core r is s (out s m) in
+          let le = survivors_whole s m in
+          omega arith
+
+  pub committed_core : (x : Option Failover) (gone : List Start) (ps : List Posting) → IsHeadValue (in_force d.head r)
+      → HasFailover (left_as f x gone ps) → IsCore (left_as f x gone ps)
+  committed_core x gone ps valid failing =
+      ended d core r is f.closed None f.waiting x gone ps valid failing ids_then
       (trimmed_all IsSegment survivors (staying p.victims g.closed)
       (staying_all (λ (c : Image). IsSegment c.segment) p.victims g.closed (closed_segments d core r is)))
-      budget_then tt named_then (let i = index_then in record { kept = i.kept; lies = i.lies; safe = core.index.safe })
+      few_then waiting_then budget_then tt named_then
+      (let i = index_then in record { kept = i.kept; lies = i.lies; safe = core.index.safe })

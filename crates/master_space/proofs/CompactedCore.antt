@@ -23,24 +23,26 @@ use Rattle.log_model.specs.Data.{ids_of}
 use Rattle.log_model.specs.Ids.{has, all_inserted}
 use Rattle.images.specs.Image.{Image}
 use Rattle.images.specs.Images.{AreWithin}
-use Rattle.images.specs.Sorted.{AreRising, segment_of, changed}
+use Rattle.images.specs.Sorted.{AreRising, segment_of, replicas_of, changed}
 use Rattle.images.specs.Steps.{replaced_by}
+use Rattle.images.proofs.Replicas.{replicas_kept}
 use Rattle.compactor.specs.Kept.{has_id, kept, kept_from}
 use Rattle.compactor.specs.Laws.{compacted_images}
 use Rattle.cleaner.specs.declared.fault.PassFault.TheVariants.{IsHead, NotInLog, PassOpen}
-use Rattle.master_state.specs.declared.step.Refusal.TheVariants.{Halted, Pass}
+use Rattle.master_state.specs.declared.step.Refusal.TheVariants.{Pass}
 use Rattle.master_state.specs.Budget.{used_seglets, victims_of, survivors_of}
-use Rattle.master_state.specs.Causes.{is_head, compact_refusal}
+use Rattle.master_state.specs.Causes.{is_head, compact_refusal, step_refusal}
 use Rattle.master_state.specs.Data.{MasterData}
 use Rattle.master_state.specs.Images.{new_image_or, images_among}
-use Rattle.master_state.specs.Invariant.{IsCore, IsRollOf, IsOpenPass, NameBelow, IsIndex}
+use Rattle.master_state.specs.Invariant.{IsCore, IsRollOf, IsOpenPass, NameBelow, IsIndex, AreWhole}
 use Rattle.master_state.specs.Log.{images_of, log_set_ids}
 use Rattle.master_state.specs.Steps.{kept_now, compacted_data}
 use Rattle.master_state.proofs.Imaging.{same_id, ids_in}
-use Rattle.master_state.proofs.Passing.{has_among}
+use Rattle.master_state.proofs.Passing.{has_among, lacking_same}
 use Rattle.master_state.proofs.Rising.{has_more, has_all}
 use Rattle.compactor.proofs.KeptEntries.{kept_length, kept_segment}
 use Rattle.master_state.proofs.Refusals.{passes, sizes_of}
+use Rattle.master_space.proofs.Calm.{calm_parts, no_failover, passes_first}
 use Rattle.master_space.proofs.Replacing.{same_ids, changed_there, changed_here, changed_each, changed_count, each_one}
 use Rattle.master_space.proofs.Replacing.{closed_each}
 
@@ -48,18 +50,18 @@ use Rattle.master_space.proofs.Replacing.{closed_each}
 
 -- What the tests of a compaction say: the segment is in the digest in force, is neither head, and is no victim.
 pub record IsAdmitted (d : MasterData) (id : ℕ) : Type 0 where
-  pub running : d.is_halted ≡ false
+  pub step : step_refusal d ≡ None
   pub older : is_head d.head id ≡ false
   pub listed : has_id (digest_of d.head.image) id ≡ true
   pub spared : has_id (victims_of d.pass) id ≡ false
 
 pub admitted : (d : MasterData) (id : ℕ) → compact_refusal d id ≡ None → IsAdmitted d id
 admitted d id e =
-    let a = passes d.is_halted Halted _ e in
+    let a = passes_first (step_refusal d) _ e in
     let h = passes (is_head d.head id) (Pass (IsHead id)) _ a.1 in
     let l = passes (not (has_id (digest_of d.head.image) id)) (Pass (NotInLog id)) _ h.1 in
     let v = passes (has_id (victims_of d.pass) id) (Pass PassOpen) None l.1 in
-    record { running = a.0; older = h.0; listed = not-false _ l.0; spared = v.0 }
+    record { step = a.0; older = h.0; listed = not-false _ l.0; spared = v.0 }
 
 closed_listed : (cs : List Image) (s : ℕ) → has (ids_in cs) s ≡ is_some (segment_of cs s)
 closed_listed [] s = refl
@@ -111,25 +113,25 @@ module _ (d : MasterData) (core : IsCore d) (id : ℕ) where
     listed_got got t is some = listed_by ∙ ap is_some (sym is) ∙ some
 
 -- what the tests answer
-module _ (d : MasterData) (core : IsCore d) (id : ℕ) (running : d.is_halted ≡ false)
+module _ (d : MasterData) (core : IsCore d) (id : ℕ) (step : step_refusal d ≡ None)
     (older : is_head d.head id ≡ false) where
   pub survivor_refused : has_id (survivors_of d.pass) id ≡ true → compact_refusal d id ≡ Some (Pass (NotInLog id))
-  survivor_refused has = let unlisted = survivor_unlisted d core id has in rw (running, older, unlisted) refl
+  survivor_refused has = let unlisted = survivor_unlisted d core id has in rw (step, older, unlisted) refl
 
   module _ (away : has_id (survivors_of d.pass) id ≡ false) (got : Option (List Entry))
       (is : got ≡ segment_of d.closed id) where
     pub not_listed_refused : is_some got ≡ false → compact_refusal d id ≡ Some (Pass (NotInLog id))
     not_listed_refused none =
-        let unlisted = listed_got d core id older away got false is none in rw (running, older, unlisted) refl
+        let unlisted = listed_got d core id older away got false is none in rw (step, older, unlisted) refl
 
     pub victim_refused : is_some got ≡ true → has_id (victims_of d.pass) id ≡ true
         → compact_refusal d id ≡ Some (Pass PassOpen)
     victim_refused some victim =
-        let listed = listed_got d core id older away got true is some in rw (running, older, listed, victim) refl
+        let listed = listed_got d core id older away got true is some in rw (step, older, listed, victim) refl
 
     pub listed_passed : is_some got ≡ true → has_id (victims_of d.pass) id ≡ false → compact_refusal d id ≡ None
     listed_passed some spared =
-        let listed = listed_got d core id older away got true is some in rw (running, older, listed, spared) refl
+        let listed = listed_got d core id older away got true is some in rw (step, older, listed, spared) refl
 
 -- ---- the data after it
 
@@ -214,6 +216,30 @@ module _ (d : MasterData) (core : IsCore d) (id : ℕ) (is : IsAdmitted d id) wh
   closed_then : ids_in e.closed ≡ all_inserted (survivors_of d.pass) (head_of d.head).start.others
   closed_then = same_ids id (kept_now d id) d.closed ∙ core.closed
 
+  -- each keeps its replicas
+  pub replicas_then : (s : ℕ) → replicas_of (changed d.closed id (replaced_by (kept_now d id))) s
+      ≡ replicas_of d.closed s
+  replicas_then s = replicas_kept d.closed id s (replaced_by (kept_now d id)) (λ c. refl) (λ c. refl)
+
+  few_then : AllByRecursion (λ (c : Image). c.replicas ≤ d.config.replicas) e.closed
+  few_then = go d.closed core.replicas_few where
+    go : (cs : List Image) → AllByRecursion (λ (c : Image). c.replicas ≤ d.config.replicas) cs
+        → AllByRecursion (λ (c : Image). c.replicas ≤ d.config.replicas)
+        (changed cs id (replaced_by (kept_now d id)))
+    go [] all = tt
+    go (c ∷ cs) all = first (c.id == id) (go cs all.1) where
+      first : (t : Bool)
+          → AllByRecursion (λ (x : Image). x.replicas ≤ d.config.replicas) (changed cs id (replaced_by (kept_now d id)))
+          → AllByRecursion (λ (x : Image). x.replicas ≤ d.config.replicas)
+          ((if t then replaced_by (kept_now d id) c else c) ∷ changed cs id (replaced_by (kept_now d id)))
+      first true later = (all.0, later)
+      first false later = (all.0, later)
+
+  whole_then : AreWhole e
+  whole_then =
+      lacking_same d.config.replicas d.closed e.closed (head_of d.head).start.others (λ s m. replicas_then s)
+      ∙ core.whole (calm_parts d is.step).1
+
   segments_then : AllByRecursion (λ (c : Image). IsSegment c.segment) e.closed
   segments_then = changed_each id (kept_now d id) IsSegment d.closed core.segments
       (kept_segment (log_set_ids d) d.index id old old_segment)
@@ -281,7 +307,14 @@ module _ (d : MasterData) (core : IsCore d) (id : ℕ) (is : IsAdmitted d id) wh
     roll = go d.head.roll core.roll;
     pass = pass;
     named = named_then;
-    freed = core.freed;
+    replicas_few = few_then;
+    waiting = core.waiting;
+    digest = core.digest;
+    listed = core.listed;
+    failed = (let f = core.failed in record { few = f.few; there = f.there; apart = f.apart; two = f.two });
+    whole = λ calm. whole_then;
+    failover = no_failover d e (calm_parts d is.step).1;
+    abandoned = core.abandoned;
     budget = (let less = used_less rising within in let budget = core.budget in omega arith);
     legal = core.legal;
     index = index;

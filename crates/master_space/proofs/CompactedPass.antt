@@ -26,7 +26,7 @@ use Rattle.master_state.specs.Data.{MasterData}
 use Rattle.master_state.specs.Invariant.{IsCore, IsOpenPass}
 use Rattle.master_state.specs.Log.{images_of, log_set_ids}
 use Rattle.master_state.specs.Steps.{kept_now, compacted_data}
-use Rattle.master_space.proofs.CompactedCore.{IsAdmitted, no_survivor}
+use Rattle.master_space.proofs.CompactedCore.{IsAdmitted, no_survivor, replicas_then}
 use Rattle.master_space.proofs.CompactedIndex.{stayed, found_elsewhere}
 use Rattle.master_state.proofs.Holding.{kept_again}
 use Rattle.master_state.proofs.Imaging.{same_id}
@@ -123,6 +123,8 @@ module _ (follows : CompactionFollows) (d : MasterData) (core : IsCore d) (id : 
           (sym ids_then) keeps_no_more;
       live = λ k q finds victim. found_elsewhere follows d core id is k q finds
           (λ same. not_victim q.segment victim (sym same));
+      replicas = λ s m. replicas_then d core id is s;
+      failed = λ none. none;
       free = λ early. (let count = less in omega arith);
       listed = λ early. omega arith;
       rolls = λ commits some. some;

@@ -20,6 +20,7 @@ use Rattle.cleaner.specs.declared.pass.Pass.{Pass}
 use Rattle.cleaner.specs.KeptLengths.{HasRoomsIn}
 use Rattle.cleaner.specs.Passes.{images_in, survivor_ids, images_with, held_with, copy_place, rest_of, is_at_end}
 use Rattle.cleaner.specs.Passes.{IsPass, CopiesOne}
+use Rattle.cleaner.proofs.Lacking.{copied_replicas}
 use Rattle.cleaner.proofs.Images.{with_other, len_is, is_victim}
 use Rattle.cleaner.proofs.Leaving.{left_rooms}
 use Rattle.cleaner.proofs.SurvivorIds.{id_among}
@@ -39,13 +40,14 @@ use Rattle.master_state.specs.Images.{images_among, new_image_or}
 use Rattle.master_state.specs.Invariant.{IsCore, IsIndex, IsRollOf, IsSurvivor, IsOpenPass, NameBelow}
 use Rattle.master_state.specs.Invariant.{listed_with}
 use Rattle.master_state.specs.Log.{log_set_ids, images_of, find, state_now}
-use Rattle.master_space.proofs.CopiedImages.{tail_of, ids_same, segments_then, count_same, own_then}
+use Rattle.master_space.proofs.Calm.{no_failover}
+use Rattle.master_space.proofs.CopiedImages.{tail_of, ids_same, segments_then, replicas_then, count_same, own_then}
 use Rattle.master_space.proofs.CopiedPlaces.{index_treated, found_treated}
 use Rattle.master_state.proofs.Finding.{each_of, each_among, index_of}
 use Rattle.master_state.proofs.Imaging.{same_id, other_id}
 use Rattle.master_state.proofs.Indexing.{Grow}
 use Rattle.master_space.proofs.PassIds.{IsNotNew, closed_only}
-use Rattle.master_state.proofs.Passing.{victim_below}
+use Rattle.master_state.proofs.Passing.{victim_below, lacking_same}
 use Rattle.master_space.proofs.PlaceRows.{lies_among}
 
 -- the last of some ids isn't this one, if none is
@@ -70,7 +72,7 @@ with_seed true p to (entry.Object o) held = refl
 with_seed true p to (entry.Tombstone t) held = refl
 
 module _ (d : MasterData) (core : IsCore d) (p : Pass) (opened : d.pass ≡ Some p) (more : is_at_end p ≡ false)
-    (rising : AreRising d.closed) where
+    (rising : AreRising d.closed) (calm : d.failover ≡ None) where
   pub open_pass : IsOpenPass d p
   open_pass = subst (λ (o : Option Pass). IfSome o (IsOpenPass d)) opened core.pass
 
@@ -272,10 +274,11 @@ module _ (d : MasterData) (core : IsCore d) (p : Pass) (opened : d.pass ≡ Some
         };
         rooms = subst (λ (ids : List ℕ). HasRoomsIn d.config.segment ids p' closed held) (sym ids_then)
             (subst (λ (z : Pass). HasRoomsIn d.config.segment (log_set_ids d) z closed held) same rooms);
-        sealed = open_pass.sealed;
+        sealed = λ s m. subst (λ (n : ℕ). n ≤ d.config.replicas) (sym (copied_replicas d.closed target x b s))
+            (open_pass.sealed s m);
         live = live;
-        unsealed = λ early. open_pass.unsealed more;
-        spare = λ early. (let s = open_pass.spare early in let free = s.free in let listed = s.listed in
+        unsealed = λ early s m. copied_replicas d.closed target x b s ∙ open_pass.unsealed more s m;
+        spare = λ none early. (let s = open_pass.spare none early in let free = s.free in let listed = s.listed in
             record { free = omega (arith, used_same); listed = listed });
         commits = λ commits. absurd (not_ready (and_parts _ _ (open_pass.commits commits).1).0);
       }
@@ -336,7 +339,15 @@ module _ (d : MasterData) (core : IsCore d) (p : Pass) (opened : d.pass ≡ Some
             roll = roll_then d.head.roll core.roll;
             pass = pass_then;
             named = named_then;
-            freed = core.freed;
+            replicas_few = replicas_then d.closed target x d.config.replicas b core.replicas_few;
+            waiting = core.waiting;
+            digest = core.digest;
+            listed = core.listed;
+            failed = (let f = core.failed in record { few = f.few; there = f.there; apart = f.apart; two = f.two });
+            whole = λ calm. lacking_same d.config.replicas d.closed closed (head_of d.head).start.others
+                (λ s m. copied_replicas d.closed target x b s) ∙ core.whole calm;
+            failover = no_failover d e calm;
+            abandoned = core.abandoned;
             budget = (let was = core.budget in omega (arith, used_same));
             legal = core.legal;
             index = index_then;
@@ -346,11 +357,11 @@ module _ (d : MasterData) (core : IsCore d) (p : Pass) (opened : d.pass ≡ Some
 pub copied_core : (d : MasterData) → IsCore d → (p q : Pass) (copied : Copied) (closed_after : List Image)
     (held_after : Places)
     → d.pass ≡ Some p → is_at_end p ≡ false → AreRising d.closed
-    → CopiesOne d.config.segment (log_set_ids d) p d.closed d.index copied q closed_after held_after
+    → d.failover ≡ None → CopiesOne d.config.segment (log_set_ids d) p d.closed d.index copied q closed_after held_after
     → IsPass held_after.seed closed_after q
     → IsCore (record d { closed = closed_after; index = held_after; pass = Some q })
-copied_core d core p q copied closed_after held_after opened more rising one valid =
-    let is_open = open_pass d core p opened more rising in
+copied_core d core p q copied closed_after held_after opened more rising calm one valid =
+    let is_open = open_pass d core p opened more rising calm in
     let target = p.survivors.first + q.filling in
     let rooms = left_rooms d.config.segment (log_set_ids d) p q d.closed closed_after d.index held_after copied
     is_open.pass one is_open.rooms in
@@ -360,7 +371,7 @@ copied_core d core p q copied closed_after held_after opened more rising one val
     d.index in
     subst (λ (y : List Image × Places). IsCore (record d { closed = y.0; index = y.1; pass = Some q }))
     (λ i. (sym one.survivor i, sym one.index i))
-    (core_then d core p opened more rising target
+    (core_then d core p opened more rising calm target
     (id_among p.survivors.first p.survivors.count q.filling one.within) one.place one.entry one.victim one.stands
     one.valid one.of_data q one.pass one.later one.first
     (subst (λ (cs : List Image). rest_of (images_in cs) q ≡ one.later) one.survivor one.rest) refl

@@ -1,6 +1,6 @@
 -- Images of which one has a copied entry more, or none.
-use Rattle.std.proofs.Common.{◌≡◌, ℕ, ◌+◌, ◌<◌, Bool, true, false, cond, List, [], ◌∷◌, ◌++◌, map, length, refl, sym}
-use Rattle.std.proofs.Common.{ap, ◌∙◌, arith}
+use Rattle.std.proofs.Common.{◌≡◌, ℕ, ◌+◌, ◌<◌, ◌≤◌, Bool, true, false, cond, List, [], ◌∷◌, ◌++◌, map, length, refl}
+use Rattle.std.proofs.Common.{sym, ap, ◌∙◌, arith}
 use Rattle.std.specs.Prelude.{Some, IsSomeAnd, sum_by, ◌==◌}
 use Rattle.std.specs.List.{AllByRecursion}
 use Rattle.std.proofs.lemmas.Bool.{eqb-true, and_from}
@@ -84,6 +84,24 @@ module _ (images : List Image) (survivor : ℕ) (e : Entry) where
       → AllByRecursion (λ (c : Image). IsSegment c.segment) (images_with b survivor e images)
   segments_then true valid is all = grown_each images valid is all
   segments_then false valid is all = all
+
+  -- ---- replicas
+
+  grown_few : (most : ℕ) (cs : List Image) → AllByRecursion (λ (c : Image). c.replicas ≤ most) cs
+      → AllByRecursion (λ (c : Image). c.replicas ≤ most) (changed cs survivor (with_unit (e ∷ [])))
+  grown_few most [] all = tt
+  grown_few most (c ∷ cs) all = go (c.id == survivor) (grown_few most cs all.1)
+    where
+      go : (t : Bool) → AllByRecursion (λ (x : Image). x.replicas ≤ most) (changed cs survivor (with_unit (e ∷ [])))
+          → AllByRecursion (λ (x : Image). x.replicas ≤ most)
+          (cond t (with_unit (e ∷ []) c) c ∷ changed cs survivor (with_unit (e ∷ [])))
+      go true rest = (all.0, rest)
+      go false rest = (all.0, rest)
+
+  pub replicas_then : (most : ℕ) (b : Bool) → AllByRecursion (λ (c : Image). c.replicas ≤ most) images
+      → AllByRecursion (λ (c : Image). c.replicas ≤ most) (images_with b survivor e images)
+  replicas_then most true all = grown_few most images all
+  replicas_then most false all = all
 
   -- ---- what is counted
 

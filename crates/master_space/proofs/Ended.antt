@@ -1,12 +1,12 @@
 -- Victims that leave images one after the other.
 use Rattle.std.proofs.Common.{◌≡◌, ℕ, ◌<◌, Bool, true, false, List, [], ◌∷◌, refl, sym, ap, ◌∙◌}
-use Rattle.std.specs.Prelude.{◌==◌}
+use Rattle.std.specs.Prelude.{◌==◌, ◌&&◌, nat_lt}
 use Rattle.std.specs.List.{AllByRecursion}
 use Rattle.std.proofs.lemmas.Bool.{eqb-true}
 use Rattle.images.specs.Image.{Image}
 use Rattle.images.specs.Sorted.{AreRising, without}
 use Rattle.log_model.specs.Ids.{has}
-use Rattle.master_state.specs.Images.{staying, leaving}
+use Rattle.master_state.specs.Images.{staying, leaving, waiting_for}
 use Rattle.master_state.proofs.Imaging.{ids_in, same_id, other_id}
 use Rattle.master_state.proofs.Rising.{Rise}
 
@@ -40,11 +40,13 @@ pub staying_none : (cs : List Image) → staying [] cs ≡ cs
 staying_none [] = refl
 staying_none (c ∷ cs) = ap (λ (xs : List Image). c ∷ xs) (staying_none cs)
 
--- the ids that leave, from a place on
-pub leaving_here : (victims : List ℕ) (c : Image) (cs : List Image) → has victims c.id ≡ true
-    → leaving victims (c ∷ cs) ≡ c.id ∷ leaving victims cs
+-- the segments that leave, from a place on
+pub leaving_here : (victims : List ℕ) (c : Image) (cs : List Image)
+    → (has victims c.id && nat_lt 0 c.replicas) ≡ true
+    → leaving victims (c ∷ cs) ≡ waiting_for c ∷ leaving victims cs
 leaving_here victims c cs is = rw is refl
 
-pub leaving_past : (victims : List ℕ) (c : Image) (cs : List Image) → has victims c.id ≡ false
+pub leaving_past : (victims : List ℕ) (c : Image) (cs : List Image)
+    → (has victims c.id && nat_lt 0 c.replicas) ≡ false
     → leaving victims (c ∷ cs) ≡ leaving victims cs
 leaving_past victims c cs is = rw is refl

@@ -3,27 +3,30 @@ use Rattle.std.proofs.Common.{◌≡◌, ℕ, take, drop, get_or, add-one, drop-
 use Rattle.std.proofs.Common.{List, [], ◌∷◌, ◌++◌, length, refl, sym, ap, ◌∙◌, arith}
 use Rattle.std.specs.Prelude.{Option, Some, None, is_some, not, nat_le, nat_lt, ◌==◌, ◌||◌, ◌^◌, if◌then◌else◌}
 use Rattle.std.specs.List.{AllByRecursion}
-use Rattle.std.specs.Option.{option_map_or}
-use Rattle.std.proofs.lemmas.Bool.{eqb-true, not-false, ltb-false, or_right, leb-true, lt-ltb, le-ltb}
+use Rattle.std.specs.Option.{option_map, option_map_or}
+use Rattle.std.proofs.lemmas.Bool.{eqb-true, not-false, ltb-false, or_right, leb-true, leb-false, lt-ltb, le-ltb}
 use Rattle.std.proofs.lemmas.Bool.Decides.{nat_tests}
-use Rattle.std.proofs.lemmas.List.{take_more}
+use Rattle.std.proofs.lemmas.List.{take_more, drop_all}
 use Rattle.std.proofs.lemmas.List.Folds.{list_any-append}
 use Rattle.std.proofs.lemmas.Option.{same_Some}
 use Rattle.cleaner.specs.declared.fault.PassFault.{PassFault}
 use Rattle.cleaner.specs.declared.fault.PassFault.TheVariants.{IsHead, NotInLog, PassOpen, NoVictims, TooMany, TooMuch}
 use Rattle.cleaner.specs.declared.fault.PassFault.TheVariants.{Twice}
+use Rattle.cleaner.specs.declared.fitting.PassSize.{PassSize}
 use Rattle.cleaner.specs.declared.pass.Pass.{Pass as OpenPass}
 use Rattle.compactor.specs.Kept.{has_id}
 use Rattle.log_head.specs.Head.{digest_of}
 use Rattle.log_model.specs.Ids.{has}
 use Rattle.master_state.specs.declared.step.Refusal.{Refusal}
-use Rattle.master_state.specs.declared.step.Refusal.TheVariants.{Halted, Full, SegmentsSpent, Pass}
+use Rattle.master_state.specs.declared.step.Refusal.TheVariants.{Full, SegmentsSpent, Pass}
 use Rattle.master_state.specs.Budget.{may_clean}
 use Rattle.master_state.specs.Causes.{is_head, victim_fault, victims_fault, survivors_for, space_refusal, clean_refusal}
+use Rattle.master_state.specs.Causes.{step_refusal}
 use Rattle.master_state.specs.Data.{MasterData}
 use Rattle.master_state.specs.Invariant.{AreApart}
 use Rattle.master_state.proofs.Imaging.{same_id}
 use Rattle.master_state.proofs.Refusals.{passes}
+use Rattle.master_space.proofs.Calm.{passes_first}
 
 -- ---- lists of ids
 
@@ -105,6 +108,11 @@ module _ (d : MasterData) where
         ∙ fault_same (id ∷ take i ids) (take i ids ++ id ∷ []) (drop (i + 1) ids) (front_or_end (take i ids) id)
         ∙ ap (λ (xs : List ℕ). victim_fault d xs (drop (i + 1) ids)) (sym (take_more ids i 0 lt))
 
+  -- those of all segments
+  pub no_fault_left : (ids : List ℕ) (i : ℕ) → length ids ≤ i
+      → victim_fault d [] ids ≡ victim_fault d (take i ids) (drop i ids) → victim_fault d [] ids ≡ None
+  no_fault_left ids i le so_far = so_far ∙ ap (victim_fault d (take i ids)) (drop_all i ids le)
+
   -- ---- none is there twice, is a head, or is out of the log
 
   abbrev pub IsOlder : ℕ → Type 0
@@ -167,7 +175,7 @@ are_free d ids ok =
 
 -- A pass may begin.
 pub record MayBegin (d : MasterData) (ids : List ℕ) : Type 0 where
-  pub running : d.is_halted ≡ false
+  pub step : step_refusal d ≡ None
   pub victims : AreFree d ids
   pub few : survivors_for d ids ≤ 4
   pub rule : may_clean d (length ids) (survivors_for d ids) ≡ true
@@ -180,13 +188,13 @@ no_victims_fault (Some f) rest is = absurd (cc)
 
 pub may_begin_pass : (d : MasterData) (ids : List ℕ) → clean_refusal d ids ≡ None → MayBegin d ids
 may_begin_pass d ids ok =
-    let a = passes d.is_halted Halted _ ok in
+    let a = passes_first (step_refusal d) _ ok in
     let v = no_victims_fault (victims_fault d ids) (space_refusal d ids) a.1 in
     let b = passes (nat_lt 4 (survivors_for d ids)) (Pass TooMuch) _ v.1 in
     let f = passes (not (may_clean d (length ids) (survivors_for d ids))) Full _ b.1 in
     let n = passes (nat_lt (2 ^ 62 + 1) (d.next + survivors_for d ids)) SegmentsSpent None f.1 in
     record {
-      running = a.0;
+      step = a.0;
       victims = are_free d ids v.0;
       few = ltb-false 4 (survivors_for d ids) b.0;
       rule = not-false _ f.0;
@@ -201,6 +209,21 @@ at_most_four m x is = go (nat_le m 4) refl is where
   go : (t : Bool) → nat_le m 4 ≡ t → Some x ≡ (if t then Some m else None) → (x ≡ m) × (nat_lt 4 m ≡ false)
   go true few is = (same_Some x m is, le-ltb 4 m (leb-true m 4 few))
   go false many is = absurd (cc)
+
+-- and there are more, if none was told
+pub more_than_four : (r : Option PassSize) (m n : ℕ) → r ≡ None
+    → option_map (λ (size : PassSize). size.survivors) r ≡ (if nat_le m 4 then Some m else None) → m ≡ n
+    → nat_lt 4 n ≡ true
+more_than_four r m n none told same =
+    go (nat_le m 4) refl (sym (ap (option_map (λ (size : PassSize). size.survivors)) none) ∙ told)
+  where
+    go : (t : Bool) → nat_le m 4 ≡ t → None ≡ (if t then Some m else None) → nat_lt 4 n ≡ true
+    go true few is = absurd (cc)
+    go false many is = ap (nat_lt 4) (sym same) ∙ lt-ltb 4 m (leb-false m 4 many)
+
+pub much_refused : (d : MasterData) (ids : List ℕ) → nat_lt 4 (survivors_for d ids) ≡ true
+    → Some (Pass TooMuch) ≡ space_refusal d ids
+much_refused d ids many = rw many refl
 
 module _ (d : MasterData) (ids : List ℕ) (few : nat_lt 4 (survivors_for d ids) ≡ false) where
   pub full_refused : may_clean d (length ids) (survivors_for d ids) ≡ false → Some Full ≡ space_refusal d ids

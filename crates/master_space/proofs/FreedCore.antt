@@ -1,25 +1,16 @@
 -- A core of which other segments wait, or other replicas of the first of them are freed.
-use Rattle.std.proofs.Common.{◌≡◌, ℕ, suc, ◌+◌, ◌<◌, ◌≤◌, true, false, List, length, drop, refl, arith}
+use Rattle.std.proofs.Common.{◌≡◌, ℕ, suc, ◌+◌, ◌<◌, ◌≤◌, Bool, true, false, List, [], ◌∷◌, length, refl, arith}
 use Rattle.std.specs.Prelude.{Option, Some, None, IfSome, ◌==◌}
 use Rattle.std.proofs.lemmas.Bool.Decides.{nat_tests}
+use Rattle.std.specs.List.{AllByRecursion}
 use Rattle.cleaner.specs.declared.pass.Pass.{Pass}
 use Rattle.log_head.specs.declared.head.Roll.{Roll}
+use Rattle.master_state.specs.declared.failover.Failover.{Failover}
+use Rattle.master_state.specs.declared.waiting.Waiting.{Waiting}
 use Rattle.master_state.specs.Data.{MasterData}
-use Rattle.master_state.specs.Invariant.{IsCore, IsRollOf, IsOpenPass}
-use Rattle.master_state.specs.Steps.{freed_data}
+use Rattle.master_state.specs.Invariant.{IsCore, IsRollOf, IsOpenPass, IsFailover}
+use Rattle.master_state.specs.Steps.{freed_one}
 use Rattle.master_state.proofs.Passing.{goes_on}
-
--- with its last replica the first segment waits no more
-pub freed_last : (d : MasterData) → d.freed + 1 ≡ d.config.replicas
-    → freed_data d ≡ record d { waiting = drop 1 d.waiting; freed = 0 }
-freed_last d last = let t : (suc d.freed == d.config.replicas) ≡ true = grind (arith, nat_tests, last) in rw t refl
-
-pub freed_one : (d : MasterData) → (d.freed + 1 ≡ d.config.replicas → ⊥)
-    → freed_data d ≡ record d { freed = d.freed + 1 }
-freed_one d more =
-    let t : (suc d.freed == d.config.replicas) ≡ false = grind (arith, nat_tests, more) in
-    let n : suc d.freed ≡ d.freed + 1 = omega arith in
-    rw (t, n) refl
 
 -- fewer segments wait, so there is room for the victims of a commit still
 pub room_left : (o : Option Pass) (long short room : ℕ) → short ≤ long
@@ -28,9 +19,10 @@ pub room_left : (o : Option Pass) (long short room : ℕ) → short ≤ long
 room_left None long short room less was = tt
 room_left (Some p) long short room less was = λ commits. let enough = was commits in omega arith
 
-module _ (d : MasterData) (core : IsCore d) (waits : List ℕ) (count : ℕ) (few : count < d.config.replicas) where
+module _ (d : MasterData) (core : IsCore d) (waits : List Waiting)
+    (valid : AllByRecursion (λ (w : Waiting). (w.freed < w.replicas) × (w.replicas ≤ d.config.replicas)) waits) where
   abbrev e : MasterData
-  e = record d { waiting = waits; freed = count }
+  e = record d { waiting = waits }
 
   pass_then : (o : Option Pass) → IfSome o (IsOpenPass d) → IfSome o (IsOpenPass e)
   pass_then None was = tt
@@ -44,6 +36,8 @@ module _ (d : MasterData) (core : IsCore d) (waits : List ℕ) (count : ℕ) (fe
     survivors = λ s m. refl;
     keeps = λ place x m stands keeps. keeps;
     live = λ k q finds victim. finds;
+    replicas = λ s m. refl;
+    failed = λ none. none;
     free = λ early. omega arith;
     listed = λ early. omega arith;
     rolls = λ commits some. some;
@@ -59,7 +53,19 @@ module _ (d : MasterData) (core : IsCore d) (waits : List ℕ) (count : ℕ) (fe
     used = rolls.used;
   }
 
-  pub freed_core : IsCore (record d { waiting = waits; freed = count })
+  failover_then : (o : Option Failover) → IfSome o (IsFailover d) → IfSome o (IsFailover e)
+  failover_then None is = tt
+  failover_then (Some f) is = record {
+    some = is.some;
+    closed = is.closed;
+    mends = is.mends;
+    opens = is.opens;
+    first = is.first;
+    closes = is.closes;
+    repairs = is.repairs;
+  }
+
+  pub freed_core : IsCore (record d { waiting = waits })
   freed_core = record {
     config = core.config;
     replicas = core.replicas;
@@ -77,8 +83,37 @@ module _ (d : MasterData) (core : IsCore d) (waits : List ℕ) (count : ℕ) (fe
     roll = roll_then d.head.roll core.roll;
     pass = pass_then d.pass core.pass;
     named = core.named;
-    freed = few;
+    replicas_few = core.replicas_few;
+    waiting = valid;
+    digest = core.digest;
+    listed = core.listed;
+    failed = (let f = core.failed in record { few = f.few; there = f.there; apart = f.apart; two = f.two });
+    whole = core.whole;
+    failover = failover_then d.failover core.failover;
+    abandoned = core.abandoned;
     budget = core.budget;
     legal = core.legal;
     index = record { kept = core.index.kept; lies = core.index.lies; safe = core.index.safe };
   }
+
+-- what is left waiting once a replica of the first segment was freed is in order
+pub freed_valid : (replicas : ℕ) (ws : List Waiting)
+    → AllByRecursion (λ (w : Waiting). (w.freed < w.replicas) × (w.replicas ≤ replicas)) ws
+    → AllByRecursion (λ (w : Waiting). (w.freed < w.replicas) × (w.replicas ≤ replicas)) (freed_one ws)
+freed_valid replicas [] all = tt
+freed_valid replicas (w ∷ ws) all = go (suc w.freed == w.replicas) refl where
+  go : (t : Bool) → (suc w.freed == w.replicas) ≡ t
+      → AllByRecursion (λ (x : Waiting). (x.freed < x.replicas) × (x.replicas ≤ replicas)) (freed_one (w ∷ ws))
+  go true is = rw is all.1
+  go false is =
+      let other : suc w.freed ≡ w.replicas → ⊥ =
+      λ e. (let t : (suc w.freed == w.replicas) ≡ true = grind (arith, nat_tests, e) in cc) in
+      let less = all.0.0 in
+      rw is ((omega (arith, other), all.0.1), all.1)
+
+pub freed_less : (ws : List Waiting) → length (freed_one ws) ≤ length ws
+freed_less [] = omega arith
+freed_less (w ∷ ws) = go (suc w.freed == w.replicas) refl where
+  go : (t : Bool) → (suc w.freed == w.replicas) ≡ t → length (freed_one (w ∷ ws)) ≤ length (w ∷ ws)
+  go true is = rw is (omega arith)
+  go false is = rw is (omega arith)

@@ -1,13 +1,14 @@
 -- Victims that leave lists of ids and of images.
 use Rattle.std.proofs.Common.{◌≡◌, ℕ, ◌+◌, ◌<◌, ◌≤◌, Bool, true, false, List, [], ◌∷◌, length, refl, sym, ap, subst}
 use Rattle.std.proofs.Common.{◌∙◌, arith}
-use Rattle.std.specs.Prelude.{◌==◌, filter, sum_by, None}
+use Rattle.std.specs.Prelude.{◌==◌, filter, nat_lt, sum_by, None}
 use Rattle.std.specs.List.{AllByRecursion}
-use Rattle.std.proofs.lemmas.Bool.{eqb-true}
+use Rattle.std.proofs.lemmas.Bool.{eqb-true, ltb-true}
 use Rattle.std.proofs.lemmas.List.Sums.{sum_by-cons}
 use Rattle.images.specs.Image.{Image}
 use Rattle.images.specs.Sorted.{image_of}
 use Rattle.log_model.specs.Ids.{has, without}
+use Rattle.master_state.specs.declared.waiting.Waiting.{Waiting}
 use Rattle.master_state.specs.Images.{staying, leaving}
 use Rattle.master_state.specs.Invariant.{AreApart}
 use Rattle.master_state.proofs.Imaging.{ids_in, same_id, other_id}
@@ -184,5 +185,33 @@ leaves_gone victims s (c ∷ cs) goes = go (has victims c.id) refl (leaves_gone 
       (let same : has victims c.id ≡ true = ap (has victims) e ∙ goes in cc)) in
       rw (is, other) later
 
+-- no more wait than victims are there
+leaving_held : (victims : List ℕ) (cs : List Image)
+    → length (leaving victims cs) ≤ length (only victims (ids_in cs))
+leaving_held victims [] = omega arith
+leaving_held victims (c ∷ cs) = go (has victims c.id) refl (nat_lt 0 c.replicas) refl (leaving_held victims cs) where
+  go : (t : Bool) → has victims c.id ≡ t → (u : Bool) → nat_lt 0 c.replicas ≡ u
+      → length (leaving victims cs) ≤ length (only victims (ids_in cs))
+      → length (leaving victims (c ∷ cs)) ≤ length (only victims (ids_in (c ∷ cs)))
+  go true is true held later = rw (is, held) (omega arith)
+  go true is false held later = rw (is, held) (omega arith)
+  go false is u held later = rw is later
+
 pub leaving_few : (victims : List ℕ) (cs : List Image) → Rise (ids_in cs) → length (leaving victims cs) ≤ length victims
-leaving_few victims cs rise = only_few victims (ids_in cs) rise
+leaving_few victims cs rise =
+    let held = leaving_held victims cs in let few = only_few victims (ids_in cs) rise in omega arith
+
+-- each of them has a replica that is to be freed, and no more than images have
+pub leaving_valid : (victims : List ℕ) (most : ℕ) (cs : List Image)
+    → AllByRecursion (λ (c : Image). c.replicas ≤ most) cs
+    → AllByRecursion (λ (w : Waiting). (w.freed < w.replicas) × (w.replicas ≤ most)) (leaving victims cs)
+leaving_valid victims most [] all = tt
+leaving_valid victims most (c ∷ cs) all =
+    go (has victims c.id) refl (nat_lt 0 c.replicas) refl (leaving_valid victims most cs all.1)
+  where
+    go : (t : Bool) → has victims c.id ≡ t → (u : Bool) → nat_lt 0 c.replicas ≡ u
+        → AllByRecursion (λ (w : Waiting). (w.freed < w.replicas) × (w.replicas ≤ most)) (leaving victims cs)
+        → AllByRecursion (λ (w : Waiting). (w.freed < w.replicas) × (w.replicas ≤ most)) (leaving victims (c ∷ cs))
+    go true is true held later = rw (is, held) ((ltb-true 0 c.replicas held, all.0), later)
+    go true is false held later = rw (is, held) later
+    go false is u held later = rw is later

@@ -24,6 +24,7 @@ pub mod FreedCore
 pub mod Chosen
 pub mod Leaving
 pub mod Placed
+pub mod Calm
 pub mod Begun
 pub mod RollStarts
 pub mod SurvivorLens

@@ -96,12 +96,12 @@ module _ (d : MasterData) (core : IsCore d) (victims : List ℕ) (may : MayBegin
   none_yet : (s : ℕ) → d.next ≤ s → image_in d.closed s ≡ None
   none_yet s le = none_above d.closed d.next s (images_below d core may.victims.none) le
 
-  image_new : (s : ℕ) → IsAmong s ids → image_in closed_then s ≡ Some (survivor_image d.config s)
+  pub image_new : (s : ℕ) → IsAmong s ids → image_in closed_then s ≡ Some (survivor_image d.config s)
   image_new s m =
       found_behind d.closed (survivor_images d.config ids) s (none_yet s (id_within s m).0)
       ∙ new_found d.config ids s m
 
-  image_other : (s : ℕ) → (IsAmong s ids → ⊥) → image_in closed_then s ≡ image_in d.closed s
+  pub image_other : (s : ℕ) → (IsAmong s ids → ⊥) → image_in closed_then s ≡ image_in d.closed s
   image_other s out =
       found_before d.closed (survivor_images d.config ids) s (new_other d.config ids s out)
 

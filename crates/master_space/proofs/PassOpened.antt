@@ -26,6 +26,7 @@ use Rattle.cleaner.specs.Passes.{images_in, places_of, rest_of, IsCursorAt}
 use Rattle.compactor.specs.Places.{LiesAt}
 use Rattle.places.specs.declared.place.Place.{Place}
 use Rattle.images.specs.Image.{Image}
+use Rattle.images.specs.Sorted.{replicas_of}
 use Rattle.images.specs.Images.{ImagesValue, AreWithin, count_of, free_seglets as free_images}
 use Rattle.failover_model.specs.Data.{FailData}
 use Rattle.failover_model.specs.Steps.{id_taken}
@@ -44,16 +45,18 @@ use Rattle.master_state.specs.Images.{survivor_images}
 use Rattle.master_state.specs.Invariant.{IsCore, IsRollOf, IsOpenPass, IsSpare, IsSurvivor, IsIndex, NameBelow}
 use Rattle.master_state.specs.Invariant.{AreImagesOf, listed_now}
 use Rattle.master_state.specs.Ledger.{forgotten, posted}
-use Rattle.master_state.specs.Log.{is_opened, log_of, memory_of, images_of, find, state_now}
+use Rattle.master_state.specs.Log.{is_headless, log_of, memory_of, images_of, find, state_now}
 use Rattle.master_state.specs.Steps.{fresh_pass, next_survivors, BeginsPass}
 use Rattle.master_state.proofs.Finding.{index_again}
 use Rattle.master_state.proofs.Indexing.{found_lies}
 use Rattle.master_state.proofs.Refusals.{sizes_of}
+use Rattle.master_state.proofs.Passing.{lacking_same}
+use Rattle.master_space.proofs.Calm.{calm_parts, no_failover}
 use Rattle.master_space.proofs.FreeVictims.{MayBegin}
 use Rattle.master_space.proofs.NewImages.{new_ids, new_count}
 use Rattle.master_space.proofs.PassBegun.{count, ids, id_within, new_or_not, in_new, images_other, images_new, grow}
 use Rattle.master_space.proofs.PassBegun.{victim_out, victim_images, closed_then, pass, e, rest_then, rest_before}
-use Rattle.master_space.proofs.PassBegun.{is_pass, rooms}
+use Rattle.master_space.proofs.PassBegun.{is_pass, rooms, image_new, image_other}
 use Rattle.master_space.proofs.PassIds.{others, closed_ids, start_below, others_below, all_below, not_has}
 use Rattle.master_space.proofs.PassIds.{not_opening_later, victims_listed}
 use Rattle.master_space.proofs.PlaceRows.{lying_place}
@@ -156,6 +159,27 @@ module _ (d : MasterData) (core : IsCore d) (victims : List ℕ) (may : MayBegin
       (new_segments new (λ s m.
       (let within = (id_within d core victims may s m).1 in let le = may.next in omega arith)))
 
+  -- ---- replicas
+
+  -- no backup holds a survivor yet
+  none_holds : (s : ℕ) → IsAmong s new → replicas_of after.closed s ≡ 0
+  none_holds s m = ap (λ (o : Option Image). option_map_or (λ (x : Image). x.replicas) o 0)
+      (image_new d core victims may s m)
+
+  new_few : (zs : List ℕ) → AllByRecursion (λ (c : Image). c.replicas ≤ d.config.replicas)
+      (survivor_images d.config zs)
+  new_few [] = tt
+  new_few (z ∷ zs) = (omega arith, new_few zs)
+
+  -- the segments of the digest keep theirs
+  listed_same : (s : ℕ) → IsAmong s (others d core) → replicas_of after.closed s ≡ replicas_of d.closed s
+  listed_same s m = ap (λ (o : Option Image). option_map_or (λ (x : Image). x.replicas) o 0)
+      (image_other d core victims may s (λ own. (
+      let lt = all_among (λ (z : ℕ). z < d.head.id) (others d core) s (others_below d core) m in
+      let le = (id_within d core victims may s own).0 in
+      let used = core.used in
+      omega arith)))
+
   -- ---- what is counted
 
   counted_then : used_seglets after ≡ used_seglets d + count d core victims may * whole_seglets d.config
@@ -228,14 +252,10 @@ module _ (d : MasterData) (core : IsCore d) (victims : List ℕ) (may : MayBegin
     };
     survivors = record { some = omega arith; few = may.few; each = survivor_then };
     rooms = rooms d core victims may cursor begins within at short;
-    sealed = record {
-      some = (let few = core.freed in omega arith);
-      within = omega arith;
-      done = λ same. refl;
-    };
+    sealed = λ s m. (let none = none_holds s m in omega arith);
     live = live;
-    unsealed = λ more. refl;
-    spare = λ not. spare;
+    unsealed = λ more s m. none_holds s m;
+    spare = λ none not. spare;
     commits = λ is. absurd (cc);
   }
 
@@ -289,7 +309,15 @@ module _ (d : MasterData) (core : IsCore d) (victims : List ℕ) (may : MayBegin
     roll = roll_then d.head.roll core.roll;
     pass = pass_then;
     named = named_then;
-    freed = core.freed;
+    replicas_few = all_both (λ (c : Image). c.replicas ≤ d.config.replicas) d.closed (survivor_images d.config new)
+        core.replicas_few (new_few new);
+    waiting = core.waiting;
+    digest = core.digest;
+    listed = core.listed;
+    failed = (let f = core.failed in record { few = f.few; there = f.there; apart = f.apart; two = f.two });
+    whole = λ calm. lacking_same d.config.replicas d.closed after.closed (others d core) listed_same ∙ core.whole calm;
+    failover = no_failover d after (calm_parts d may.step).1;
+    abandoned = core.abandoned;
     budget = budget_then;
     legal = core.legal;
     index = index_then;
@@ -317,12 +345,12 @@ may_clean_now d core victims may = record {
   older = λ s m. in_force_lists s (all_among (λ (z : ℕ). IsAmong z (others d core)) victims s
       (victims_listed d core victims may.victims) m);
 } where
-  -- a head that lists other segments was opened
+  -- a head that lists other segments is in force
   in_force_lists : (s : ℕ) → IsAmong s (others d core) → IsAmong s (log_of d).head.start.others
-  in_force_lists s m = go (is_opened d.head) refl where
-    go : (t : Bool) → is_opened d.head ≡ t → IsAmong s (log_of d).head.start.others
-    go true opened = rw opened m
-    go false not = absurd (subst (λ (ids : List ℕ). IsAmong s ids) (core.first not).others m)
+  in_force_lists s m = go (is_headless d) refl where
+    go : (t : Bool) → is_headless d ≡ t → IsAmong s (log_of d).head.start.others
+    go true none = absurd (subst (λ (ids : List ℕ). IsAmong s ids) (core.first none).others m)
+    go false some = rw some m
 
 -- the survivors' seglets are free
 pub survivors_free : (d : MasterData) → IsCore d → (victims : List ℕ) → MayBegin d victims → (v w : ImagesValue)

@@ -2,6 +2,7 @@
 use Rattle.std.proofs.Common.{◌≡◌, ℕ, suc, ◌+◌, ◌≤◌, Bool, true, false, List, [], length, refl, sym, ap, subst}
 use Rattle.std.proofs.Common.{◌∙◌, add-one, arith, inl, inr}
 use Rattle.std.specs.Prelude.{Option, Some, None, unwrap_or, ◌==◌, if◌then◌else◌}
+use Rattle.std.specs.Option.{option_map_or}
 use Rattle.std.proofs.lemmas.Bool.{le-leb}
 use Rattle.std.proofs.lemmas.Bool.Decides.{nat_tests}
 use Rattle.cleaner.specs.Passes.{images_in}
@@ -14,21 +15,22 @@ use Rattle.failover_model.specs.Data.{Head as FailHead, Rolls, front}
 use Rattle.failover_model.specs.Steps.{ids_now, rolling}
 use Rattle.failover_model.specs.Text.{length_of}
 use Rattle.failover_bytes.proofs.Texts.{length_is}
-use Rattle.log_head.specs.Head.{IsHeadValue, digest_in, digest_of}
+use Rattle.log_head.specs.Head.{HeadValue, IsHeadValue, digest_in, digest_of}
 use Rattle.log_head.specs.Log.{head_of, start_of}
 use Rattle.log_head.specs.Steps.{fresh_roll, with_roll}
 use Rattle.log_head.proofs.RollLog.{digest_is, start_is}
 use Rattle.log_model.specs.Data.{Start, digest_for, ids_of, len_next, lens_next, start_entries}
 use Rattle.log_model.specs.Data.{head_entries}
 use Rattle.log_model.specs.Ids.{has, all_inserted, without}
+use Rattle.master_state.specs.declared.failover.Failover.{Failover}
 use Rattle.master_state.specs.declared.step.StepAnswer.TheVariants.{Rolling as RollingTo}
 use Rattle.master_state.specs.Budget.{victims_of, survivors_of, is_ready}
 use Rattle.master_state.specs.Causes.{roll_refusal}
 use Rattle.master_state.specs.Data.{MasterData}
 use Rattle.master_state.specs.Invariant.{IsCore}
 use Rattle.master_state.specs.Ledger.{counts_in, shut_in, took_in}
-use Rattle.master_state.specs.Log.{fail_config, opening_of, is_opened, in_force, log_of, state_now, images_of}
-use Rattle.master_state.specs.Log.{memory_of}
+use Rattle.master_state.specs.Log.{fail_config, opening_of, is_opened, is_headless, in_force, calm_mode, failing_mode}
+use Rattle.master_state.specs.Log.{mode_of, log_of, state_now, images_of, memory_of}
 use Rattle.master_state.specs.Steps.{BeginsRoll, MayRollNow, listed_in, start_now, rolling_data, next_now}
 use Rattle.master_state.proofs.Passing.{has_among}
 use Rattle.master_space.proofs.RollStarts.{start_by, start_has}
@@ -52,7 +54,12 @@ commit_digest start n victims survivors is = record {
   left : List ℕ
   left = without victims (ids_of start)
 
-module _ (d : MasterData) (core : IsCore d) (opened : is_opened d.head ≡ true) where
+-- an open head is in force while no failover is open
+pub headed : (d : MasterData) → d.failover ≡ None → is_opened d.head ≡ true → is_headless d ≡ false
+headed d calm opened = rw (calm, opened) refl
+
+-- the next head of a roll or a failover, if a head is in force
+module _ (d : MasterData) (core : IsCore d) (forced : is_headless d ≡ false) where
   -- the head in force
   abbrev head : FailHead
   head = record {
@@ -62,7 +69,7 @@ module _ (d : MasterData) (core : IsCore d) (opened : is_opened d.head ≡ true)
   }
 
   in_force_is : head ≡ (log_of d).head
-  in_force_is = rw opened refl
+  in_force_is = rw forced refl
 
   -- the image is the head's text, under the head's digest
   image_is : d.head.image ≡ head_entries d.config.master (head_of d.head) (length (head_of d.head).units)
@@ -150,7 +157,7 @@ module _ (d : MasterData) (core : IsCore d) (opened : is_opened d.head ≡ true)
   pub next_is : start_now d ≡ next_now d
   next_is = next_head ∙ ap next_at in_force_is
 
-  next_id : (next_now d).id ≡ d.next
+  pub next_id : (next_now d).id ≡ d.next
   next_id = sym (ap (λ (n : Start). n.id) next_is) ∙ start_id where
     start_id : (start_now d).id ≡ d.next
     start_id = go (is_ready d) where
@@ -158,33 +165,7 @@ module _ (d : MasterData) (core : IsCore d) (opened : is_opened d.head ≡ true)
       go true = refl
       go false = refl
 
-  mode_then : (if is_opened d.head then Rolls (start_of (fresh_roll d.config.master (start_now d)))
-      else Rolls (head_of d.head).start) ≡ Rolls (next_now d)
-  mode_then = go (is_opened d.head) opened where
-    go : (t : Bool) → t ≡ true → (if t then Rolls (start_of (fresh_roll d.config.master (start_now d)))
-        else Rolls (head_of d.head).start) ≡ Rolls (next_now d)
-    go true is = ap Rolls (start_is d.config.master (start_now d) (start_has d) ∙ next_is)
-    go false is = absurd (cc)
-
-  log_begun : log_of (rolling_data d) ≡ rolling (log_of d) (next_now d) (Rolls (next_now d))
-  log_begun = λ i. record {
-    config = fail_config d.config;
-    opening = opening_of d;
-    history = d.history;
-    head = in_force d.config.format d.head;
-    counts = counts_in d.ledger;
-    shut = shut_in d.ledger;
-    mode = mode_then i;
-    abandoned = [];
-    took = λ s. if s == sym next_id i then [] else took_in d.ledger s;
-    failed = [];
-    frozen = 0;
-    next = more i;
-  } where
-    more : d.next + 1 ≡ suc d.next
-    more = rw add-one refl
-
-  is_commit : is_ready d ≡ true → IsCommit (log_of d).head.start (memory_of d).pass (next_now d)
+  pub is_commit : is_ready d ≡ true → IsCommit (log_of d).head.start (memory_of d).pass (next_now d)
   is_commit test =
       subst (λ (h : FailHead). IsCommit h.start (memory_of d).pass (next_now d)) in_force_is
       (commit_digest head.start (next_now d) (victims_of d.pass) (survivors_of d.pass) others)
@@ -196,8 +177,44 @@ module _ (d : MasterData) (core : IsCore d) (opened : is_opened d.head ≡ true)
           ∙ (rw test (ap (λ (ids : List ℕ). all_inserted (survivors_of d.pass) (without (victims_of d.pass) ids))
           ids_are))
 
+-- a roll begins
+module _ (d : MasterData) (core : IsCore d) (calm : d.failover ≡ None) (opened : is_opened d.head ≡ true) where
+  abbrev new : HeadValue
+  new = with_roll d.head d.config.master (start_now d)
+
+  mode_then : mode_of (rolling_data d) ≡ Rolls (next_now d)
+  mode_then = ap (λ (o : Option Failover). option_map_or (failing_mode new) o (calm_mode new)) calm
+      ∙ go (is_opened d.head) opened
+    where
+      go : (t : Bool) → t ≡ true → (if t then Rolls (start_of (fresh_roll d.config.master (start_now d)))
+          else Rolls (head_of d.head).start) ≡ Rolls (next_now d)
+      go true is =
+          ap Rolls (start_is d.config.master (start_now d) (start_has d) ∙ next_is d core (headed d calm opened))
+      go false is = absurd (cc)
+
+  log_begun : log_of (rolling_data d) ≡ rolling (log_of d) (next_now d) (Rolls (next_now d))
+  log_begun = λ i. record {
+    config = fail_config d.config;
+    opening = opening_of d;
+    history = d.history;
+    head = in_force d;
+    counts = counts_in d.ledger;
+    shut = shut_in d.ledger;
+    mode = mode_then i;
+    abandoned = d.abandoned;
+    took = λ s. if s == sym (next_id d core (headed d calm opened)) i then [] else took_in d.ledger s;
+    failed = d.failed;
+    frozen = option_map_or (λ (f : Failover). f.frozen) d.failover 0;
+    next = more i;
+  } where
+    more : d.next + 1 ≡ suc d.next
+    more = rw add-one refl
+
 module _ (d : MasterData) (core : IsCore d) (passed : roll_refusal d ≡ None)
     (valid : IsHeadValue (with_roll d.head d.config.master (start_now d))) where
+  calm_now : d.failover ≡ None
+  calm_now = (may_begin d passed).calm
+
   -- an open head was opened
   opened_now : is_opened d.head ≡ true
   opened_now =
@@ -205,16 +222,18 @@ module _ (d : MasterData) (core : IsCore d) (passed : roll_refusal d ≡ None)
       le-leb d.head.replicas (length d.head.taken) (omega arith)
 
   pub roll_begins : BeginsRoll d (RollingTo d.next) (rolling_data d)
-  roll_begins = record { passed = passed; told = refl; log = log_begun d core opened_now; rest = refl }
+  roll_begins = record { passed = passed; told = refl; log = log_begun d core calm_now opened_now; rest = refl }
+
+  next : start_now d ≡ next_now d
+  next = next_is d core (headed d calm_now opened_now)
 
   pub may_roll_now : MayRollNow d
   may_roll_now = record {
     opened = (may_begin d passed).opened;
     opening = record {
-      segment = subst (λ (n : Start). IsSegment (start_entries d.config.master n)) (next_is d core opened_now)
-          valid.roll.segment;
-      limit = subst (λ (n : Start). length (text_of (start_entries d.config.master n)) ≤ 8388608)
-          (next_is d core opened_now) valid.roll.limit;
+      segment = subst (λ (n : Start). IsSegment (start_entries d.config.master n)) next valid.roll.segment;
+      limit = subst (λ (n : Start). length (text_of (start_entries d.config.master n)) ≤ 8388608) next
+          valid.roll.limit;
     };
-    commit = is_commit d core opened_now;
+    commit = is_commit d core (headed d calm_now opened_now);
   }

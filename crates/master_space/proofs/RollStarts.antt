@@ -1,12 +1,13 @@
 -- A roll begins: an ordinary one, or the commit of a pass that is ready.
 use Rattle.std.proofs.Common.{◌≡◌, ◌⊎◌, inl, inr, ℕ, zero, suc, ◌+◌, ◌-◌, ◌<◌, ◌≤◌, Bool, true, false, List, [], ◌∷◌}
 use Rattle.std.proofs.Common.{◌++◌, length, refl, sym, ap, subst, ◌∙◌, arith}
-use Rattle.std.specs.Prelude.{Option, Some, None, IfSome, IsSome, ◌*◌, ◌||◌, if◌then◌else◌}
+use Rattle.std.specs.Prelude.{Option, Some, None, IfSome, IsSome, is_some, nat_le, ◌==◌, ◌*◌, ◌||◌, ◌&&◌}
+use Rattle.std.specs.Prelude.{if◌then◌else◌}
 use Rattle.std.specs.List.{AllByRecursion}
 use Rattle.std.specs.List.Sorted.{IsStrictlyIncreasing}
 use Rattle.std.specs.Option.{option_map, option_map_or}
 use Rattle.std.proofs.Math.Nat.{mul-div-le}
-use Rattle.std.proofs.lemmas.Bool.{and_parts, leb-true}
+use Rattle.std.proofs.lemmas.Bool.{and_parts, eqb-true, leb-true}
 use Rattle.std.proofs.lemmas.List.{length-append}
 use Rattle.std.proofs.lemmas.List.FromFn.{length-range_with_len}
 use Rattle.cleaner.specs.declared.pass.Pass.{Pass}
@@ -23,9 +24,11 @@ use Rattle.log_head.proofs.RollLog.{digest_is, start_after_has}
 use Rattle.log_model.specs.Data.{Start, ids_of}
 use Rattle.log_model.proofs.Lengths.{ids_listed}
 use Rattle.log_model.specs.Ids.{has, all_inserted, without}
+use Rattle.master_state.specs.declared.failover.Failover.{Failover}
 use Rattle.master_state.specs.Budget.{newest_digest, most_segments, whole_seglets, seglets_of, head_seglets}
 use Rattle.master_state.specs.Budget.{used_seglets, free_seglets}
-use Rattle.master_state.specs.Budget.{victims_of, survivors_of, is_ready, has_space}
+use Rattle.master_state.specs.Budget.{victims_of, survivors_of, is_ready, has_space, commit_listed, may_commit}
+use Rattle.master_state.specs.Budget.{may_roll}
 use Rattle.master_state.specs.Budget.{segments_taken, segments_entering, segments_leaving}
 use Rattle.master_state.specs.Causes.{roll_refusal}
 use Rattle.master_state.specs.Data.{MasterData}
@@ -48,7 +51,8 @@ new_ids d =
     else without [] (digest_of d.head.image)
 
 abbrev pub pass_now : MasterData → Option Pass
-pass_now d = option_map (λ (p : Pass). record p { is_committing = is_ready_pass p }) d.pass
+pass_now d =
+    option_map (λ (p : Pass). record p { is_committing = is_ready_pass d.config.replicas d.closed p }) d.pass
 
 -- what it begins with, if it is a commit's or isn't
 abbrev pub start_by : MasterData → Bool → Start
@@ -115,9 +119,9 @@ start_parts d vs ss victims survivors =
 pub pass_marked : (d : MasterData) (b : Bool) → is_ready d ≡ b
     → option_map (λ (p : Pass). record p { is_committing = b }) d.pass ≡ pass_now d
 pass_marked d b is = go d.pass is where
-  go : (o : Option Pass) → option_map_or is_ready_pass o false ≡ b
+  go : (o : Option Pass) → option_map_or (is_ready_pass d.config.replicas d.closed) o false ≡ b
       → option_map (λ (p : Pass). record p { is_committing = b }) o
-      ≡ option_map (λ (p : Pass). record p { is_committing = is_ready_pass p }) o
+      ≡ option_map (λ (p : Pass). record p { is_committing = is_ready_pass d.config.replicas d.closed p }) o
   go None test = refl
   go (Some p) test = ap (λ (t : Bool). Some (record p { is_committing = t })) (sym test)
 
@@ -132,12 +136,13 @@ room_marked (Some p) false vs n room is enough = λ commits. absurd (cc)
 
 -- ---- what the tests leave
 
--- The pass that is open is ready.
+-- The pass that is open is ready, and its commit may begin.
 pub record HasReady (d : MasterData) : Type 0 where
   pub pass : Pass
   pub opened : d.pass ≡ Some pass
-  pub ready : is_ready_pass pass ≡ true
+  pub ready : is_ready_pass d.config.replicas d.closed pass ≡ true
   pub test : is_ready d ≡ true
+  pub rule : may_commit d ≡ true
 
 -- No pass is ready, and the rule lets the roll begin.
 pub record HasSpace (d : MasterData) : Type 0 where
@@ -148,16 +153,12 @@ pub record HasSpace (d : MasterData) : Type 0 where
 
 ready_or_space : (d : MasterData) → roll_refusal d ≡ None → HasReady d ⊎ HasSpace d
 ready_or_space d passed = by_pass d.pass refl (is_ready d) refl where
-  by_test : (t : Bool) → is_ready d ≡ t → (t || has_space d 2) ≡ true → (is_ready d ≡ true) ⊎ (has_space d 2 ≡ true)
-  by_test true is rule = inl is
-  by_test false is rule = inr rule
-
-  rule : (is_ready d || has_space d 2) ≡ true
+  rule : may_roll d 2 ≡ true
   rule = (may_begin d passed).rule
 
   space : is_ready d ≡ false → HasSpace d
   space is =
-      let test : has_space d 2 ≡ true = ap (λ (b : Bool). b || has_space d 2) (sym is) ∙ rule in
+      let test : has_space d 2 ≡ true = ap (λ (b : Bool). if b then may_commit d else has_space d 2) (sym is) ∙ rule in
       let all = and_parts _ _ test in
       let counts = and_parts _ _ all.0 in
       record { test = is; most = leb-true _ _ counts.0; left = leb-true _ _ counts.1; free = leb-true _ _ all.1 }
@@ -166,13 +167,14 @@ ready_or_space d passed = by_pass d.pass refl (is_ready d) refl where
   by_pass o same false is = inr (space is)
   by_pass None same true is =
       let never : false ≡ true = sym (ap (λ (o : Option Pass). option_map_or
-      is_ready_pass o false) same) ∙ is in
+      (is_ready_pass d.config.replicas d.closed) o false) same) ∙ is in
       absurd (cc)
   by_pass (Some p) same true is = inl (record {
     pass = p;
     opened = same;
-    ready = sym (ap (λ (o : Option Pass). option_map_or is_ready_pass o false) same) ∙ is;
+    ready = sym (ap (λ (o : Option Pass). option_map_or (is_ready_pass d.config.replicas d.closed) o false) same) ∙ is;
     test = is;
+    rule = ap (λ (b : Bool). if b then may_commit d else has_space d 2) (sym is) ∙ rule;
   })
 
 module _ (d : MasterData) (core : IsCore d) (passed : roll_refusal d ≡ None) where
@@ -189,17 +191,64 @@ module _ (d : MasterData) (core : IsCore d) (passed : roll_refusal d ≡ None) w
   newest = ap (λ (o : Option Roll). length (option_map_or (λ (r : Roll). digest_of r.image) o
       (digest_of d.head.image))) none
 
-  -- a pass that is open keeps a whole segment free, since no commit is under way
-  spare_of : (p : Pass) → IsOpenPass d p → IsSpare d (length p.victims) p.survivors.count
-  spare_of p opens = go p.is_committing refl where
+  counted : head_seglets d ≡ whole_seglets d.config
+  counted = λ i. if is_some (none i) || option_map_or (λ (f : Failover). is_some f.abandoned) (may.calm i) false
+      then seglets_of d.config d.head.image + whole_seglets d.config else whole_seglets d.config
+
+  -- the head has at most a whole segment's seglets
+  head_small : seglets_of d.config d.head.image ≤ whole_seglets d.config
+  head_small =
+      let sizes = sizes_of d.config core.config in
+      let least = sizes.least_seglet in
+      within_whole d.config.segment d.config.seglet (length (text_of d.head.image))
+      (omega arith) sizes.multiple core.within
+
+  -- a pass that is open keeps a whole segment free while no backup has failed, since no commit is under way
+  spare_of : (p : Pass) → IsOpenPass d p → d.failed ≡ [] → IsSpare d (length p.victims) p.survivors.count
+  spare_of p opens whole = go p.is_committing refl where
     go : (t : Bool) → p.is_committing ≡ t → IsSpare d (length p.victims) p.survivors.count
     go true is = (let some = (opens.commits is).0 in let never : IsSome {T = Roll} None = subst IsSome none
         some in absurd (cc))
-    go false is = opens.spare is
+    go false is = opens.spare whole is
+
+  -- what the rule of a commit leaves: under format 1 no backup has failed
+  commit_room : (p : Pass) → d.pass ≡ Some p → IsOpenPass d p → may_commit d ≡ true
+      → (length (digest_of d.head.image) + p.survivors.count + 1 ≤ most_segments d.config + length p.victims)
+      × (seglets_of d.config d.head.image ≤ free_seglets d)
+  commit_room p is opens rule = by_format (d.config.format == 1) refl where
+    none_failed : (d.config.format == 1) ≡ true → d.failed ≡ []
+    none_failed test = go d.failed refl where
+      go : (bs : List ℕ) → d.failed ≡ bs → d.failed ≡ []
+      go [] same = same
+      go (b ∷ bs) same =
+          let two : d.config.format ≡ 2 = core.failed.two (λ empty.
+          (let never : b ∷ bs ≡ [] = sym same ∙ empty in cc)) in
+          let one : d.config.format ≡ 1 = eqb-true d.config.format 1 test in
+          absurd (omega arith)
+
+    by_format : (t : Bool) → (d.config.format == 1) ≡ t
+        → (length (digest_of d.head.image) + p.survivors.count + 1 ≤ most_segments d.config + length p.victims)
+        × (seglets_of d.config d.head.image ≤ free_seglets d)
+    by_format true test =
+        let spare = spare_of p opens (none_failed test) in
+        let listed = spare.listed in
+        let free = spare.free in
+        let same = newest in
+        let small = head_small in
+        (omega arith, omega arith)
+    by_format false test =
+        let both = and_parts _ _ (ap (λ (b : Bool). b || nat_le (commit_listed d) (most_segments d.config)
+        && nat_le (seglets_of d.config d.head.image) (free_seglets d)) (sym test) ∙ rule) in
+        let few = leb-true (commit_listed d) (most_segments d.config) both.0 in
+        let leaving : segments_leaving d ≡ length p.victims =
+        ap (λ (o : Option Pass). option_map_or (λ (q : Pass). length q.victims) o 1) is in
+        let entering : segments_entering d ≡ p.survivors.count =
+        ap (λ (o : Option Pass). option_map_or (λ (q : Pass). q.survivors.count) o 1) is in
+        (omega arith, leb-true (seglets_of d.config d.head.image) (free_seglets d) both.1)
 
   -- ---- how many ids the next head lists
 
-  module _ (p : Pass) (opens : IsOpenPass d p) where
+  module _ (p : Pass) (is : d.pass ≡ Some p) (opens : IsOpenPass d p) where
     older : AllByRecursion (λ (s : ℕ). has (digest_of d.head.image) s ≡ true) p.victims
     older = subst (λ (ids : List ℕ). AllByRecursion (λ (s : ℕ). has ids s ≡ true) p.victims) (sym digest)
         (each p.victims opens.victims.older) where
@@ -212,14 +261,14 @@ module _ (d : MasterData) (core : IsCore d) (passed : roll_refusal d ≡ None) w
             each vs all.1,
           )
 
-    commit_few : length (all_inserted (survivor_ids p.survivors) (without p.victims (digest_of d.head.image))) + 1
+    commit_few : may_commit d ≡ true
+        → length (all_inserted (survivor_ids p.survivors) (without p.victims (digest_of d.head.image))) + 1
         ≤ most_segments d.config
-    commit_few =
+    commit_few rule =
         let put = length_all (survivor_ids p.survivors) (without p.victims (digest_of d.head.image)) in
         let count = length-range_with_len p.survivors.first p.survivors.count in
         let left = length_left p.victims (digest_of d.head.image) opens.victims.apart older in
-        let listed = (spare_of p opens).listed in
-        let same = newest in
+        let room = (commit_room p is opens rule).0 in
         omega arith
 
   count_none : length (without [] (digest_of d.head.image)) ≡ length (digest_of d.head.image)
@@ -228,7 +277,7 @@ module _ (d : MasterData) (core : IsCore d) (passed : roll_refusal d ≡ None) w
   few_of : HasReady d ⊎ HasSpace d → length (new_ids d) + 1 ≤ most_segments d.config
   few_of (inl is) =
       let test = is.test in
-      let few = commit_few is.pass (open_of d core is.pass is.opened) in
+      let few = commit_few is.pass is.opened (open_of d core is.pass is.opened) is.rule in
       rw test (subst (λ (o : Option Pass). length (all_inserted (survivors_of o)
       (without (victims_of o) (digest_of d.head.image))) + 1
       ≤ most_segments d.config) (sym is.opened) few)
@@ -306,34 +355,23 @@ module _ (d : MasterData) (core : IsCore d) (passed : roll_refusal d ≡ None) w
   survivors_same : survivors_of (pass_now d) ≡ survivors_of d.pass
   survivors_same = go d.pass where
     go : (o : Option Pass) → survivors_of (option_map (λ (p : Pass). record p
-        { is_committing = is_ready_pass p }) o) ≡ survivors_of o
+        { is_committing = is_ready_pass d.config.replicas d.closed p }) o) ≡ survivors_of o
     go None = refl
     go (Some p) = refl
 
   lists_then : new_ids d ≡ listed_now e
   lists_then = go d.pass where
     go : (o : Option Pass)
-        → (if option_map_or is_ready_pass o false
+        → (if option_map_or (is_ready_pass d.config.replicas d.closed) o false
         then all_inserted (survivors_of o) (without (victims_of o) (digest_of d.head.image))
         else without [] (digest_of d.head.image))
         ≡ listed_now (begun d (new_ids d) (new_lens d) (option_map (λ (p : Pass). record p
-        { is_committing = is_ready_pass p }) o))
+        { is_committing = is_ready_pass d.config.replicas d.closed p }) o))
     go None = without_none (digest_of d.head.image) ∙ digest
     go (Some p) =
-        λ i. if is_ready_pass p then all_inserted (survivor_ids p.survivors) (without p.victims (digest i))
+        λ i. if is_ready_pass d.config.replicas d.closed p
+        then all_inserted (survivor_ids p.survivors) (without p.victims (digest i))
         else (without_none (digest_of d.head.image) ∙ digest) i
-
-  counted : head_seglets d.config d.head ≡ whole_seglets d.config
-  counted = ap (λ (o : Option Roll). option_map_or (λ (r : Roll). seglets_of d.config d.head.image + whole_seglets
-      d.config) o (whole_seglets d.config)) none
-
-  -- the head has at most a whole segment's seglets
-  head_small : seglets_of d.config d.head.image ≤ whole_seglets d.config
-  head_small =
-      let sizes = sizes_of d.config core.config in
-      let least = sizes.least_seglet in
-      within_whole d.config.segment d.config.seglet (length (text_of d.head.image))
-      (omega arith) sizes.multiple core.within
 
   taken_few : segments_taken d ≤ 1
   taken_few = go d.pass where
@@ -343,9 +381,8 @@ module _ (d : MasterData) (core : IsCore d) (passed : roll_refusal d ≡ None) w
 
   budget_of : HasReady d ⊎ HasSpace d → used_seglets e ≤ d.config.seglets
   budget_of (inl is) =
-      let free = (spare_of is.pass (open_of d core is.pass is.opened)).free in
+      let free = (commit_room is.pass is.opened (open_of d core is.pass is.opened) is.rule).1 in
       let own = counted in
-      let small = head_small in
       let budget = core.budget in
       omega arith
   budget_of (inr is) = at_least (segments_taken d) taken_few is.free where
@@ -389,17 +426,19 @@ module _ (d : MasterData) (core : IsCore d) (passed : roll_refusal d ≡ None) w
 
   module _ (valid : IsHeadValue (with_roll d.head d.config.master (next_with d (new_ids d) (new_lens d)))) where
     pass_of : (o : Option Pass) → d.pass ≡ o → HasReady d ⊎ HasSpace d
-        → IfSome (option_map (λ (p : Pass). record p { is_committing = is_ready_pass p }) o)
+        → IfSome (option_map (λ (p : Pass). record p
+        { is_committing = is_ready_pass d.config.replicas d.closed p }) o)
         (IsOpenPass e)
     pass_of None is cases = tt
     pass_of (Some p) is cases =
-        pass_then d core (new_ids d) (new_lens d) (pass_now d) none valid (new_has d) p (is_ready_pass p)
-        (open_of d core p is) (spares cases) (λ ready. ready)
+        pass_then d core (new_ids d) (new_lens d) (pass_now d) none valid (new_has d) p
+        (is_ready_pass d.config.replicas d.closed p) (open_of d core p is) (λ whole. spares cases) (λ ready. ready)
       where
-        readiness : is_ready d ≡ is_ready_pass p
-        readiness = ap (λ (o : Option Pass). option_map_or is_ready_pass o false) is
+        readiness : is_ready d ≡ is_ready_pass d.config.replicas d.closed p
+        readiness = ap (λ (o : Option Pass). option_map_or (is_ready_pass d.config.replicas d.closed) o false) is
 
-        spares : HasReady d ⊎ HasSpace d → is_ready_pass p ≡ false → IsSpare e (length p.victims) p.survivors.count
+        spares : HasReady d ⊎ HasSpace d → is_ready_pass d.config.replicas d.closed p ≡ false
+            → IsSpare e (length p.victims) p.survivors.count
         spares (inl s) not = (let never : true ≡ false = sym s.test ∙ readiness ∙ not in absurd (cc))
         spares (inr s) not =
             let test = s.test in
@@ -414,5 +453,5 @@ module _ (d : MasterData) (core : IsCore d) (passed : roll_refusal d ≡ None) w
     rolled_core =
         let cases = ready_or_space d passed in
         subst IsCore (sym (rolling_is d))
-        (begun_core d core (new_ids d) (new_lens d) (pass_now d) none valid (new_has d) may.ids survivors_same
+        (begun_core d core (new_ids d) (new_lens d) (pass_now d) none valid (new_has d) may.calm may.ids survivors_same
         lists_then new_few (budget_of cases) (pass_of d.pass refl cases))

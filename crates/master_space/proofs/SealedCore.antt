@@ -1,120 +1,275 @@
 -- A core of whose survivors one more replica is sealed.
-use Rattle.std.proofs.Common.{◌≡◌, ℕ, ◌+◌, ◌<◌, Bool, true, false, cond, List, refl, ap, subst, ◌∙◌, arith}
-use Rattle.std.specs.Prelude.{Option, Some, None, IfSome, IsSome, nat_lt, ◌&&◌, ◌==◌, if◌then◌else◌}
-use Rattle.std.specs.Option.{option_map_or, option_and_then}
-use Rattle.std.proofs.lemmas.Bool.{and_parts, ltb-true, eqb-true}
+use Rattle.std.proofs.Common.{◌≡◌, ℕ, suc, ◌<◌, ◌≤◌, Bool, true, false, List, [], ◌∷◌, ◌++◌, refl, sym, ap}
+use Rattle.std.proofs.Common.{subst, ◌∙◌, arith}
+use Rattle.std.specs.Prelude.{Option, Some, None, IfSome, IsSome, IsSomeAnd, is_none, unwrap_or, ◌==◌}
+use Rattle.std.specs.Prelude.{if◌then◌else◌}
+use Rattle.std.specs.List.{AllByRecursion}
+use Rattle.std.specs.Option.{option_map, option_map_or, option_and_then, option_to_list}
+use Rattle.std.proofs.lemmas.Bool.{and_parts, eqb-true}
 use Rattle.cleaner.specs.declared.pass.Pass.{Pass}
-use Rattle.cleaner.specs.Passes.{survivor_ids, is_at_end, next_seal as next_seal_of}
-use Rattle.cleaner.specs.Seals.{sealed_one}
-use Rattle.cleaner.proofs.SealOrder.{seal_stays_within}
-use Rattle.cleaner.proofs.SurvivorIds.{id_among}
+use Rattle.cleaner.specs.Laws.{KeepsNoMore}
+use Rattle.cleaner.specs.Passes.{survivor_ids, is_at_end, next_seal as next_seal_of, images_in, rest_of}
+use Rattle.cleaner.specs.Seals.{first_lacking}
+use Rattle.cleaner.proofs.Ends.{pass_agrees}
+use Rattle.cleaner.proofs.Lacking.{lacking_is_one, seal_adds_one}
+use Rattle.clean_model.proofs.KeptEntries.{has_is}
+use Rattle.entry.specs.declared.entry.Entry.{Entry}
 use Rattle.entry.specs.Bag.{IsAmong}
+use Rattle.entry.specs.Text.{IsSegment}
+use Rattle.entry.proofs.ListLemmas.{all_among}
+use Rattle.images.specs.Image.{Image}
+use Rattle.images.specs.Sorted.{IsWhole, image_of as image_in, replicas_of, changed}
+use Rattle.images.specs.Steps.{more_replicas}
 use Rattle.log_head.specs.declared.head.Roll.{Roll}
 use Rattle.log_head.specs.Log.{head_of}
-use Rattle.log_model.specs.Data.{ids_of}
-use Rattle.log_model.specs.Ids.{all_inserted}
-use Rattle.master_state.specs.Budget.{victims_of, survivors_of}
+use Rattle.places.specs.declared.place.Place.{Place}
+use Rattle.places.specs.Map.{found, AreKept}
+use Rattle.compactor.specs.Places.{keys_in}
+use Rattle.master_state.specs.declared.failover.Failover.{Failover}
+use Rattle.master_state.specs.Budget.{survivors_of, used_seglets}
 use Rattle.master_state.specs.Data.{MasterData}
-use Rattle.master_state.specs.Invariant.{IsCore, IsRollOf, IsOpenPass, listed_with}
+use Rattle.master_state.specs.Index.{LiesFound}
+use Rattle.master_state.specs.Invariant.{IsCore, IsRollOf, IsOpenPass, IsIndex, IsFailover, NameBelow}
+use Rattle.master_state.specs.Log.{images_of, state_now, log_set_ids}
 use Rattle.master_state.specs.Waits.{next_seal}
+use Rattle.master_state.proofs.Imaging.{ids_in, other_id}
+use Rattle.master_state.proofs.LogIds.{apart, closed_rise}
+use Rattle.master_state.proofs.Passing.{Stays, victims_then, rest_then, survivor_then, rooms_then, lacking_same}
+use Rattle.master_state.proofs.Recounts.{IsRecount, one_more, all_mapped, ids_recounted, segment_recounted}
+use Rattle.master_state.proofs.Recounts.{images_recounted, whole_recounted, seglets_recounted, among_recounted}
+use Rattle.master_state.proofs.Refusals.{has_homes}
+use Rattle.master_state.proofs.Rising.{Rise}
 
--- What the next seal needs.
-pub record MaySealNext (p : Pass) : Type 0 where
+-- The next seal is of a survivor that lacks a replica.
+pub record IsNextSeal (replicas : ℕ) (images : List Image) (p : Pass) (s n : ℕ) : Type 0 where
   pub ended : is_at_end p ≡ true
-  pub left : p.sealed.survivors < p.survivors.count
+  pub lacking : first_lacking replicas images (survivor_ids p.survivors) ≡ Some (s, n)
+  pub among : IsAmong s (survivor_ids p.survivors)
+  pub count : n ≡ replicas_of images s
+  pub few : n < replicas
 
-pub may_seal : (d : MasterData) (p : Pass) → d.pass ≡ Some p → IsSome (next_seal d) → MaySealNext p
-may_seal d p opened some =
-    go (is_at_end p && nat_lt p.sealed.survivors p.survivors.count) refl
-    (subst (λ (o : Option Pass). IsSome (option_and_then next_seal_of o)) opened some)
-  where
-    go : (t : Bool) → (is_at_end p && nat_lt p.sealed.survivors p.survivors.count) ≡ t
-        → IsSome {T = ℕ × ℕ} (cond t (Some (p.survivors.first + p.sealed.survivors, p.sealed.replicas)) None)
-        → MaySealNext p
-    go true is some =
-        let both = and_parts (is_at_end p) (nat_lt p.sealed.survivors p.survivors.count) is in
-        record { ended = both.0; left = ltb-true p.sealed.survivors p.survivors.count both.1 }
-    go false is some = absurd (cc)
+pub next_is : (replicas : ℕ) (images : List Image) (p : Pass) (s n : ℕ)
+    → next_seal_of replicas images p ≡ Some (s, n) → IsNextSeal replicas images p s n
+next_is replicas images p s n is = go (is_at_end p) refl is where
+  go : (t : Bool) → is_at_end p ≡ t
+      → (if t then first_lacking replicas images (survivor_ids p.survivors) else None) ≡ Some (s, n)
+      → IsNextSeal replicas images p s n
+  go true ended is =
+      let one = lacking_is_one replicas images (survivor_ids p.survivors) s n is in
+      record { ended = ended; lacking = is; among = one.0; count = one.1; few = one.2 }
+  go false early is = absurd (cc)
 
--- the survivor that is sealed next is one of the pass
-pub next_among : (p : Pass) → IfSome (next_seal_of p) (λ (n : ℕ × ℕ). IsAmong n.0 (survivor_ids p.survivors))
-next_among p = go (is_at_end p && nat_lt p.sealed.survivors p.survivors.count) refl where
-  go : (t : Bool) → (is_at_end p && nat_lt p.sealed.survivors p.survivors.count) ≡ t
-      → IfSome {T = ℕ × ℕ} (cond t (Some (p.survivors.first + p.sealed.survivors, p.sealed.replicas)) None)
-      (λ (n : ℕ × ℕ). IsAmong n.0 (survivor_ids p.survivors))
-  go true is =
-      let both = and_parts (is_at_end p) (nat_lt p.sealed.survivors p.survivors.count) is in
-      id_among p.survivors.first p.survivors.count p.sealed.survivors
-      (ltb-true p.sealed.survivors p.survivors.count both.1)
-  go false is = tt
+-- it is one of the pass, and lacks a replica
+pub next_among : (replicas : ℕ) (images : List Image) (p : Pass) (o : Option (ℕ × ℕ))
+    → o ≡ next_seal_of replicas images p → IfSome o (λ (n : ℕ × ℕ). IsAmong n.0 (survivor_ids p.survivors))
+next_among replicas images p None is = tt
+next_among replicas images p (Some n) is = (next_is replicas images p n.0 n.1 (sym is)).among
 
--- a pass of which one replica more is sealed
-abbrev pub one_more : ℕ → Pass → Pass
-one_more replicas p = record p { sealed = sealed_one replicas p.sealed }
+pub next_few : (replicas : ℕ) (images : List Image) (p : Pass) (o : Option (ℕ × ℕ))
+    → o ≡ next_seal_of replicas images p → IfSome o (λ (n : ℕ × ℕ). n.1 < replicas)
+next_few replicas images p None is = tt
+next_few replicas images p (Some n) is = (next_is replicas images p n.0 n.1 (sym is)).few
 
-module _ (d : MasterData) (core : IsCore d) (p : Pass) (opened : d.pass ≡ Some p) (may : MaySealNext p) where
-  abbrev more : Pass
-  more = one_more d.config.replicas p
+-- A pass is open whose next seal this is.
+pub record SealsNext (d : MasterData) (s n : ℕ) : Type 0 where
+  pub pass : Pass
+  pub opened : d.pass ≡ Some pass
+  pub next : IsNextSeal d.config.replicas d.closed pass s n
+
+pub seals_next : (d : MasterData) (s n : ℕ) → next_seal d ≡ Some (s, n) → SealsNext d s n
+seals_next d s n is = go d.pass refl is where
+  go : (o : Option Pass) → d.pass ≡ o
+      → option_and_then (next_seal_of d.config.replicas d.closed) o ≡ Some (s, n) → SealsNext d s n
+  go None own is = absurd (cc)
+  go (Some p) own is =
+      record { pass = p; opened = own; next = next_is d.config.replicas d.closed p s n is }
+
+-- no image but this one has its id, so no segment has too many replicas
+none_here : (P : Image → Type 0) (cs : List Image) (s : ℕ) → AllByRecursion (λ (z : ℕ). s < z) (ids_in cs)
+    → AllByRecursion P cs → AllByRecursion P (changed cs s more_replicas)
+none_here P [] s above all = tt
+none_here P (c ∷ cs) s above all =
+    let lt = above.0 in
+    let away = other_id c.id s (λ same. omega arith) in
+    rw away (all.0, none_here P cs s above.1 all.1)
+
+few_replicas : (most : ℕ) (cs : List Image) (s : ℕ) → Rise (ids_in cs)
+    → AllByRecursion (λ (c : Image). c.replicas ≤ most) cs → replicas_of cs s < most
+    → AllByRecursion (λ (c : Image). c.replicas ≤ most) (changed cs s more_replicas)
+few_replicas most [] s rise all less = tt
+few_replicas most (c ∷ cs) s rise all less = go (c.id == s) refl (few_replicas most cs s rise.1 all.1) where
+  go : (t : Bool) → (c.id == s) ≡ t
+      → (replicas_of cs s < most → AllByRecursion (λ (x : Image). x.replicas ≤ most) (changed cs s more_replicas))
+      → AllByRecursion (λ (x : Image). x.replicas ≤ most) (changed (c ∷ cs) s more_replicas)
+  go true here later =
+      let same : c.id ≡ s = eqb-true c.id s here in
+      let own : c.replicas < most = rw here at less in
+      let rest = none_here (λ (x : Image). x.replicas ≤ most) cs s
+      (subst (λ (z : ℕ). AllByRecursion (λ (y : ℕ). z < y) (ids_in cs)) same rise.0) all.1 in
+      rw here (omega arith, rest)
+  go false away later = (let rest : replicas_of cs s < most = rw away at less in rw away (all.0, later rest))
+
+module _ (d : MasterData) (core : IsCore d) (p : Pass) (opened : d.pass ≡ Some p) (s n : ℕ)
+    (next : IsNextSeal d.config.replicas d.closed p s n) where
+  abbrev f : Image → Image
+  f = λ (x : Image). if x.id == s then more_replicas x else x
 
   abbrev e : MasterData
-  e = record d { pass = Some (one_more d.config.replicas p) }
+  e = record d { closed = changed d.closed s more_replicas }
 
-  pub was : IsOpenPass d p
+  recount : IsRecount f
+  recount = one_more s
+
+  was : IsOpenPass d p
   was = subst (λ (o : Option Pass). IfSome o (IsOpenPass d)) opened core.pass
+
+  -- ---- images
+
+  images_same : images_of e ≡ images_of d
+  images_same = λ i z. unwrap_or (among_recounted f recount d.head d.closed z i) []
+
+  ids_then : log_set_ids e ≡ log_set_ids d
+  ids_then =
+      ap (λ (ids : List ℕ). ids ++ d.head.id ∷ option_to_list (option_map (λ (r : Roll). r.id) d.head.roll))
+      (ids_recounted f recount d.closed)
+
+  used_same : used_seglets e ≡ used_seglets d
+  used_same =
+      let same = seglets_recounted f recount d.config.segment d.config.seglet d.closed in omega (arith, same)
+
+  -- ---- replicas
+
+  there : IsSome (image_in d.closed s)
+  there = go (image_in d.closed s) (all_among (IsWhole d.closed) (survivor_ids p.survivors) s was.pass.whole
+      next.among) where
+        go : (o : Option Image) → IsSomeAnd o (λ (c : Image). c.is_whole ≡ true) → IsSome o
+        go None whole = absurd whole
+        go (Some c) whole = refl
+
+  -- and it may have one replica more
+  pub few_before : IsSomeAnd (image_in d.closed s) (λ (c : Image). c.replicas < 64)
+  few_before = go (image_in d.closed s) refl there where
+    go : (o : Option Image) → image_in d.closed s ≡ o → IsSome o → IsSomeAnd o (λ (c : Image). c.replicas < 64)
+    go None own some = absurd (cc)
+    go (Some c) own some =
+        let count : replicas_of d.closed s ≡ c.replicas =
+        ap (λ (o : Option Image). option_map_or (λ (x : Image). x.replicas) o 0) own in
+        let same = next.count in
+        let less = next.few in
+        let homes = has_homes d.config core.config in
+        let many = homes.many in
+        let few = homes.few in
+        omega arith
+
+  counted : (z : ℕ) → replicas_of e.closed z
+      ≡ (if z == s then suc (replicas_of d.closed s) else replicas_of d.closed z)
+  counted z = seal_adds_one d.closed s z there
+
+  at_most : (z : ℕ) → replicas_of d.closed z ≤ d.config.replicas → replicas_of e.closed z ≤ d.config.replicas
+  at_most z few = subst (λ (m : ℕ). m ≤ d.config.replicas) (sym (counted z)) (go (z == s)) where
+    go : (t : Bool) → (if t then suc (replicas_of d.closed s) else replicas_of d.closed z) ≤ d.config.replicas
+    go true = (let count = next.count in let less = next.few in omega arith)
+    go false = few
+
+  -- the segments of the digest keep theirs
+  listed_same : (z : ℕ) → IsAmong z (head_of d.head).start.others → replicas_of e.closed z ≡ replicas_of d.closed z
+  listed_same z m = counted z ∙ (rw (away z m) refl) where
+    away : (z : ℕ) → IsAmong z (head_of d.head).start.others → (z == s) ≡ false
+    away z m = other_id z s (λ same. (
+        let own = subst (λ (o : Option Pass). IsAmong s (survivors_of o)) (sym opened) next.among in
+        let out = (apart d core s own).0 in
+        let has = has_is (head_of d.head).start.others s
+        (subst (λ (y : ℕ). IsAmong y (head_of d.head).start.others) same m) in
+        let never : true ≡ false = sym has ∙ out in
+        cc))
+
+  lacking_then : first_lacking d.config.replicas e.closed (head_of d.head).start.others
+      ≡ first_lacking d.config.replicas d.closed (head_of d.head).start.others
+  lacking_then =
+      lacking_same d.config.replicas d.closed e.closed (head_of d.head).start.others listed_same
 
   -- its commit has not begun
   pub not_committing : p.is_committing ≡ true → ⊥
   not_committing commits =
-      let ready = (was.commits commits).1 in
-      let all = eqb-true p.sealed.survivors p.survivors.count
-      (and_parts (is_at_end p) (p.sealed.survivors == p.survivors.count) ready).1 in
-      let left = may.left in
-      omega arith
+      let none = (and_parts (is_at_end p) (is_none (first_lacking d.config.replicas d.closed
+      (survivor_ids p.survivors))) (was.commits commits).1).1 in
+      let never : false ≡ true =
+      ap (λ (o : Option (ℕ × ℕ)). is_none o) (sym next.lacking) ∙ none in
+      cc
 
-  pass_then : IsOpenPass e more
+  -- ---- the pass
+
+  stays : Stays d e p
+  stays = record {
+    config = refl;
+    start = refl;
+    roll = λ z m. (was.survivors.each z m).not_new;
+    next = omega arith;
+    victims = λ z m. images_recounted f recount d.closed z;
+    survivors = λ z m. images_recounted f recount d.closed z;
+    keeps = subst (λ (ids : List ℕ). KeepsNoMore (log_set_ids d) ids d.index d.index (images_in d.closed)
+        (rest_of (images_in d.closed) p)) (sym ids_then) (λ place x m stands keeps. keeps);
+  }
+
+  whole_then : (ids : List ℕ) → AllByRecursion (IsWhole d.closed) ids → AllByRecursion (IsWhole e.closed) ids
+  whole_then [] all = tt
+  whole_then (z ∷ ids) all = (whole_recounted f recount d.closed z all.0, whole_then ids all.1)
+
+  pass_then : IsOpenPass e p
   pass_then = record {
-    pass = (let x = was.pass in record {
-      victims = x.victims;
-      whole = x.whole;
-      numbers = x.numbers;
-      within = x.within;
-      cursor = x.cursor;
-    });
-    victims = (let v = was.victims in record { some = v.some; few = v.few; apart = v.apart; older = v.older });
-    survivors = (let all = was.survivors in record {
-      some = all.some;
-      few = all.few;
-      each = λ s m. (let x = all.each s m in record {
-        outside = x.outside;
-        not_new = x.not_new;
-        used = x.used;
-        begins = x.begins;
-        within = x.within;
-      });
-    });
-    rooms = (let x = was.rooms in record { rooms = x.rooms; blank = x.blank });
-    sealed = seal_stays_within d.config.replicas p.survivors.count p.sealed was.sealed may.left;
-    live = was.live;
-    unsealed = λ early. absurd (let ended = may.ended in cc);
-    spare = λ early. (let s = was.spare early in record { free = s.free; listed = s.listed });
+    pass = (pass_agrees d.index.seed d.closed e.closed p was.pass (λ z m. segment_recounted f recount d.closed z)
+        (whole_then (survivor_ids p.survivors) was.pass.whole)).0;
+    victims = victims_then d e p stays was;
+    survivors = record {
+      some = was.survivors.some;
+      few = was.survivors.few;
+      each = survivor_then d e p stays was;
+    };
+    rooms = rooms_then d e p stays was;
+    sealed = λ z m. at_most z (was.sealed z m);
+    live = λ k q finds victim. subst (λ (places : List Place). IsAmong q places) (sym (rest_then d e p stays was))
+        (was.live k q (subst (λ (images : ℕ → List Entry). found (keys_in images) k d.index ≡ Some q) images_same
+        finds) victim);
+    unsealed = λ early. (let ended = next.ended in absurd (cc));
+    spare = λ none early. (let spare = was.spare none early in let free = spare.free in
+        record { free = omega (arith, used_same); listed = spare.listed });
     commits = λ commits. absurd (not_committing commits);
   }
+
+  -- ---- the core
 
   roll_then : (o : Option Roll) → IfSome o (IsRollOf d) → IfSome o (IsRollOf e)
   roll_then None rolls = tt
   roll_then (Some r) rolls = record {
     image = rolls.image;
-    lists = rolls.lists ∙ ap listed opened;
+    lists = rolls.lists;
     within = rolls.within;
     newer = rolls.newer;
     used = rolls.used;
-  } where
-    listed : Option Pass → List ℕ
-    listed o =
-        if option_map_or (λ (z : Pass). z.is_committing) o false then listed_with d (victims_of o) (survivors_of o)
-        else ids_of (head_of d.head).start
+  }
 
-  pub sealed_core : IsCore (record d { pass = Some (one_more d.config.replicas p) })
+  failover_then : (o : Option Failover) → IfSome o (IsFailover d) → IfSome o (IsFailover e)
+  failover_then None is = tt
+  failover_then (Some g) is = record {
+    some = is.some;
+    closed = is.closed;
+    mends = is.mends;
+    opens = is.opens;
+    first = is.first;
+    closes = is.closes;
+    repairs = λ repairs. (let all = is.repairs repairs in
+        (all.0, all.1, all.2, all.3, all.4, all.5, (λ whole. all.6 (sym lacking_then ∙ whole)), all.7));
+  }
+
+  index_then : IsIndex e
+  index_then = record {
+    kept = subst (λ (images : ℕ → List Entry). AreKept (keys_in images) d.index) (sym images_same) core.index.kept;
+    lies = λ k. subst (λ (images : ℕ → List Entry). LiesFound images k (found (keys_in images) k d.index)
+        ((state_now d).contents k)) (sym images_same) (core.index.lies k);
+    safe = core.index.safe;
+  }
+
+  pub sealed_core : IsCore (record d { closed = changed d.closed s more_replicas })
   sealed_core = record {
     config = core.config;
     replicas = core.replicas;
@@ -122,18 +277,27 @@ module _ (d : MasterData) (core : IsCore d) (p : Pass) (opened : d.pass ≡ Some
     head = core.head;
     image = core.image;
     within = core.within;
-    closed = core.closed ∙ ap (λ (o : Option Pass). all_inserted (survivors_of o) (head_of d.head).start.others) opened;
-    segments = core.segments;
+    closed = ids_recounted f recount d.closed ∙ core.closed;
+    segments = all_mapped f (λ (c : Image). IsSegment c.segment) (λ (c : Image). IsSegment c.segment) d.closed
+        (λ c valid. subst IsSegment (sym (recount.segment c)) valid) core.segments;
     below = core.below;
     real = core.real;
     used = core.used;
     first = core.first;
     next = core.next;
     roll = roll_then d.head.roll core.roll;
-    pass = pass_then;
-    named = core.named;
-    freed = core.freed;
-    budget = core.budget;
+    pass = subst (λ (o : Option Pass). IfSome o (IsOpenPass e)) (sym opened) pass_then;
+    named = subst (λ (images : ℕ → List Entry). NameBelow images d.next) (sym images_same) core.named;
+    replicas_few = few_replicas d.config.replicas d.closed s (closed_rise d core) core.replicas_few
+        (let count = next.count in let less = next.few in omega arith);
+    waiting = core.waiting;
+    digest = core.digest;
+    listed = core.listed;
+    failed = (let x = core.failed in record { few = x.few; there = x.there; apart = x.apart; two = x.two });
+    whole = λ calm. lacking_then ∙ core.whole calm;
+    failover = failover_then d.failover core.failover;
+    abandoned = core.abandoned;
+    budget = (let was = core.budget in omega (arith, used_same));
     legal = core.legal;
-    index = record { kept = core.index.kept; lies = core.index.lies; safe = core.index.safe };
+    index = index_then;
   }

@@ -17,21 +17,34 @@ use Rattle.log_head.specs.Head.{IsHeadValue}
 use Rattle.log_head.specs.Log.{head_of, start_of}
 use Rattle.log_head.specs.Next.{IsNextPush}
 use Rattle.log_head.specs.Steps.{in_force, with_new_replica, with_closed_replica}
-use Rattle.log_model.specs.Data.{ids_of}
+use Rattle.log_model.specs.Data.{Start, ids_of}
 use Rattle.log_model.specs.Ids.{has, all_inserted}
+use Rattle.master_state.specs.declared.failover.Failover.{Failover}
+use Rattle.master_state.specs.declared.ledger.Posting.{Posting}
 use Rattle.master_state.specs.Budget.{victims_of, survivors_of, is_committing}
 use Rattle.master_state.specs.Data.{MasterData}
 use Rattle.master_state.specs.Images.{new_image_or}
-use Rattle.master_state.specs.Invariant.{IsOpenPass, IsCore, listed_with}
+use Rattle.master_state.specs.Invariant.{IsOpenPass, IsCore, AreWhole, listed_with}
 use Rattle.master_state.specs.Log.{image_of}
 use Rattle.master_state.specs.Steps.{roll_ended, closed_data, taken_data}
-use Rattle.master_state.proofs.Beginning.{counted_core}
-use Rattle.master_space.proofs.Committed.{committed_core, image_gone, image_stays}
+use Rattle.master_state.proofs.Posted.{rest_core}
+use Rattle.master_space.proofs.Committed.{committed_core, committed_whole, image_gone, image_stays}
 use Rattle.master_state.proofs.Imaging.{ids_in, same_roll}
 use Rattle.master_state.proofs.LogIds.{open_of}
-use Rattle.master_space.proofs.RollEnds.{rolls_of, counted_roll, old_closed, closed_images, ordinary_core}
+use Rattle.master_space.proofs.RollEnds.{HasFailover, left_as, calm_failover, rolls_of, counted_roll, old_closed}
+use Rattle.master_space.proofs.RollEnds.{closed_images, ordinary_core, ordinary_whole}
 
 -- ---- the last Close
+
+-- the end of a pass leaves failovers and the ledger
+left_same : (o : Option Pass) (e : MasterData) → left_as (roll_ended o e) e.failover e.abandoned e.ledger
+    ≡ roll_ended o e
+left_same None e = refl
+left_same (Some p) e = go p.is_committing refl where
+  go : (t : Bool) → p.is_committing ≡ t
+      → left_as (roll_ended (Some p) e) e.failover e.abandoned e.ledger ≡ roll_ended (Some p) e
+  go true test = rw test refl
+  go false test = rw test refl
 
 module _ (d : MasterData) (core : IsCore d) (r : Roll) (is : d.head.roll ≡ Some r) where
   -- an ordinary roll lists the log
@@ -41,20 +54,38 @@ module _ (d : MasterData) (core : IsCore d) (r : Roll) (is : d.head.roll ≡ Som
       ∙ ap (λ (b : Bool). if b then listed_with d (victims_of d.pass) (survivors_of d.pass)
       else ids_of (head_of d.head).start) early
 
-  -- what a core keeps, and which images it has
-  ended_core : (o : Option Pass) → d.pass ≡ o → IsHeadValue (in_force d.head r)
-      → IsCore (roll_ended o (old_closed d core r is))
-  ended_core None same valid =
+  -- what a core keeps
+  pub ended_core : (o : Option Pass) → d.pass ≡ o → (x : Option Failover) (gone : List Start) (ps : List Posting)
+      → IsHeadValue (in_force d.head r) → HasFailover (left_as (roll_ended o (old_closed d core r is)) x gone ps)
+      → IsCore (left_as (roll_ended o (old_closed d core r is)) x gone ps)
+  ended_core None same x gone ps valid failing =
       ordinary_core d core r is (lists_all (ap (λ (o : Option Pass). option_map_or
-      (λ (p : Pass). p.is_committing) o false) same)) valid
-      (ap (λ (o : Option Pass). option_map_or (λ (p : Pass). p.is_committing) o false) same)
-  ended_core (Some p) same valid = go p.is_committing refl where
+      (λ (p : Pass). p.is_committing) o false) same)) x gone ps valid
+      (ap (λ (o : Option Pass). option_map_or (λ (p : Pass). p.is_committing) o false) same) failing
+  ended_core (Some p) same x gone ps valid failing = go p.is_committing refl failing where
     test : is_committing d ≡ p.is_committing
     test = ap (λ (o : Option Pass). option_map_or (λ (q : Pass). q.is_committing) o false) same
 
-    go : (t : Bool) → p.is_committing ≡ t → IsCore (roll_ended (Some p) (old_closed d core r is))
-    go true commits = rw commits (committed_core d core r is p (open_of d core p same) same commits valid)
-    go false early = rw early (ordinary_core d core r is (lists_all (test ∙ early)) valid (test ∙ early))
+    go : (t : Bool) → p.is_committing ≡ t
+        → HasFailover (left_as (roll_ended (Some p) (old_closed d core r is)) x gone ps)
+        → IsCore (left_as (roll_ended (Some p) (old_closed d core r is)) x gone ps)
+    go true commits fails = rw commits (committed_core d core r is p (open_of d core p same) same commits x gone ps
+        valid (rw commits at fails))
+    go false early fails = rw early (ordinary_core d core r is (lists_all (test ∙ early)) x gone ps valid
+        (test ∙ early) (rw early at fails))
+
+  -- no segment of the new digest lacks a replica, if none did before
+  pub ended_whole : (o : Option Pass) → d.pass ≡ o → AreWhole d → AreWhole (roll_ended o (old_closed d core r is))
+  ended_whole None same whole =
+      ordinary_whole d core r is (lists_all (ap (λ (o : Option Pass). option_map_or
+      (λ (p : Pass). p.is_committing) o false) same)) whole
+  ended_whole (Some p) same whole = go p.is_committing refl where
+    test : is_committing d ≡ p.is_committing
+    test = ap (λ (o : Option Pass). option_map_or (λ (q : Pass). q.is_committing) o false) same
+
+    go : (t : Bool) → p.is_committing ≡ t → AreWhole (roll_ended (Some p) (old_closed d core r is))
+    go true commits = rw commits (committed_whole d core r is p (open_of d core p same) same commits whole)
+    go false early = rw early (ordinary_whole d core r is (lists_all (test ∙ early)) whole)
 
   -- a segment has the image that it had, or was a victim of the pass that ended
   abbrev pub HasImage : MasterData → ℕ → Type 0
@@ -79,12 +110,20 @@ module _ (d : MasterData) (core : IsCore d) (r : Roll) (is : d.head.roll ≡ Som
       )
       by_victim false other = inr (image_stays d core r is p own same commits s other)
 
-  pub closed_core : IsHeadValue (with_closed_replica d.head r) → IsCore (closed_data d r)
-  closed_core = go (suc r.closed == d.head.replicas) refl where
+  -- without a failover
+  ended_calm : d.failover ≡ None → IsHeadValue (in_force d.head r) → IsCore (roll_ended d.pass (old_closed d core r is))
+  ended_calm calm valid =
+      subst IsCore (left_same d.pass (old_closed d core r is))
+      (ended_core d.pass refl d.failover d.abandoned d.ledger valid
+      (calm_failover (left_as (roll_ended d.pass (old_closed d core r is)) d.failover d.abandoned d.ledger) calm
+      (ended_whole d.pass refl (core.whole calm)) (core.abandoned calm)))
+
+  pub closed_core : d.failover ≡ None → IsHeadValue (with_closed_replica d.head r) → IsCore (closed_data d r)
+  closed_core calm = go (suc r.closed == d.head.replicas) refl where
     go : (t : Bool) → (suc r.closed == d.head.replicas) ≡ t → IsHeadValue (with_closed_replica d.head r)
         → IsCore (closed_data d r)
-    go true test valid = rw test (ended_core d.pass refl (rw test at valid))
-    go false test valid = rw test (counted_roll d core r is r.opened (suc r.closed) (rw test at valid))
+    go true test valid = rw test (ended_calm calm (rw test at valid))
+    go false test valid = rw test (counted_roll d core r is r.opened (suc r.closed) (rw test at valid) calm)
 
   pub closed_image_is : (s : ℕ) → HasImage (closed_data d r) s
   closed_image_is s = go (suc r.closed == d.head.replicas) refl where
@@ -92,27 +131,29 @@ module _ (d : MasterData) (core : IsCore d) (r : Roll) (is : d.head.roll ≡ Som
     go true test = rw test (ended_images d.pass refl s)
     go false test = rw test (inr (same_roll d.head d.closed r (record r { closed = suc r.closed }) is refl refl s))
 
-  pub opened_core : IsHeadValue (with_new_replica d.head r) → IsCore (record d { head = with_new_replica d.head r })
-  opened_core valid = counted_roll d core r is (suc r.opened) r.closed valid
+  pub opened_core : d.failover ≡ None → IsHeadValue (with_new_replica d.head r)
+      → IsCore (record d { head = with_new_replica d.head r })
+  opened_core calm valid = counted_roll d core r is (suc r.opened) r.closed valid calm
 
 -- ---- the op of a push was taken
 
 module _ (d : MasterData) (core : IsCore d) where
-  pub taken_core : (push : Next) → IsNextPush d.head (Some push) → IsHeadValue (taken_data d push).head
-      → IsCore (taken_data d push)
-  taken_core (next.OpenFirst j) is valid =
-      counted_core d (d.head.taken ++ 0 ∷ []) core valid
+  pub taken_core : d.failover ≡ None → (push : Next) → IsNextPush d.head (Some push)
+      → IsHeadValue (taken_data d push).head → IsCore (taken_data d push)
+  taken_core calm (next.OpenFirst j) is valid =
+      rest_core d (d.head.taken ++ 0 ∷ []) d.is_halted d.ledger core valid
       (let more = length-append d.head.taken (0 ∷ []) in omega arith)
-  taken_core (next.Extend j) is valid =
-      counted_core d (slice_set d.head.taken j (length d.head.units)) core valid
+  taken_core calm (next.Extend j) is valid =
+      rest_core d (slice_set d.head.taken j (length d.head.units)) d.is_halted d.ledger core valid
       (let same = length-set d.head.taken j (length d.head.units) in omega arith)
-  taken_core (next.OpenNew j) is valid =
+  taken_core calm (next.OpenWhole j) is valid = absurd is
+  taken_core calm (next.OpenNew j) is valid =
       let e = ap (λ (o : Option Roll). option_map_or (λ (q : Roll). record d
       { head = with_new_replica d.head q }) o d) is.2 in
-      subst IsCore (sym e) (opened_core d core is.1 is.2 (subst (λ (m : MasterData). IsHeadValue m.head) e valid))
-  taken_core (next.CloseOld j) is valid =
+      subst IsCore (sym e) (opened_core d core is.1 is.2 calm (subst (λ (m : MasterData). IsHeadValue m.head) e valid))
+  taken_core calm (next.CloseOld j) is valid =
       let e = ap (λ (o : Option Roll). option_map_or (closed_data d) o d) is.2 in
-      subst IsCore (sym e) (closed_core d core is.1 is.2 (closed_head is.1
+      subst IsCore (sym e) (closed_core d core is.1 is.2 calm (closed_head is.1
       (subst (λ (m : MasterData). IsHeadValue m.head) e valid)))
     where
       -- the head doesn't depend on what becomes of a pass
@@ -140,6 +181,7 @@ module _ (d : MasterData) (core : IsCore d) where
       ⊎ (image_of (taken_data d push) s ≡ image_of d s)
   taken_images (next.OpenFirst j) is s = inr refl
   taken_images (next.Extend j) is s = inr refl
+  taken_images (next.OpenWhole j) is s = absurd is
   taken_images (next.OpenNew j) is s = inr (
       ap (λ (o : Option Roll). image_of (option_map_or (λ (q : Roll). record d
       { head = with_new_replica d.head q }) o d) s) is.2

@@ -1,8 +1,9 @@
 -- Images of segments that take no more appends.
 use Rattle.std.proofs.Common.{◌≡◌, ℕ, ◌%◌, ◌<◌, ◌≤◌, inl, inr, Bool, true, false, cond, List, []}
 use Rattle.std.proofs.Common.{◌∷◌, ◌++◌, map, length, refl, ap, ◌∙◌, arith}
-use Rattle.std.specs.Prelude.{Some, ◌==◌, ◌||◌, sum_by}
+use Rattle.std.specs.Prelude.{Option, Some, None, ◌==◌, ◌||◌, sum_by}
 use Rattle.std.specs.List.{AllByRecursion}
+use Rattle.std.specs.Option.{option_map_or}
 use Rattle.std.proofs.lemmas.Bool.{eqb-true}
 use Rattle.std.proofs.lemmas.List.Sums.{sum_by-cons}
 use Rattle.entry.specs.declared.entry.Entry.{Entry}
@@ -11,9 +12,10 @@ use Rattle.entry.specs.Bag.{IsAmong}
 use Rattle.entry.proofs.ListLemmas.{all_among}
 use Rattle.images.specs.Image.{Image}
 use Rattle.images.specs.Images.{count_of}
-use Rattle.images.specs.Sorted.{segment_of, changed}
+use Rattle.images.specs.Sorted.{image_of, segment_of, replicas_of, changed}
 use Rattle.images.specs.Steps.{trimmed}
 use Rattle.images.proofs.Counts.{within_whole}
+use Rattle.images.proofs.Replicas.{replicas_mapped}
 use Rattle.log_model.specs.Ids.{has}
 use Rattle.master_state.specs.Images.{all_trimmed}
 use Rattle.master_state.proofs.Imaging.{same_id, other_id}
@@ -50,6 +52,36 @@ trimmed_all P ids [] all = tt
 trimmed_all P ids (c ∷ cs) all = go (has ids c.id) (trimmed_all P ids cs all.1) where
   go : (t : Bool) → AllByRecursion (λ (x : Image). P x.segment) (all_trimmed ids cs)
       → AllByRecursion (λ (x : Image). P x.segment) (trimmed_if t c ∷ all_trimmed ids cs)
+  go true later = (all.0, later)
+  go false later = (all.0, later)
+
+-- they keep their replicas
+pub trimmed_replicas : (ids : List ℕ) (cs : List Image) (s : ℕ)
+    → replicas_of (all_trimmed ids cs) s ≡ replicas_of cs s
+trimmed_replicas ids cs s =
+    replicas_mapped (λ (c : Image). trimmed_if (has ids c.id) c) (λ c. same_ids (has ids c.id) c) cs s
+    ∙ go (image_of cs s)
+  where
+    same_ids : (t : Bool) (c : Image) → (trimmed_if t c).id ≡ c.id
+    same_ids true c = refl
+    same_ids false c = refl
+
+    same : (t : Bool) (c : Image) → (trimmed_if t c).replicas ≡ c.replicas
+    same true c = refl
+    same false c = refl
+
+    go : (o : Option Image) → option_map_or (λ (c : Image). (trimmed_if (has ids c.id) c).replicas) o 0
+        ≡ option_map_or (λ (c : Image). c.replicas) o 0
+    go None = refl
+    go (Some c) = same (has ids c.id) c
+
+pub trimmed_few : (most : ℕ) (ids : List ℕ) (cs : List Image)
+    → AllByRecursion (λ (c : Image). c.replicas ≤ most) cs
+    → AllByRecursion (λ (c : Image). c.replicas ≤ most) (all_trimmed ids cs)
+trimmed_few most ids [] all = tt
+trimmed_few most ids (c ∷ cs) all = go (has ids c.id) (trimmed_few most ids cs all.1) where
+  go : (t : Bool) → AllByRecursion (λ (x : Image). x.replicas ≤ most) (all_trimmed ids cs)
+      → AllByRecursion (λ (x : Image). x.replicas ≤ most) (trimmed_if t c ∷ all_trimmed ids cs)
   go true later = (all.0, later)
   go false later = (all.0, later)
 

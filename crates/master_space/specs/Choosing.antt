@@ -12,7 +12,7 @@ use Rattle.log_head.specs.Head.{is_open, digest_of}
 use Rattle.master_space.specs.declared.candidates.Candidate.{Candidate}
 use Rattle.master_state.specs.declared.step.Step.{Step}
 use Rattle.master_state.specs.declared.step.Step.TheVariants.{Push, BeginRoll, BeginClean, Copy, Seal, Free}
-use Rattle.master_state.specs.Budget.{has_memory_for, has_places_for}
+use Rattle.master_state.specs.Budget.{is_working, has_memory_for, has_places_for}
 use Rattle.master_state.specs.Causes.{is_head, survivors_for}
 use Rattle.master_state.specs.Data.{MasterData}
 use Rattle.master_state.specs.Log.{log_set_ids}
@@ -68,13 +68,26 @@ chosen d = fitting d first_level (take 32 (sorted (candidates d)))
 abbrev pub pass_step : MasterData → Pass → Step
 pass_step d p =
     if not (is_at_end p) then Copy
-    else if is_some (next_seal_of p) then Seal
+    else if is_some (next_seal_of d.config.replicas d.closed p) then Seal
     else if is_open d.head then BeginRoll
     else Push
 
--- the head is open and nothing waits, so that victims are to be chosen
+-- without a failover and a pass a roll goes on, and then what waits is freed
+abbrev pub pending_without : MasterData → Option Step
+pending_without d =
+    if not (is_open d.head) then Some Push
+    else if not (length d.waiting == 0) then Some Free
+    else None
+
+-- what is under way goes on: an open failover, an open pass, a roll, and the frees
+abbrev pub pending_step : MasterData → Option Step
+pending_step d =
+    if is_some d.failover then Some Push
+    else option_map_or (λ (p : Pass). Some (pass_step d p)) d.pass (pending_without d)
+
+-- the head is open, no failover is, and nothing waits, so that victims are to be chosen
 abbrev pub NeedsChoice : MasterData → Type 0
-NeedsChoice d = (is_open d.head ≡ true) × (length d.waiting ≡ 0)
+NeedsChoice d = (is_working d ≡ true) × (length d.waiting ≡ 0)
 
 -- the next pass may begin: it has victims, and the log may have its survivors and the head of its commit
 abbrev pub may_begin_next : MasterData → Bool
@@ -89,5 +102,8 @@ step_without d =
     else if may_begin_next d then Some (BeginClean (chosen d))
     else None
 
+-- an open failover goes on before all else
 abbrev pub next_step : MasterData → Option Step
-next_step d = option_map_or (λ (p : Pass). Some (pass_step d p)) d.pass (step_without d)
+next_step d =
+    if is_some d.failover then Some Push
+    else option_map_or (λ (p : Pass). Some (pass_step d p)) d.pass (step_without d)

@@ -1,7 +1,8 @@
 -- What becomes of an open pass, the closed segments and those that wait when a roll ends.
-use Rattle.std.specs.Prelude.{ℕ, List, ◌++◌, Option, Some, None, if◌then◌else◌}
+use Rattle.std.specs.Prelude.{List, ◌++◌, Option, Some, None, if◌then◌else◌}
 use Rattle.cleaner.specs.declared.pass.Pass.{Pass}
 use Rattle.images.specs.Image.{Image}
+use Rattle.master_state.specs.declared.waiting.Waiting.{Waiting}
 use Rattle.master_state.specs.Images.{after_pass, leaving}
 
 -- a commit ends its pass
@@ -15,6 +16,6 @@ closed_left None cs = cs
 closed_left (Some p) cs = if p.is_committing then after_pass p cs else cs
 
 -- and wait to be freed
-abbrev pub waiting_left : Option Pass → List Image → List ℕ → List ℕ
+abbrev pub waiting_left : Option Pass → List Image → List Waiting → List Waiting
 waiting_left None cs waiting = waiting
 waiting_left (Some p) cs waiting = if p.is_committing then waiting ++ leaving p.victims cs else waiting

@@ -23,9 +23,9 @@ pub trait Chooses {
     /// the digest in force, and no heads. Nothing changes.
     fn choose(&self) -> Result<Vec<u64>, NoMemory>;
 
-    /// What a cleaner does next: an open pass goes on, then what waits is freed, and then the next pass begins, if it
-    /// may and there is a victim. `None` if nothing is to be done. Nothing changes. Only a choice of victims takes
-    /// memory.
+    /// What a cleaner does next: an open failover goes on, then an open pass, then what waits is freed, and then the
+    /// next pass begins, if it may and there is a victim. `None` if nothing is to be done. Nothing changes. Only a
+    /// choice of victims takes memory.
     fn next_step(&self) -> Result<Option<Step>, NoMemory>;
 }
 
@@ -41,6 +41,9 @@ impl Chooses for Core {
         ensures next { IfOk result (λ step. step ≡ next_step self.now) }
         ensures refused { OnErr result ((self.now.pass ≡ None) × NeedsChoice self.now) }
     {
+        if self.failover.is_some() {
+            return Ok(Some(Step::Push));
+        }
         match &self.pass {
             Some(pass) => Ok(Some(pass_step(self, pass))),
             None => step_without(self),
@@ -146,14 +149,17 @@ fn best(core: &Core) -> Result<Vec<Candidate>, NoMemory>
 }
 
 /// What an open pass does next.
-fn pass_step(core: &Core, pass: &Pass) -> Step
+pub(crate) fn pass_step(core: &Core, pass: &Pass) -> Step
     requires { AreIds pass.now.survivors }
     ensures { result ≡ pass_step core.now pass.now }
 {
     if !pass.is_at_end() {
         return Step::Copy;
     }
-    if pass.next_seal().is_some() {
+    if pass
+        .next_seal(core.config.replicas as usize, &core.closed)
+        .is_some()
+    {
         return Step::Seal;
     }
     if core.head.is_open() {
@@ -164,7 +170,8 @@ fn pass_step(core: &Core, pass: &Pass) -> Step
 
 /// What a cleaner does next without a pass.
 fn step_without(core: &Core) -> Result<Option<Step>, NoMemory>
-    requires { core.now.pass ≡ None }
+    requires none { core.now.pass ≡ None }
+    requires calm { core.now.failover ≡ None }
     ensures next { IfOk result (λ step. step ≡ step_without core.now) }
     ensures refused { OnErr result (NeedsChoice core.now) }
 {

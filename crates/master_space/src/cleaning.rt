@@ -1,6 +1,6 @@
 //! A pass of a core: it begins, copies entry by entry, and its survivors are sealed. What it leaves is freed.
 
-ghost use Rattle.std.specs.Prelude.{◌⊎◌, ◌≡◌, ◌<◌, ◌≤◌, ◌==◌, ◌∷◌, ◌++◌, ◌*◌, ◌+◌, [], ℕ, None, Some, false, length};
+ghost use Rattle.std.specs.Prelude.{◌⊎◌, ◌≡◌, ◌<◌, ◌≤◌, ◌==◌, ◌∷◌, ◌++◌, ◌*◌, ◌+◌, [], ℕ, None, Some, length};
 ghost use Rattle.std.specs.Prelude.{IfOk, IfErr, IfSome, OnOk, OnErr, IsSome, is_none, if◌then◌else◌};
 ghost use Rattle.failover_clean.specs.Steps.{MayBeginClean};
 ghost use Rattle.cleaner.specs.Passes.{survivor_ids, AreIds};
@@ -10,11 +10,13 @@ ghost use Rattle.images.specs.Images.{free_seglets as free_images};
 ghost use Rattle.images.specs.Sorted.{AreBelow};
 ghost use Rattle.replica.specs.Op.{OpValue, Seal, shown_op};
 ghost use Rattle.master_state.specs.Budget.{survivors_of, whole_seglets};
-ghost use Rattle.master_state.specs.Causes.{clean_refusal, copy_refusal, seal_refusal, free_refusal};
+ghost use Rattle.master_state.specs.Causes.{step_refusal, clean_refusal, copy_refusal, seal_refusal, free_refusal};
 ghost use Rattle.master_state.specs.Images.{survivor_images};
 ghost use Rattle.master_state.specs.Invariant.{AreImagesOf, IsCore};
 ghost use Rattle.master_state.specs.Log.{images_of, log_of, memory_of};
-ghost use Rattle.master_state.specs.Steps.{BeginsPass, Copies, copy_answer, sealed_data, freed_data};
+ghost use Rattle.master_state.specs.Steps.{BeginsPass, Copies, copy_answer, sealed_data, freed_data, freed_one};
+ghost use Rattle.std.specs.List.{AllByRecursion};
+ghost use Rattle.std.specs.Prelude.{vec_capacity};
 ghost use Rattle.master_state.specs.Waits.{next_seal, next_free};
 
 use crate::compacting::opening_id;
@@ -22,7 +24,7 @@ use crate::victims::admit_pass;
 use cleaner::{Copied, Pass, Survivors};
 use entry::{NoMemory, Row};
 use images::Images;
-use master_state::{Config, Core, Posting, Refusal, StepAnswer, image_of};
+use master_state::{Config, Core, Posting, Refusal, StepAnswer, Waiting, image_of};
 use replica::{Act, Op};
 use std::alloc::Global;
 
@@ -99,9 +101,7 @@ impl Cleans for Core {
         ensures refused { IfErr result (λ r. copy_refusal self.old ≡ Some r) }
         ensures err { OnErr result (self.new ≡ self.old) }
     {
-        if self.is_halted {
-            return Err(Refusal::Halted);
-        }
+        self.admit()?;
         self.closed.show_valid();
         let head = self.head.id();
         let new = opening_id(&self.head);
@@ -119,12 +119,12 @@ impl Cleans for Core {
         ensures next { result ≡ next_seal self.now }
         ensures survivor { IfSome result (λ next. IsAmong next.0 (survivors_of self.now.pass)) }
         ensures few { IfSome result (λ next. next.1 < self.now.config.replicas) }
-        ensures refused { self.now.is_halted ≡ false
+        ensures refused { step_refusal self.now ≡ None
             → seal_refusal self.now ≡ (if is_none result then Some Refusal.Nothing else None) }
     {
         match &self.pass {
             None => None,
-            Some(pass) => pass.next_seal(),
+            Some(pass) => pass.next_seal(self.config.replicas as usize, &self.closed),
         }
     }
 
@@ -151,21 +151,21 @@ impl Cleans for Core {
         ensures sealed { self.new ≡ sealed_data self.old }
         ensures valid { IsCore self.new }
     {
-        let Some(pass) = &mut self.pass else {
+        let Some((survivor, _)) = self.to_seal() else {
             unreachable!()
         };
-        pass.seal_taken(self.config.replicas as usize);
+        self.closed.add_replica(survivor);
     }
 
     fn to_free(&self) -> Option<(u64, usize)>
         ensures next { result ≡ next_free self.now }
         ensures few { IfSome result (λ next. next.1 < self.now.config.replicas) }
-        ensures refused { self.now.is_halted ≡ false
+        ensures refused { step_refusal self.now ≡ None
             → free_refusal self.now ≡ (if is_none result then Some Refusal.Nothing else None) }
     {
         match self.waiting.first() {
             None => None,
-            Some(segment) => Some((*segment, self.freed)),
+            Some(first) => Some((first.segment, first.freed as usize)),
         }
     }
 
@@ -174,12 +174,23 @@ impl Cleans for Core {
         ensures freed { self.new ≡ freed_data self.old }
         ensures valid { IsCore self.new }
     {
-        self.freed += 1;
-        if self.freed as u64 == self.config.replicas {
-            self.waiting.remove(0);
-            self.freed = 0;
-        }
+        free_one(&mut self.waiting);
     }
+}
+
+/// Counts a free of the first segment that waits. With its last replica it waits no more.
+fn free_one(waiting: &mut Vec<Waiting>)
+    requires some { 0 < length waiting.old.items }
+    requires valid { AllByRecursion (λ one. one.freed < one.replicas) waiting.old.items }
+    ensures items { waiting.new.items ≡ freed_one waiting.old.items }
+    ensures capacity { vec_capacity waiting.new ≡ vec_capacity waiting.old }
+{
+    let first = waiting[0];
+    if first.freed + 1 == first.replicas {
+        waiting.remove(0);
+        return;
+    }
+    waiting[0].freed = first.freed + 1;
 }
 
 /// Adds the images of new survivors, whose numbers are above all others, with the memory of whole segments. On an error

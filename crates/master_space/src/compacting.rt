@@ -96,9 +96,8 @@ fn is_victim(core: &Core, id: u64) -> bool
 fn admit_compaction(core: &Core, id: u64) -> Result<(), Refusal>
     ensures { result_err result ≡ compact_refusal core.now id }
 {
-    if core.is_halted {
-        return Err(Refusal::Halted);
-    }
+    core.admit()?;
+    core.show_valid();
     if is_head(core, id) {
         return Err(Refusal::Pass(PassFault::IsHead(id)));
     }

@@ -1,18 +1,19 @@
 //! How a pass ends with the roll that commits it.
 
-ghost use Rattle.std.specs.Prelude.{◌≡◌, ◌+◌, ◌≤◌, ◌++◌, IfSome, true, length, vec_capacity};
+ghost use Rattle.std.specs.Prelude.{◌≡◌, ◌+◌, ◌≤◌, ◌++◌, ◌&&◌, IfSome, true, length, nat_lt, vec_capacity};
 ghost use Rattle.images.specs.Sorted.{AreRising};
 ghost use Rattle.log_model.specs.Ids.{has};
 ghost use Rattle.master_space.specs.Ends.{pass_left, closed_left, waiting_left};
 ghost use Rattle.cleaner.specs.Passes.{survivor_ids, AreIds};
-ghost use Rattle.master_state.specs.Images.{staying, leaving, after_pass, all_trimmed};
+ghost use Rattle.master_state.specs.Images.{staying, leaving, waiting_for, after_pass, all_trimmed};
 
 use cleaner::{Pass, Survivors};
 use images::{Image, Images};
+use master_state::Waiting;
 
 /// What the end of a roll leaves of a pass. If the roll was its commit, the pass ends: the images of its victims are
-/// dropped, the victims wait to be freed, and each survivor's image counts its length from then on. It takes no memory.
-pub(crate) fn end_pass(pass: &mut Option<Pass>, closed: &mut Images, waiting: &mut Vec<u64>)
+/// dropped, what backups hold of them waits to be freed, and each survivor's image counts its length from then on. It takes no memory.
+pub fn end_pass(pass: &mut Option<Pass>, closed: &mut Images, waiting: &mut Vec<Waiting>)
     requires numbers { IfSome pass.old (λ p. AreIds p.survivors) }
     requires room { IfSome pass.old (λ p. p.is_committing ≡ true
         → length waiting.old.items + length p.victims ≤ vec_capacity waiting.old) }
@@ -31,7 +32,7 @@ pub(crate) fn end_pass(pass: &mut Option<Pass>, closed: &mut Images, waiting: &m
 }
 
 /// Ends a pass that is committed.
-fn commit(pass: &Pass, closed: &mut Images, waiting: &mut Vec<u64>)
+fn commit(pass: &Pass, closed: &mut Images, waiting: &mut Vec<Waiting>)
     requires numbers { AreIds pass.now.survivors }
     requires room { length waiting.old.items + length pass.now.victims ≤ vec_capacity waiting.old }
     ensures closed { closed.new ≡ record closed.old { images = after_pass pass.now closed.old.images } }
@@ -43,17 +44,34 @@ fn commit(pass: &Pass, closed: &mut Images, waiting: &mut Vec<u64>)
     trim(pass.survivors, closed);
 }
 
-/// Adds the ids of the images that are victims.
-fn add_leaving(victims: &[u64], images: &[Image], waiting: &mut Vec<u64>)
+/// Adds the images that are victims and that some backup holds.
+fn add_leaving(victims: &[u64], images: &[Image], waiting: &mut Vec<Waiting>)
     requires rising { AreRising images.now }
     requires room { length waiting.old.items + length victims.now ≤ vec_capacity waiting.old }
     ensures { waiting.new.items ≡ waiting.old.items ++ leaving victims.now images.now }
 {
     for image in images {
-        let id = image.id();
-        if is_victim(victims, id) {
-            waiting.push_reserved(id);
+        if leaves(victims, image) {
+            waiting.push_reserved(waiting_for(image));
         }
+    }
+}
+
+/// Whether this is the image of a victim that some backup holds.
+fn leaves(victims: &[u64], image: &Image) -> bool
+    ensures { result ≡ (has victims.now image.now.id && nat_lt 0 image.now.replicas) }
+{
+    is_victim(victims, image.id()) && image.replicas() > 0
+}
+
+/// The segment of the image as it begins to wait.
+fn waiting_for(image: &Image) -> Waiting
+    ensures { result ≡ waiting_for image.now }
+{
+    Waiting {
+        segment: image.id(),
+        freed: 0,
+        replicas: image.replicas() as u32,
     }
 }
 

@@ -25,7 +25,7 @@ use std::alloc::Global;
 
 /// What a core pushes next, and how it rolls to the next head.
 pub trait Rolls {
-    /// This push is the next one.
+    /// This push is the next one, and no failover is open.
     ghost may_take: { Self → NextValue → Type 0 };
 
     /// The history has a record at this place.
@@ -36,10 +36,10 @@ pub trait Rolls {
     /// Nothing is appended until the roll has ended. A refusal changes nothing.
     fn begin_roll(&mut self) -> Result<StepAnswer, Refusal>;
 
-    /// What the next push does. `None` if nothing waits.
+    /// What the next push does, if no failover is open. `None` if nothing waits.
     fn next_push(&self) -> Option<Next>;
 
-    /// What the next push does, unless the record at this place is durable. `None` if it is.
+    /// The same, unless the record at this place is durable. `None` if it is.
     fn next_push_for(&self, place: u64) -> Option<Next>
         requires { has_record self.now place };
 
@@ -49,7 +49,7 @@ pub trait Rolls {
 }
 
 impl Rolls for Core {
-    ghost may_take = { λ core next. IsNextPush core.head (Some next) };
+    ghost may_take = { λ core next. (core.failover ≡ None) × IsNextPush core.head (Some next) };
 
     ghost has_record = { λ core place. place < length core.history };
 
@@ -102,25 +102,28 @@ impl Rolls for Core {
     fn next_push_for(&self, place: u64) -> Option<Next>
         requires { place < length self.now.history }
         ensures next { IfSome result (λ next. IsNextPush self.now.head (Some next)) }
-        ensures durable { is_none result ≡ nat_lt place (durable_now self.now) }
+        ensures durable { self.now.failover ≡ None → is_none result ≡ nat_lt place (durable_now self.now) }
         ensures valid { IsCore self.now }
     {
         self.head.next_for(place as usize)
     }
 
     fn took(&mut self, next: Next)
-        requires { IsNextPush self.old.head (Some next) }
+        requires calm { self.old.failover ≡ None }
+        requires next { IsNextPush self.old.head (Some next) }
         ensures taken { self.new ≡ taken_data self.old next }
         ensures valid { IsCore self.new }
     {
         match next {
             Next::OpenFirst(_) => self.head.open(),
             Next::Extend(replica) => self.head.extend(replica),
+            Next::OpenWhole(_) => unreachable!(),
             Next::OpenNew(_) => self.head.open_new(),
             Next::CloseOld(_) => {
                 let id = self.head.id();
                 if let Some(image) = self.head.close_old() {
-                    self.closed.add_closed(id, image);
+                    let replicas = self.config.replicas as usize;
+                    self.closed.add_closed(id, image, replicas);
                     end_pass(&mut self.pass, &mut self.closed, &mut self.waiting);
                 }
             }
@@ -135,7 +138,7 @@ fn admit_roll(core: &Core) -> Result<(), Refusal>
     if core.is_halted {
         return Err(Refusal::Halted);
     }
-    if !core.head.is_open() {
+    if !core.is_working() {
         return Err(Refusal::Rolling);
     }
     if core.next_id > MAX_SEGMENT_ID {
@@ -148,7 +151,7 @@ fn admit_roll(core: &Core) -> Result<(), Refusal>
 }
 
 /// The ids that the next head's digest leaves out: the victims, if the roll is a commit.
-fn leaving_victims(pass: &Option<Pass>, is_commit: bool) -> &[u64]
+pub fn leaving_victims(pass: &Option<Pass>, is_commit: bool) -> &[u64]
     ensures { result.now ≡ (if is_commit then victims_of pass.entry.now else []) }
 {
     match pass {
@@ -159,7 +162,7 @@ fn leaving_victims(pass: &Option<Pass>, is_commit: bool) -> &[u64]
 
 /// The segments that the next head's digest takes in, with their bytes as they were sealed: the survivors, if the roll
 /// is a commit.
-fn entering(
+pub fn entering(
     alloc: Global,
     pass: &Option<Pass>,
     closed: &Images,
@@ -206,7 +209,7 @@ fn len_of(closed: &Images, id: u64) -> u64
 }
 
 /// Marks an open pass as one whose commit is under way, or not.
-fn mark(pass: &mut Option<Pass>, is_commit: bool)
+pub fn mark(pass: &mut Option<Pass>, is_commit: bool)
     ensures { pass.new ≡ option_map (λ (p : OpenPass). record p { is_committing = is_commit }) pass.old }
 {
     if let Some(pass) = pass {

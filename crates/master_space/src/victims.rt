@@ -15,9 +15,7 @@ pub(crate) fn admit_pass(core: &Core, victims: &[u64]) -> Result<PassSize, Refus
     ensures refused { result_err result ≡ clean_refusal core.now victims.now }
     ensures survivors { IfOk result (λ size. size.survivors ≡ survivors_for core.now victims.now) }
 {
-    if core.is_halted {
-        return Err(Refusal::Halted);
-    }
+    core.admit()?;
     if let Err(fault) = check_victims(core, victims) {
         return Err(Refusal::Pass(fault));
     }

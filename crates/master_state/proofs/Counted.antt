@@ -1,5 +1,5 @@
 -- The durable count, from the units that a head keeps.
-use Rattle.std.proofs.Common.{◌≡◌, ℕ, zero, suc, List, [], ◌∷◌, length, refl}
+use Rattle.std.proofs.Common.{◌≡◌, ℕ, zero, suc, List, [], ◌∷◌, length, refl, ◌∙◌}
 use Rattle.std.specs.Prelude.{Option, Some, None, slice_get}
 use Rattle.std.specs.Option.{option_map, option_map_or}
 use Rattle.log_head.specs.declared.head.UnitEnd.{UnitEnd}
@@ -17,10 +17,12 @@ numbers_are bytes from [] all n = refl
 numbers_are bytes from (e ∷ es) all zero = refl
 numbers_are bytes from (e ∷ es) all (suc n) = numbers_are bytes e.end es all n
 
-pub durable_is : (d : MasterData)
+pub durable_is : (d : MasterData) → d.failover ≡ None
     → option_map_or (λ (u : UnitEnd). u.number) (slice_get d.head.units (everywhere d.head)) (length d.history)
     ≡ durable_now d
-durable_is d = numbers_are (text_of d.head.image) d.head.base d.head.units (length d.history) (everywhere d.head)
+durable_is d calm =
+    numbers_are (text_of d.head.image) d.head.base d.head.units (length d.history) (everywhere d.head)
+    ∙ (rw calm refl)
 
 -- the number of a unit that is missing, or all
 pub from_none : (o : Option UnitEnd) (n : ℕ) → option_map (λ (u : UnitEnd). u.number) o ≡ None

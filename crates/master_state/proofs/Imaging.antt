@@ -44,9 +44,9 @@ none_above (c ∷ cs) n s all le =
     rw test (none_above cs n s all.1 le)
 
 -- one more is found if no other has its id
-pub closed_more : (cs : List Image) (id s : ℕ) (image : List Entry) → segment_of cs id ≡ None
-    → segment_of (added (closed_image id image) cs) s ≡ (if id == s then Some image else segment_of cs s)
-closed_more cs id s image none = segment_found (closed_image id image) cs s (no_image (image_of cs id) none) where
+pub closed_more : (cs : List Image) (id s : ℕ) (image : List Entry) (n : ℕ) → segment_of cs id ≡ None
+    → segment_of (added (closed_image id image n) cs) s ≡ (if id == s then Some image else segment_of cs s)
+closed_more cs id s image n none = segment_found (closed_image id image n) cs s (no_image (image_of cs id) none) where
   no_image : (o : Option Image) → option_map (λ (c : Image). c.segment) o ≡ None → o ≡ None
   no_image None is = refl
   no_image (Some c) is = absurd (cc)
@@ -155,20 +155,21 @@ same_roll h cs r q is id image s =
     ∙ ap (λ (o : Option Roll). if h.id == s then Some h.image else new_image_or o s (segment_of cs s)) (sym is)
 
 -- the last Close moves images, and changes none
-pub closed_same : (h : HeadValue) (cs : List Image) (r : Roll) → h.roll ≡ Some r → (h.id ≡ r.id → ⊥)
+pub closed_same : (h : HeadValue) (cs : List Image) (r : Roll) (n : ℕ) → h.roll ≡ Some r → (h.id ≡ r.id → ⊥)
     → segment_of cs h.id ≡ None
-    → (s : ℕ) → image_among (in_force h r) (with_closed cs h.id (Some h.image)) s ≡ image_among h cs s
-closed_same h cs r is other none s = by_head (h.id == s) refl
+    → (s : ℕ) → image_among (in_force h r) (with_closed cs h.id n (Some h.image)) s ≡ image_among h cs s
+closed_same h cs r n is other none s = by_head (h.id == s) refl
   where
-    more : segment_of (added (closed_image h.id h.image) cs) s ≡ (if h.id == s then Some h.image else segment_of cs s)
-    more = closed_more cs h.id s h.image none
+    more : segment_of (added (closed_image h.id h.image n) cs) s
+        ≡ (if h.id == s then Some h.image else segment_of cs s)
+    more = closed_more cs h.id s h.image n none
 
-    by_head : (t : Bool) → (h.id == s) ≡ t → image_among (in_force h r) (with_closed cs h.id (Some h.image)) s
+    by_head : (t : Bool) → (h.id == s) ≡ t → image_among (in_force h r) (with_closed cs h.id n (Some h.image)) s
         ≡ image_among h cs s
     by_head true here =
         let away : (r.id == s) ≡ false = other_id r.id s (λ e. other (eqb-true h.id s here ∙ sym e)) in
-        let found : segment_of (added (closed_image h.id h.image) cs) s ≡ Some h.image = rw here at more in
+        let found : segment_of (added (closed_image h.id h.image n) cs) s ≡ Some h.image = rw here at more in
         rw (away, here) found
     by_head false away =
-        let found : segment_of (added (closed_image h.id h.image) cs) s ≡ segment_of cs s = rw away at more in
+        let found : segment_of (added (closed_image h.id h.image n) cs) s ≡ segment_of cs s = rw away at more in
         rw (away, is, found) refl

@@ -1,5 +1,5 @@
 -- An index leads to the same objects where images grow, and to a new one where it is set.
-use Rattle.std.proofs.Common.{◌≡◌, ℕ, inl, inr, List, [], ◌∷◌, ◌++◌, length, drop, refl, sym, ap, subst, ◌∙◌}
+use Rattle.std.proofs.Common.{◌≡◌, ◌⊎◌, ℕ, inl, inr, List, [], ◌∷◌, ◌++◌, length, drop, refl, sym, ap, subst, ◌∙◌}
 use Rattle.std.proofs.Common.{append_assoc}
 use Rattle.std.specs.Prelude.{Option, Some, None}
 use Rattle.std.specs.List.{AllByRecursion}
@@ -9,9 +9,11 @@ use Rattle.entry.specs.declared.key.Key.{Key}
 use Rattle.entry.specs.declared.entry.Object.{Object}
 use Rattle.entry.specs.declared.entry.Entry.{Entry}
 use Rattle.entry.specs.declared.entry.Entry.TheVariants as entry
+use Rattle.entry.specs.Bag.{IsAmong}
 use Rattle.entry.specs.Format.{IsEntry, spelling, front_of}
 use Rattle.entry.specs.Meaning.{Versioned, Contents, object_at}
 use Rattle.entry.specs.Text.{text_of}
+use Rattle.entry.proofs.BagLemmas.{among_right}
 use Rattle.entry.proofs.ListLemmas.{all_split}
 use Rattle.entry.proofs.TextLemmas.{front_of-spelling}
 use Rattle.segment.specs.Bytes.{standing_at}
@@ -146,3 +148,46 @@ module _ (images grown : ℕ → List Entry) (grow : Grow images grown) (each : 
               (subst (λ (y : Option Versioned). LiesFound grown q (found (keys_in grown) q hs) y)
               (sym has) (lies_still q)))
         ]
+
+-- ---- images that are fewer
+
+-- each image is as it was, or had no object
+abbrev pub Shed : (ℕ → List Entry) → (ℕ → List Entry) → Type 0
+Shed images fewer = (s : ℕ) → (fewer s ≡ images s) ⊎ ((o : Object) → IsAmong (entry.Object o) (images s) → ⊥)
+
+stands_shed : (images fewer : ℕ → List Entry) (p : Place) (k : Key) (x : Versioned) → Shed images fewer
+    → IsAtPlace images p (object_at k x) → IsAtPlace fewer p (object_at k x)
+stands_shed images fewer p k x g stands = elim (g p.segment) [
+  | inl same ↦ subst (λ (image : List Entry). LiesAt image p.at (object_at k x)) (sym same) stands
+  | inr none ↦ absurd (none (record { key = k; version = x.version; value = x.value })
+      (subst (λ (image : List Entry). IsAmong (object_at k x) image) (sym stands.split)
+      (among_right (object_at k x) stands.before (object_at k x ∷ stands.after) (inl refl))))
+]
+
+lies_shed : (images fewer : ℕ → List Entry) (k : Key) (f : Option Place) (x : Option Versioned) → Shed images fewer
+    → LiesFound images k f x → LiesFound fewer k f x
+lies_shed images fewer k None None g lies = tt
+lies_shed images fewer k None (Some x) g lies = absurd lies
+lies_shed images fewer k (Some p) None g lies = absurd lies
+lies_shed images fewer k (Some p) (Some x) g lies = stands_shed images fewer p k x g lies
+
+module _ (images fewer : ℕ → List Entry) (shed : Shed images fewer) (each : (s : ℕ) → AllByRecursion IsEntry (fewer s))
+    (hs : Places) (contents : Contents) (index : Indexes images hs contents) where
+  told_shed : AreToldAgain (keys_in images) (keys_in fewer) hs
+  told_shed =
+      all_then (HasKey (keys_in images) hs) (λ (p : Place). keys_in fewer p ≡ keys_in images p) hs
+      (λ p at.
+      let k = at.0 in
+      let there = found_lies images k (found (keys_in images) k hs) (contents k) (index.lies k) p at.2 in
+      key_seen fewer each p k there.0 (stands_shed images fewer p k there.0 shed there.2) ∙ sym at.1)
+      (each_told (keys_in images) hs index.kept)
+
+  pub found_shed : (q : Key) → found (keys_in fewer) q hs ≡ found (keys_in images) q hs
+  found_shed q = found_again (keys_in images) (keys_in fewer) hs told_shed q
+
+  pub index_shed : Indexes fewer hs contents
+  index_shed = record {
+    kept = kept_again (keys_in images) (keys_in fewer) hs index.kept told_shed;
+    lies = λ q. subst (λ (f : Option Place). LiesFound fewer q f (contents q)) (sym (found_shed q))
+        (lies_shed images fewer q (found (keys_in images) q hs) (contents q) shed (index.lies q));
+  }

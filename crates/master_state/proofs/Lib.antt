@@ -11,3 +11,6 @@ pub mod Holding
 pub mod Naming
 pub mod Rising
 pub mod LogIds
+pub mod Recounts
+pub mod LostCore
+pub mod LostWaits

@@ -174,6 +174,17 @@ module _ (d : MasterData) (core : IsCore d) where
       let more = length_all (survivors_of d.pass) start.others in
       omega arith
 
+  -- the digest of the head has, whether or not a roll is under way
+  pub digest_listed : length (digest_of d.head.image) + length (survivors_of d.pass) ≡ length d.closed + 1
+  digest_listed =
+      let newest : length (digest_of d.head.image) ≡ length (ids_of start) =
+      ap length (digest_is d.config.master d.head (head_of d.head) core.image) in
+      let ids = length-append start.others (start.id ∷ []) in
+      let closed : length d.closed ≡ length (all_inserted (survivors_of d.pass) start.others) = sym (count_ids d.closed)
+      ∙ ap length core.closed in
+      let more = length_all (survivors_of d.pass) start.others in
+      omega arith
+
   -- there are few survivors
   pub few_survivors : length (survivors_of d.pass) ≤ 4
   few_survivors = go d.pass core.pass where

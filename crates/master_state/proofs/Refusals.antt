@@ -13,7 +13,8 @@ use Rattle.master_state.specs.declared.step.Refusal.{Refusal}
 use Rattle.master_state.specs.declared.step.Refusal.TheVariants.{Halted, TooBig, NoTablet, HistoryFull, VersionsSpent}
 use Rattle.master_state.specs.declared.step.Refusal.TheVariants.{Full, Rolling, Nothing, SegmentsSpent}
 use Rattle.master_state.specs.Causes.{early_refusal, late_refusal, command_refusal, unit_refusal, has_room, unit_now}
-use Rattle.master_state.specs.Budget.{segments_for, may_roll}
+use Rattle.master_state.specs.declared.failover.Failover.{Failover}
+use Rattle.master_state.specs.Budget.{is_working, segments_for, may_roll}
 use Rattle.master_state.specs.Causes.{roll_refusal, is_pushed, push_refusal, is_too_big, is_empty}
 use Rattle.versioned_map.specs.Versioned.{is_spent}
 use Rattle.versioned_map.specs.Command.{command_key}
@@ -114,20 +115,29 @@ module _ (d : MasterData) (command : Command) where
       → command_refusal d command ≡ o
   refused_late o e s u = rw (e, s, u) refl
 
+-- a master that takes units has an open head, and no failover is open
+pub working_parts : (d : MasterData) → is_working d ≡ true → (is_open d.head ≡ true) × (d.failover ≡ None)
+working_parts d is =
+    let parts = and_parts (is_open d.head) (is_none d.failover) is in (parts.0, none d.failover parts.1)
+  where
+    none : (o : Option Failover) → is_none o ≡ true → o ≡ None
+    none None is = refl
+    none (Some f) is = absurd (cc)
+
 -- a unit that is appended fits an open head
 room_then : (d : MasterData) (k : Command) (u : List Entry) → is_empty u ≡ false → unit_refusal d k u ≡ None
-    → (is_open d.head ≡ true) × (has_room d u ≡ true)
+    → (is_working d ≡ true) × (has_room d u ≡ true)
 room_then d k u some e =
-    let rest : cond (is_open d.head && (not (has_room d u) && not (may_roll d (segments_for k)))) (Some Full)
-    (cond (not (is_open d.head && has_room d u)) (Some Rolling) None) ≡ None =
+    let rest : cond (is_working d && (not (has_room d u) && not (may_roll d (segments_for k)))) (Some Full)
+    (cond (not (is_working d && has_room d u)) (Some Rolling) None) ≡ None =
     rw some at e in
-    let a = passes (is_open d.head && (not (has_room d u) && not (may_roll d (segments_for k)))) Full _ rest in
-    and_parts _ _ (not-false (is_open d.head && has_room d u)
-    (passes (not (is_open d.head && has_room d u)) Rolling None a.1).0)
+    let a = passes (is_working d && (not (has_room d u) && not (may_roll d (segments_for k)))) Full _ rest in
+    and_parts _ _ (not-false (is_working d && has_room d u)
+    (passes (not (is_working d && has_room d u)) Rolling None a.1).0)
 
 unit_room : (d : MasterData) (command : Command) → command_refusal d command ≡ None
     → is_empty (unit_now d command) ≡ false
-    → (is_open d.head ≡ true) × (has_room d (unit_now d command) ≡ true)
+    → (is_working d ≡ true) × (has_room d (unit_now d command) ≡ true)
 unit_room d command passed some =
     let late = (early_first d command (early_refusal d command) (late_refusal d command) passed).1 in
     let unit = (passes (is_spent (state_now d).safe ((state_now d).contents (command_key command)) command)
@@ -141,31 +151,36 @@ unit_fits d command passed some =
     leb-true (length (text_of d.head.image) + length (text_of (unit_now d command))) d.config.segment
     (unit_room d command passed some).1
 
+pub unit_working : (d : MasterData) (command : Command) → command_refusal d command ≡ None
+    → is_empty (unit_now d command) ≡ false
+    → is_working d ≡ true
+unit_working d command passed some = (unit_room d command passed some).0
+
 pub unit_open : (d : MasterData) (command : Command) → command_refusal d command ≡ None
     → is_empty (unit_now d command) ≡ false
     → is_open d.head ≡ true
-unit_open d command passed some = (unit_room d command passed some).0
+unit_open d command passed some = (working_parts d (unit_working d command passed some)).0
 
--- what is made of a unit: an empty one, then one for a head that isn't open, and one for an open head, without room and
--- with
+-- what is made of a unit: an empty one, then one for a head that takes none, and one for a head that does, without room
+-- and with
 pub refused_nothing : (d : MasterData) (k : Command) (u : List Entry) → is_empty u ≡ true → unit_refusal d k u ≡ None
 refused_nothing d k u none = rw none refl
 
-pub refused_closed : (d : MasterData) (k : Command) (u : List Entry) → is_empty u ≡ false → is_open d.head ≡ false
+pub refused_closed : (d : MasterData) (k : Command) (u : List Entry) → is_empty u ≡ false → is_working d ≡ false
     → unit_refusal d k u ≡ Some Rolling
 refused_closed d k u some closed = rw (some, closed) refl
 
-pub refused_full : (d : MasterData) (k : Command) (u : List Entry) → is_empty u ≡ false → is_open d.head ≡ true
+pub refused_full : (d : MasterData) (k : Command) (u : List Entry) → is_empty u ≡ false → is_working d ≡ true
     → has_room d u ≡ false
     → may_roll d (segments_for k) ≡ false → unit_refusal d k u ≡ Some Full
 refused_full d k u some opened full never = rw (some, opened, full, never) refl
 
-pub refused_due : (d : MasterData) (k : Command) (u : List Entry) → is_empty u ≡ false → is_open d.head ≡ true
+pub refused_due : (d : MasterData) (k : Command) (u : List Entry) → is_empty u ≡ false → is_working d ≡ true
     → has_room d u ≡ false
     → may_roll d (segments_for k) ≡ true → unit_refusal d k u ≡ Some Rolling
 refused_due d k u some opened full may = rw (some, opened, full, may) refl
 
-pub refused_not : (d : MasterData) (k : Command) (u : List Entry) → is_empty u ≡ false → is_open d.head ≡ true
+pub refused_not : (d : MasterData) (k : Command) (u : List Entry) → is_empty u ≡ false → is_working d ≡ true
     → has_room d u ≡ true
     → unit_refusal d k u ≡ None
 refused_not d k u some opened room = rw (some, opened, room) refl
@@ -186,16 +201,23 @@ open_parts h opened =
 pub record MayBeginRoll (d : MasterData) : Type 0 where
   pub running : d.is_halted ≡ false
   pub opened : is_open d.head ≡ true
+  pub calm : d.failover ≡ None
   pub ids : d.next ≤ 2 ^ 62
   pub rule : may_roll d 2 ≡ true
 
 pub may_begin : (d : MasterData) → roll_refusal d ≡ None → MayBeginRoll d
 may_begin d e =
     let a = passes d.is_halted Halted _ e in
-    let o = passes (not (is_open d.head)) Rolling _ a.1 in
+    let o = passes (not (is_working d)) Rolling _ a.1 in
     let i = passes (nat_lt (2 ^ 62) d.next) SegmentsSpent _ o.1 in
     let m = passes (not (may_roll d 2)) Full None i.1 in
-    record { running = a.0; opened = not-false _ o.0; ids = ltb-false (2 ^ 62) d.next i.0; rule = not-false _ m.0 }
+    let works = working_parts d (not-false _ o.0) in record {
+      running = a.0;
+      opened = works.0;
+      calm = works.1;
+      ids = ltb-false (2 ^ 62) d.next i.0;
+      rule = not-false _ m.0;
+    }
 
 -- ---- a push
 
@@ -217,6 +239,7 @@ still_waits h (next.Extend j) is =
     fewest_at (length h.units) lagging.0 j h.taken lagging.1 lagging.2 lagging.3 in
     let less : (fewest (length h.units) h.taken == length h.units) ≡ false = grind (arith, nat_tests) in
     rw less (and-false (is_open h))
+still_waits h (next.OpenWhole j) is = absurd is
 still_waits h (next.OpenNew j) is = let closed = rolling_closed h is.1 is.2 in rw closed refl
 still_waits h (next.CloseOld j) is = let closed = rolling_closed h is.1 is.2 in rw closed refl
 
@@ -230,12 +253,18 @@ all_pushed h is =
     let none = is.1 in
     rw (all_open, none, same) refl
 
+-- a push that is refused: never in a failover, unless halted
+pub push_failing : (d : MasterData) → d.is_halted ≡ false → is_none d.failover ≡ false → push_refusal d ≡ None
+push_failing d running is = rw (running, is) refl
+
 pub push_passed : (d : MasterData) (push : Next) → d.is_halted ≡ false → IsNextPush d.head (Some push)
     → push_refusal d ≡ None
-push_passed d push running is = let waits = still_waits d.head push is in rw (running, waits) refl
+push_passed d push running is =
+    let waits = still_waits d.head push is in rw (running, waits, and-false (is_none d.failover)) refl
 
-pub push_done : (d : MasterData) → d.is_halted ≡ false → IsNextPush d.head None → push_refusal d ≡ Some Nothing
-push_done d running is = let done = all_pushed d.head is in rw (running, done) refl
+pub push_done : (d : MasterData) → d.is_halted ≡ false → d.failover ≡ None → IsNextPush d.head None
+    → push_refusal d ≡ Some Nothing
+push_done d running calm is = let done = all_pushed d.head is in rw (running, calm, done) refl
 
 pub push_halted : (d : MasterData) → d.is_halted ≡ true → push_refusal d ≡ Some Halted
 push_halted d halted = rw halted refl

@@ -1,6 +1,6 @@
 -- How much memory a master counts, in seglets, and when a roll or a pass may begin.
-use Rattle.std.specs.Prelude.{ℕ, ◌+◌, ◌-◌, ◌*◌, ◌/◌, ◌&&◌, ◌||◌, List, [], length, sum_by, Bool, false, nat_le}
-use Rattle.std.specs.Prelude.{Option}
+use Rattle.std.specs.Prelude.{ℕ, ◌+◌, ◌-◌, ◌*◌, ◌/◌, ◌^◌, ◌==◌, ◌&&◌, ◌||◌, List, [], length, sum_by, Bool, false}
+use Rattle.std.specs.Prelude.{nat_le, Option, is_some, is_none, if◌then◌else◌}
 use Rattle.std.specs.Int.{div_ceil}
 use Rattle.std.specs.Option.{option_map_or}
 use Rattle.cleaner.specs.declared.pass.Pass.{Pass}
@@ -9,10 +9,11 @@ use Rattle.entry.specs.declared.entry.Entry.{Entry}
 use Rattle.entry.specs.Text.{text_of}
 use Rattle.images.specs.Images.{count_of}
 use Rattle.log_head.specs.declared.head.Roll.{Roll}
-use Rattle.log_head.specs.Head.{HeadValue, digest_of}
+use Rattle.log_head.specs.Head.{HeadValue, is_open, digest_of}
 use Rattle.versioned_map.specs.declared.command.Command.{Command}
 use Rattle.versioned_map.specs.declared.command.Command.TheVariants.{Get, Put, Delete}
 use Rattle.master_state.specs.declared.config.Config.{Config}
+use Rattle.master_state.specs.declared.failover.Failover.{Failover}
 use Rattle.master_state.specs.Data.{MasterData}
 
 -- the seglets of a whole segment
@@ -23,13 +24,19 @@ whole_seglets c = c.segment / c.seglet
 abbrev pub seglets_of : Config → List Entry → ℕ
 seglets_of c image = div_ceil (length (text_of image)) c.seglet
 
+-- a failover has the image of a head that a roll was opening
+abbrev pub has_abandoned : MasterData → Bool
+has_abandoned d = option_map_or (λ (f : Failover). is_some f.abandoned) d.failover false
+
 -- The head counts whole. While a roll is under way the new head does, and the old one counts its length.
-abbrev pub head_seglets : Config → HeadValue → ℕ
-head_seglets c h = option_map_or (λ (r : Roll). seglets_of c h.image + whole_seglets c) h.roll (whole_seglets c)
+abbrev pub head_seglets : MasterData → ℕ
+head_seglets d =
+    if is_some d.head.roll || has_abandoned d then seglets_of d.config d.head.image + whole_seglets d.config
+    else whole_seglets d.config
 
 -- how many seglets are counted: the head's, those of the closed segments, each by its length, and the survivors', whole
 abbrev pub used_seglets : MasterData → ℕ
-used_seglets d = head_seglets d.config d.head + sum_by (count_of d.config.segment d.config.seglet) d.closed
+used_seglets d = head_seglets d + sum_by (count_of d.config.segment d.config.seglet) d.closed
 
 -- how many are left
 abbrev pub free_seglets : MasterData → ℕ
@@ -47,13 +54,17 @@ survivors_of pass = option_map_or (λ (p : Pass). survivor_ids p.survivors) pass
 
 -- the open pass is ready for its commit: nothing is left to copy, and each replica of its survivors is sealed
 abbrev pub is_ready : MasterData → Bool
-is_ready d = option_map_or is_ready_pass d.pass false
+is_ready d = option_map_or (is_ready_pass d.config.replicas d.closed) d.pass false
 
 -- the roll that is under way is a pass's commit
 abbrev pub is_committing : MasterData → Bool
 is_committing d = option_map_or (λ (p : Pass). p.is_committing) d.pass false
 
 -- ---- when a roll may begin
+
+-- all replicas of the head are open, no roll is under way, and no failover is open
+abbrev pub is_working : MasterData → Bool
+is_working d = is_open d.head && is_none d.failover
 
 -- the ids of the newest digest, that of a begun roll included
 abbrev pub newest_digest : HeadValue → List ℕ
@@ -91,9 +102,38 @@ has_space d segments =
     && nat_le ((segments - segments_taken d) * whole_seglets d.config + seglets_of d.config d.head.image)
     (free_seglets d)
 
--- The rule of a roll: the commit of a pass that is ready may always begin.
+-- how many ids the digest of the next commit lists
+abbrev pub commit_listed : MasterData → ℕ
+commit_listed d = length (digest_of d.head.image) - segments_leaving d + segments_entering d + 1
+
+-- The commit of a pass that is ready may always begin under format 1. Under format 2 a failover may have used what was
+-- kept for it, so its digest has to have its places, and the old head its seglets.
+abbrev pub may_commit : MasterData → Bool
+may_commit d =
+    (d.config.format == 1)
+    || nat_le (commit_listed d) (most_segments d.config) && nat_le (seglets_of d.config d.head.image) (free_seglets d)
+
+-- The rule of a roll.
 abbrev pub may_roll : MasterData → ℕ → Bool
-may_roll d segments = is_ready d || has_space d segments
+may_roll d segments = if is_ready d then may_commit d else has_space d segments
+
+-- ---- when the new head of a failover may be opened
+
+-- how many ids its digest lists
+abbrev pub turn_listed : MasterData → ℕ
+turn_listed d = if is_ready d then commit_listed d else length (digest_of d.head.image) + 1
+
+-- how many seglets have to be free: the old head's, unless it counts its length already
+abbrev pub turn_need : MasterData → ℕ
+turn_need d = if has_abandoned d then 0 else seglets_of d.config d.head.image
+
+-- The rule of a failover's new head: an id is left, the digest has places, and no seglet is missing. It may use what is
+-- kept for other rolls. If no head was open yet, the new one takes the place of the first.
+abbrev pub may_turn : MasterData → Bool
+may_turn d =
+    nat_le d.next (2 ^ 62)
+    && (option_map_or (λ (f : Failover). f.is_first) d.failover false
+    || nat_le (turn_listed d) (most_segments d.config) && nat_le (turn_need d) (free_seglets d))
 
 -- ---- when a pass may begin
 

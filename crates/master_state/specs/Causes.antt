@@ -25,7 +25,7 @@ use Rattle.master_state.specs.declared.step.Refusal.{Refusal}
 use Rattle.master_state.specs.declared.step.Refusal.TheVariants.{Halted, TooBig, NoTablet, HistoryFull, VersionsSpent}
 use Rattle.master_state.specs.declared.step.Refusal.TheVariants.{Full, Rolling, Nothing}
 use Rattle.master_state.specs.declared.step.Refusal.TheVariants.{SegmentsSpent, Pass}
-use Rattle.master_state.specs.Budget.{segments_for, may_roll, may_clean, victims_of}
+use Rattle.master_state.specs.Budget.{is_working, segments_for, may_roll, may_clean, victims_of}
 use Rattle.master_state.specs.Data.{MasterData}
 use Rattle.master_state.specs.Index.{segment_at}
 use Rattle.master_state.specs.Log.{state_now, find, log_set_ids}
@@ -61,8 +61,8 @@ is_empty (e ∷ es) = false
 abbrev pub unit_refusal : MasterData → Command → List Entry → Option Refusal
 unit_refusal d command unit =
     if is_empty unit then None
-    else if is_open d.head && (not (has_room d unit) && not (may_roll d (segments_for command))) then Some Full
-    else if not (is_open d.head && has_room d unit) then Some Rolling
+    else if is_working d && (not (has_room d unit) && not (may_roll d (segments_for command))) then Some Full
+    else if not (is_working d && has_room d unit) then Some Rolling
     else None
 
 -- the segment in which the index finds the command's key; which one doesn't matter if it finds none
@@ -84,13 +84,19 @@ abbrev pub command_refusal : MasterData → Command → Option Refusal
 command_refusal d command =
     if is_none (early_refusal d command) then late_refusal d command else early_refusal d command
 
+-- ---- other steps
+
+-- the test that comes before all others: while a failover is open, none of these steps is made
+abbrev pub step_refusal : MasterData → Option Refusal
+step_refusal d = if d.is_halted then Some Halted else if is_some d.failover then Some Rolling else None
+
 -- ---- a roll
 
 -- the test that refuses a roll by itself, apart from memory
 abbrev pub roll_refusal : MasterData → Option Refusal
 roll_refusal d =
     if d.is_halted then Some Halted
-    else if not (is_open d.head) then Some Rolling
+    else if not (is_working d) then Some Rolling
     else if nat_lt (2 ^ 62) d.next then Some SegmentsSpent
     else if not (may_roll d 2) then Some Full
     else None
@@ -104,7 +110,7 @@ is_head h id = (h.id == id) || option_map_or (λ (r : Roll). r.id == id) h.roll 
 -- the test that refuses a compaction, apart from memory
 abbrev pub compact_refusal : MasterData → ℕ → Option Refusal
 compact_refusal d id =
-    if d.is_halted then Some Halted
+    if is_some (step_refusal d) then step_refusal d
     else if is_head d.head id then Some (Pass (IsHead id))
     else if not (has_id (digest_of d.head.image) id) then Some (Pass (NotInLog id))
     else if has_id (victims_of d.pass) id then Some (Pass PassOpen)
@@ -146,13 +152,13 @@ space_refusal d ids =
 -- the test that refuses a pass, apart from memory
 abbrev pub clean_refusal : MasterData → List ℕ → Option Refusal
 clean_refusal d ids =
-    if d.is_halted then Some Halted
+    if is_some (step_refusal d) then step_refusal d
     else option_map_or (λ (fault : PassFault). Some (Pass fault)) (victims_fault d ids) (space_refusal d ids)
 
 -- the test that refuses a copy, memory apart: no pass is open, or it is at its end
 abbrev pub copy_refusal : MasterData → Option Refusal
 copy_refusal d =
-    if d.is_halted then Some Halted
+    if is_some (step_refusal d) then step_refusal d
     else if option_map_or (λ (p : OpenPass). not (is_at_end p)) d.pass false then None
     else Some Nothing
 
@@ -160,14 +166,14 @@ copy_refusal d =
 -- its survivors are sealed
 abbrev pub seal_refusal : MasterData → Option Refusal
 seal_refusal d =
-    if d.is_halted then Some Halted
+    if is_some (step_refusal d) then step_refusal d
     else if is_none (next_seal d) then Some Nothing
     else None
 
 -- the test that refuses a free, what the fleet answers apart: nothing waits
 abbrev pub free_refusal : MasterData → Option Refusal
 free_refusal d =
-    if d.is_halted then Some Halted
+    if is_some (step_refusal d) then step_refusal d
     else if length d.waiting == 0 then Some Nothing
     else None
 
@@ -177,9 +183,14 @@ free_refusal d =
 abbrev pub is_pushed : HeadValue → Bool
 is_pushed h = is_open h && (fewest (length h.units) h.taken == length h.units)
 
--- the test that refuses a push, what the fleet answers apart
+-- nothing waits to be pushed
+abbrev pub is_done : MasterData → Bool
+is_done d = is_none d.failover && is_pushed d.head
+
+-- The test that refuses a push, what the fleet answers apart. A failover whose new head may not be opened halts the
+-- master.
 abbrev pub push_refusal : MasterData → Option Refusal
 push_refusal d =
     if d.is_halted then Some Halted
-    else if is_pushed d.head then Some Nothing
+    else if is_done d then Some Nothing
     else None

@@ -4,11 +4,14 @@ use Rattle.cleaner.specs.declared.pass.Pass.{Pass}
 use Rattle.entry.specs.declared.entry.Object.{Object}
 use Rattle.images.specs.Image.{Image}
 use Rattle.versioned_map.specs.declared.command.Record.{Record}
+use Rattle.log_model.specs.Data.{Start}
 use Rattle.log_model.specs.Steps.{first_start}
 use Rattle.log_head.specs.Head.{HeadValue}
 use Rattle.log_head.specs.Steps.{fresh_head}
 use Rattle.master_state.specs.declared.config.Config.{Config}
+use Rattle.master_state.specs.declared.failover.Failover.{Failover}
 use Rattle.master_state.specs.declared.ledger.Posting.{Posting}
+use Rattle.master_state.specs.declared.waiting.Waiting.{Waiting}
 use Rattle.places.specs.Map.{Places}
 use Rattle.places.specs.Relocation.{no_places}
 use Rattle.places.specs.Secrets.{secret_seed}
@@ -37,14 +40,18 @@ pub record MasterData : Type 0 where
   -- the open pass
   pub pass : Option Pass
   -- victims of earlier passes, in the order in which their replicas are freed
-  pub waiting : List ℕ
-  -- how many replicas of the first of these were freed
-  pub freed : ℕ
-  -- a backup failed: no step is accepted any more
+  pub waiting : List Waiting
+  -- the backups that failed, the last one first
+  pub failed : List ℕ
+  -- the failover that is open
+  pub failover : Option Failover
+  -- no step is accepted any more
   pub is_halted : Bool
   pub origin : Origin
   -- what its backups answered, the last first
   pub ledger : List Posting
+  -- the heads that a roll was opening as the last failover began, until its new head is in force
+  pub abandoned : List Start
 
 -- a new master's
 abbrev pub fresh_data : Config → MasterData
@@ -58,8 +65,10 @@ fresh_data config = record {
   history = [];
   pass = None;
   waiting = [];
-  freed = 0;
+  failed = [];
+  failover = None;
   is_halted = false;
   origin = no_origin;
   ledger = [];
+  abandoned = [];
 }

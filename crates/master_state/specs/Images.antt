@@ -1,5 +1,5 @@
 -- The images of a log.
-use Rattle.std.specs.Prelude.{◌==◌, ℕ, List, [], map, filter, not, Option, Some, None, unwrap_or}
+use Rattle.std.specs.Prelude.{◌==◌, ◌&&◌, ℕ, List, [], map, filter, not, nat_lt, Option, Some, None, unwrap_or}
 use Rattle.std.specs.Prelude.{if◌then◌else◌}
 use Rattle.cleaner.specs.declared.pass.Pass.{Pass}
 use Rattle.cleaner.specs.Passes.{survivor_ids}
@@ -10,6 +10,7 @@ use Rattle.images.specs.Sorted.{segment_of, added}
 use Rattle.images.specs.Steps.{trimmed}
 use Rattle.log_model.specs.Ids.{has}
 use Rattle.master_state.specs.declared.config.Config.{Config}
+use Rattle.master_state.specs.declared.waiting.Waiting.{Waiting}
 use Rattle.log_head.specs.declared.head.Roll.{Roll}
 use Rattle.log_head.specs.Head.{HeadValue}
 
@@ -26,10 +27,10 @@ image_among h cs id = if h.id == id then Some h.image else new_image_or h.roll i
 abbrev pub images_among : HeadValue → List Image → ℕ → List Entry
 images_among h cs id = unwrap_or (image_among h cs id) []
 
--- one more closed segment at its place, if there is an image
-abbrev pub with_closed : List Image → ℕ → Option (List Entry) → List Image
-with_closed cs id None = cs
-with_closed cs id (Some image) = added (closed_image id image) cs
+-- one more closed segment at its place, with so many replicas, if there is an image
+abbrev pub with_closed : List Image → ℕ → ℕ → Option (List Entry) → List Image
+with_closed cs id replicas None = cs
+with_closed cs id replicas (Some image) = added (closed_image id image replicas) cs
 
 -- ---- a pass
 
@@ -45,9 +46,14 @@ survivor_images c ids = map (survivor_image c) ids
 abbrev pub staying : List ℕ → List Image → List Image
 staying victims cs = filter (λ (image : Image). not (has victims image.id)) cs
 
--- the ids of the victims, as they rise
-abbrev pub leaving : List ℕ → List Image → List ℕ
-leaving victims cs = filter (λ (id : ℕ). has victims id) (map (λ (image : Image). image.id) cs)
+-- a segment that leaves the log with this image
+abbrev pub waiting_for : Image → Waiting
+waiting_for image = record { segment = image.id; freed = 0; replicas = image.replicas }
+
+-- the victims that some backup holds, as their ids rise
+abbrev pub leaving : List ℕ → List Image → List Waiting
+leaving victims cs =
+    map waiting_for (filter (λ (image : Image). has victims image.id && nat_lt 0 image.replicas) cs)
 
 -- the images once these segments take no more appends
 abbrev pub all_trimmed : List ℕ → List Image → List Image

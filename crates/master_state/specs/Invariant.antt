@@ -7,7 +7,7 @@ use Rattle.cleaner.specs.declared.pass.Pass.{Pass as OpenPass}
 use Rattle.cleaner.specs.declared.survivors.Survivors.{Survivors}
 use Rattle.cleaner.specs.KeptLengths.{HasRoomsIn}
 use Rattle.cleaner.specs.Passes.{images_in, survivor_ids, rest_of, is_at_end, is_ready as is_ready_pass, IsPass}
-use Rattle.cleaner.specs.Seals.{none_sealed, IsSealed}
+use Rattle.cleaner.specs.Seals.{first_lacking}
 use Rattle.entry.specs.declared.entry.Tombstone.{Tombstone}
 use Rattle.entry.specs.declared.entry.Entry.{Entry}
 use Rattle.entry.specs.declared.entry.Entry.TheVariants as entry
@@ -19,21 +19,25 @@ use Rattle.entry.specs.Text.{text_of, IsSegment}
 use Rattle.places.specs.declared.place.Place.{Place}
 use Rattle.places.specs.Map.{AreKept}
 use Rattle.images.specs.Image.{Image}
+use Rattle.images.specs.Sorted.{replicas_of}
 use Rattle.images.specs.Images.{ImagesValue}
 use Rattle.versioned_map.specs.History.{IsLegal}
-use Rattle.log_head.specs.Head.{HeadValue, IsHeadValue}
+use Rattle.log_head.specs.Head.{HeadValue, IsHeadValue, digest_of}
 use Rattle.log_head.specs.declared.head.Roll.{Roll}
 use Rattle.log_head.specs.Log.{head_of, start_of, IsImageOf, IsNewImage}
 use Rattle.log_model.specs.Data.{ids_of}
 use Rattle.log_model.specs.Log.{AreBelow}
 use Rattle.master_state.specs.declared.config.Config.{Config}
+use Rattle.master_state.specs.declared.failover.Failover.{Failover}
+use Rattle.master_state.specs.declared.failover.Part.TheVariants as part
+use Rattle.master_state.specs.declared.waiting.Waiting.{Waiting}
 use Rattle.master_state.specs.Budget.{whole_seglets, used_seglets, free_seglets, newest_digest, most_segments}
 use Rattle.master_state.specs.Budget.{victims_of, survivors_of, is_committing}
 use Rattle.master_state.specs.Config.{config_fault}
 use Rattle.master_state.specs.Data.{MasterData}
 use Rattle.compactor.specs.Places.{keys_in}
 use Rattle.master_state.specs.Index.{LiesFound}
-use Rattle.master_state.specs.Log.{opening_of, is_opened, state_now, images_of, find, log_set_ids}
+use Rattle.master_state.specs.Log.{opening_of, is_opened, is_headless, state_now, images_of, find, log_set_ids}
 
 -- The index leads to the objects that the versioned map has, and to no other.
 pub record IsIndex (d : MasterData) : Type 0 where
@@ -110,15 +114,45 @@ pub record IsOpenPass (d : MasterData) (p : OpenPass) : Type 0 where
   pub survivors : AreSurvivors d p.survivors
   -- the survivors have room for all that is still to be copied
   pub rooms : HasRoomsIn d.config.segment (log_set_ids d) p d.closed d.index
-  pub sealed : IsSealed d.config.replicas p.survivors.count p.sealed
+  pub sealed : (s : ℕ) → IsAmong s (survivor_ids p.survivors) → replicas_of d.closed s ≤ d.config.replicas
   -- what the index finds in a victim is still to be copied
   pub live : (k : Key) (q : Place) → find d k ≡ Some q → IsAmong q.segment p.victims
       → IsAmong q (rest_of (images_in d.closed) p)
   -- nothing is sealed before all is copied
-  pub unsealed : is_at_end p ≡ false → p.sealed ≡ none_sealed
-  pub spare : p.is_committing ≡ false → IsSpare d (length p.victims) p.survivors.count
+  pub unsealed : is_at_end p ≡ false → (s : ℕ) → IsAmong s (survivor_ids p.survivors) → replicas_of d.closed s ≡ 0
+  -- a failover may use what is kept for the commit
+  pub spare : d.failed ≡ [] → p.is_committing ≡ false → IsSpare d (length p.victims) p.survivors.count
   -- a commit is a roll of a pass that is ready
-  pub commits : p.is_committing ≡ true → IsSome d.head.roll × (is_ready_pass p ≡ true)
+  pub commits : p.is_committing ≡ true → IsSome d.head.roll
+      × (is_ready_pass d.config.replicas d.closed p ≡ true)
+
+-- ---- backups that failed
+
+-- The backups that failed are some of the configuration's, each once, and as many as replicas are left.
+pub record AreFailed (d : MasterData) : Type 0 where
+  pub few : length d.failed + d.config.replicas ≤ d.config.backups
+  pub there : AllByRecursion (λ (b : ℕ). b < d.config.backups) d.failed
+  pub apart : AreApart d.failed
+  -- under format 1 a failure halts
+  pub two : (d.failed ≡ [] → ⊥) → d.config.format ≡ 2
+
+-- each segment of the digest in force has all its replicas
+abbrev pub AreWhole : MasterData → Type 0
+AreWhole d = first_lacking d.config.replicas d.closed (head_of d.head).start.others ≡ None
+
+-- What holds of an open failover. In its first part no roll is under way, in the next two there is one, unless no head
+-- was open before, and in the last one its head is in force and some replica of another segment is lost.
+pub record IsFailover (d : MasterData) (f : Failover) : Type 0 where
+  pub some : d.failed ≡ [] → ⊥
+  pub closed : f.closed < d.config.replicas
+  pub mends : f.part ≡ part.Mends → (d.head.roll ≡ None) × (f.closed ≤ length d.head.taken) × (is_committing d ≡ false)
+  pub opens : f.part ≡ part.Opens → f.is_first ≡ false → IsSome d.head.roll × (f.abandoned ≡ None)
+  pub first : f.is_first ≡ true → (d.head.roll ≡ None) × (f.abandoned ≡ None)
+  pub closes : f.part ≡ part.Closes → (f.is_first ≡ false) × (f.abandoned ≡ None)
+      × IfSome d.head.roll (λ (r : Roll). r.opened ≡ d.config.replicas) × IsSome d.head.roll
+  pub repairs : f.part ≡ part.Repairs → (f.is_first ≡ false) × (f.abandoned ≡ None) × (d.head.roll ≡ None)
+      × (is_opened d.head ≡ true) × (d.head.units ≡ []) × ((head_of d.head).loaded ≡ []) × (AreWhole d → ⊥)
+      × (d.abandoned ≡ [])
 
 -- tombstones name ids below this
 abbrev pub NameBelow : (ℕ → List Entry) → ℕ → Type 0
@@ -137,13 +171,22 @@ pub record IsCore (d : MasterData) : Type 0 where
   pub below : AreBelow (head_of d.head).start
   pub real : 0 < d.head.id
   pub used : d.head.id < d.next
-  -- the only head with a replica that isn't opened is the first
-  pub first : is_opened d.head ≡ false → IsFirst d.head
+  -- a head that isn't in force yet is the first
+  pub first : is_headless d ≡ true → IsFirst d.head
   pub next : d.next ≤ 2 ^ 62 + 1
   pub roll : IfSome d.head.roll (IsRollOf d)
   pub pass : IfSome d.pass (IsOpenPass d)
   pub named : NameBelow (images_of d) d.next
-  pub freed : d.freed < d.config.replicas
+  -- no segment has more replicas than it should
+  pub replicas_few : AllByRecursion (λ (c : Image). c.replicas ≤ d.config.replicas) d.closed
+  pub waiting : AllByRecursion (λ (w : Waiting). (w.freed < w.replicas) × (w.replicas ≤ d.config.replicas)) d.waiting
+  -- the digest in force, and the newest one, have no more ids than they may have
+  pub digest : length (digest_of d.head.image) ≤ most_segments d.config
+  pub listed : length (newest_digest d.head) ≤ most_segments d.config
+  pub failed : AreFailed d
+  pub whole : d.failover ≡ None → AreWhole d
+  pub failover : IfSome d.failover (IsFailover d)
+  pub abandoned : d.failover ≡ None → d.abandoned ≡ []
   -- no more seglets are counted than there are
   pub budget : used_seglets d ≤ d.config.seglets
   pub legal : IsLegal (opening_of d) d.history

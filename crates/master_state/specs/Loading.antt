@@ -7,7 +7,6 @@ use Rattle.entry.specs.declared.key.Key.{Key}
 use Rattle.entry.specs.Tablet.{have_key}
 use Rattle.places.specs.declared.place.Place.{Place}
 use Rattle.log_head.specs.declared.next.Next.{Next}
-use Rattle.log_head.specs.Head.{is_open}
 use Rattle.log_head.specs.Log.{head_of}
 use Rattle.log_head.specs.Steps.{lone_start, fresh_head, with_unit_end, settled}
 use Rattle.log_model.specs.Log.{IsWhole}
@@ -19,8 +18,8 @@ use Rattle.versioned_map.specs.declared.command.If.TheVariants.{Any}
 use Rattle.master_state.specs.declared.config.Config.{Config}
 use Rattle.master_state.specs.declared.step.Refusal.{Refusal}
 use Rattle.master_state.specs.declared.step.Refusal.TheVariants.{TooBig, NoTablet, Full, Rolling}
-use Rattle.master_state.specs.Budget.{may_roll}
-use Rattle.master_state.specs.Causes.{has_room, is_pushed, is_too_big}
+use Rattle.master_state.specs.Budget.{is_working, may_roll}
+use Rattle.master_state.specs.Causes.{has_room, is_done, is_too_big}
 use Rattle.master_state.specs.Data.{Origin, MasterData, fresh_data}
 use Rattle.master_state.specs.Invariant.{IsCore}
 use Rattle.master_state.specs.Log.{opening_of, log_of, find}
@@ -32,7 +31,7 @@ use Rattle.master_state.specs.Steps.{rolling_data, pushed_data, halted, Fits}
 -- a new master that is loaded with objects of versions below this one, which its head records
 abbrev pub restored_data : Config → ℕ → MasterData
 restored_data config safe = record (fresh_data config) {
-  head = fresh_head config.master config.replicas (lone_start config.format safe);
+  head = fresh_head config.master config.replicas (lone_start 1 config.format safe);
   safe = safe;
   origin = record { objects = []; safe = safe };
 }
@@ -58,8 +57,8 @@ abbrev pub load_refusal : MasterData → Object → Option Refusal
 load_refusal d o =
     if is_object_too_big o d.config.segment then Some TooBig
     else if not (have_key d.config.tablets o.key) then Some NoTablet
-    else if is_open d.head && (not (has_room d (loaded_unit o)) && not (may_roll d 2)) then Some Full
-    else if not (is_open d.head && has_room d (loaded_unit o)) then Some Rolling
+    else if is_working d && (not (has_room d (loaded_unit o)) && not (may_roll d 2)) then Some Full
+    else if not (is_working d && has_room d (loaded_unit o)) then Some Rolling
     else None
 
 -- Its key was not loaded before, and its version is below the safe one.
@@ -101,12 +100,12 @@ pub record Settles (d e : MasterData) : Type 0 where
 
 -- ---- laws
 
--- Rolls, pushes and faults leave a core without history, passes and what waits.
+-- Rolls, halts and pushes leave a core without history, passes and what waits.
 abbrev pub BareGoesOn : Type 0
 BareGoesOn = (d : MasterData) → IsBare d
     → IsBare (rolling_data d) × IsBare (halted d) × ((push : Next) → IsBare (pushed_data d push))
 
--- If nothing waits to be pushed, no roll is under way, and each replica of the head has all units.
+-- If nothing waits to be pushed, no roll or failover is under way, and each replica of the head has all units.
 abbrev pub PushedIsWhole : Type 0
-PushedIsWhole = (d : MasterData) → IsCore d → is_pushed d.head ≡ true
+PushedIsWhole = (d : MasterData) → IsCore d → is_done d ≡ true
     → ((log_of d).mode ≡ Calm) × IsWhole d.config.replicas (head_of d.head)

@@ -1,6 +1,6 @@
 -- The log of a master, its images, and its index, in words that clauses cite.
-use Rattle.std.specs.Prelude.{◌≡◌, ℕ, zero, suc, ◌+◌, ◌-◌, ◌*◌, ◌%◌, List, [], ◌∷◌, ◌++◌, length, take, Bool, Option, Some}
-use Rattle.std.specs.Prelude.{None, map, nat_le, if◌then◌else◌}
+use Rattle.std.specs.Prelude.{◌≡◌, ℕ, zero, suc, ◌+◌, ◌-◌, ◌*◌, ◌%◌, List, [], ◌∷◌, ◌++◌, length, take, Bool, Option}
+use Rattle.std.specs.Prelude.{Some, None, map, nat_le, not, ◌==◌, slice_get, unwrap_or, if◌then◌else◌}
 use Rattle.std.specs.Option.{option_map, option_map_or}
 use Rattle.cleaner.specs.Passes.{images_in, rest_of, ids_in}
 use Rattle.entry.specs.declared.key.Key.{Key}
@@ -13,7 +13,10 @@ use Rattle.versioned_map.specs.Command.{command_key}
 use Rattle.versioned_map.specs.Versioned.{State}
 use Rattle.log_model.specs.Data.{records_before}
 use Rattle.clean_model.specs.Memory.{Place as EntryPlace}
-use Rattle.failover_model.specs.Data.{Head as FailHead, FailConfig, Mode, Calm, Rolls, FailData, state_of}
+use Rattle.log_model.specs.Data.{Start}
+use Rattle.log_model.specs.Ids.{without}
+use Rattle.failover_model.specs.Data.{Head as FailHead, FailConfig, Mode, Calm, Rolls, Mends, Opens, Closes, Repairs}
+use Rattle.failover_model.specs.Data.{FailData, state_of}
 use Rattle.failover_model.specs.Steps.{no_head}
 use Rattle.failover_clean.specs.Memory.{Spot, FailMemory}
 use Rattle.log_head.specs.declared.head.Roll.{Roll}
@@ -21,6 +24,10 @@ use Rattle.log_head.specs.Head.{HeadValue, everywhere}
 use Rattle.log_head.specs.Log.{head_of, start_of}
 use Rattle.master_state.specs.Budget.{victims_of, survivors_of, is_committing, most_segments}
 use Rattle.master_state.specs.declared.config.Config.{Config}
+use Rattle.master_state.specs.declared.failover.Failover.{Failover}
+use Rattle.master_state.specs.declared.failover.Part.{Part}
+use Rattle.master_state.specs.declared.failover.Part.TheVariants as part
+use Rattle.master_state.specs.declared.waiting.Waiting.{Waiting}
 use Rattle.places.specs.declared.place.Place.{Place}
 use Rattle.places.specs.Map.{found}
 use Rattle.master_state.specs.Data.{MasterData}
@@ -30,14 +37,32 @@ use Rattle.compactor.specs.Places.{keys_in}
 
 -- ---- placement
 
--- the backup of a replica of a segment
-abbrev pub home : Config → ℕ → ℕ → ℕ
-home c segment j = (segment * c.step + j) % c.backups
+-- the backup at this place of a segment's order: it is cyclic, and a segment's first place is by its id
+abbrev pub backup_at : Config → ℕ → ℕ → ℕ
+backup_at c segment place = (segment * c.step + place) % c.backups
 
--- those of so many replicas, from this one on
-abbrev pub homes_from : Config → ℕ → ℕ → ℕ → List ℕ
-homes_from c segment j zero = []
-homes_from c segment j (suc n) = home c segment j ∷ homes_from c segment (suc j) n
+-- those of so many places, from this one on
+abbrev pub backups_from : Config → ℕ → ℕ → ℕ → List ℕ
+backups_from c segment place zero = []
+backups_from c segment place (suc n) = backup_at c segment place ∷ backups_from c segment (suc place) n
+
+-- the backups that haven't failed, in the segment's order
+abbrev pub working : Config → List ℕ → ℕ → List ℕ
+working c failed segment = without failed (backups_from c segment 0 c.backups)
+
+-- the home of a replica of a segment: the backups that haven't failed, in order
+abbrev pub home : Config → List ℕ → ℕ → ℕ → ℕ
+home c failed segment j = unwrap_or (slice_get (working c failed segment) j) 0
+
+-- the homes of the first replicas, so many, the last one first
+abbrev pub placed : Config → List ℕ → ℕ → ℕ → List ℕ
+placed c failed s zero = []
+placed c failed s (suc j) = home c failed s j ∷ placed c failed s j
+
+-- which of the first replicas, so many, is on this backup
+abbrev pub place_in : Config → List ℕ → ℕ → ℕ → ℕ → Option ℕ
+place_in c failed s zero b = None
+place_in c failed s (suc j) b = if home c failed s j == b then Some j else place_in c failed s j b
 
 -- ---- the log
 
@@ -59,19 +84,41 @@ opening_of d = record { contents = contents_of d.origin.objects; safe = d.origin
 abbrev pub is_opened : HeadValue → Bool
 is_opened h = nat_le h.replicas (length h.taken)
 
--- the head in force: none before the first one was opened
-abbrev pub in_force : ℕ → HeadValue → FailHead
-in_force format h =
-    if is_opened h then record {
-      start = (head_of h).start;
-      loaded = (head_of h).loaded;
-      units = (head_of h).units;
-    } else record { start = no_head format; loaded = []; units = [] }
+-- no head is in force: none was open on all its backups yet
+abbrev pub is_headless : MasterData → Bool
+is_headless d = option_map_or (λ (f : Failover). f.is_first) d.failover (not (is_opened d.head))
 
--- how far a roll is: that to the first head begins with the master
-abbrev pub mode_of : HeadValue → Mode
-mode_of h =
+-- the head in force
+abbrev pub in_force : MasterData → FailHead
+in_force d =
+    if is_headless d then record { start = no_head d.config.format; loaded = []; units = [] }
+    else record {
+      start = (head_of d.head).start;
+      loaded = (head_of d.head).loaded;
+      units = (head_of d.head).units;
+    }
+
+-- how far a roll is, while no failover is open: that to the first head begins with the master
+abbrev pub calm_mode : HeadValue → Mode
+calm_mode h =
     if is_opened h then option_map_or (λ (r : Roll). Rolls (start_of r)) h.roll Calm else Rolls (head_of h).start
+
+-- the new head of a failover: the first one is the master's only head
+abbrev pub new_start : HeadValue → Failover → Start
+new_start h f =
+    if f.is_first then (head_of h).start else option_map_or start_of h.roll (head_of h).start
+
+-- how far a failover is
+abbrev pub failing_mode : HeadValue → Failover → Mode
+failing_mode h f = by_part f.part where
+  by_part : Part → Mode
+  by_part part.Mends = Mends
+  by_part part.Opens = Opens (new_start h f)
+  by_part part.Closes = Closes (new_start h f)
+  by_part part.Repairs = Repairs
+
+abbrev pub mode_of : MasterData → Mode
+mode_of d = option_map_or (failing_mode d.head) d.failover (calm_mode d.head)
 
 -- the log
 abbrev pub log_of : MasterData → FailData
@@ -79,14 +126,14 @@ log_of d = record {
   config = fail_config d.config;
   opening = opening_of d;
   history = d.history;
-  head = in_force d.config.format d.head;
+  head = in_force d;
   counts = counts_in d.ledger;
   shut = shut_in d.ledger;
-  mode = mode_of d.head;
-  abandoned = [];
+  mode = mode_of d;
+  abandoned = d.abandoned;
   took = took_in d.ledger;
-  failed = [];
-  frozen = 0;
+  failed = d.failed;
+  frozen = option_map_or (λ (f : Failover). f.frozen) d.failover 0;
   next = d.next;
 }
 
@@ -94,9 +141,11 @@ log_of d = record {
 abbrev pub state_now : MasterData → State
 state_now d = state_of (log_of d)
 
--- how many of the first records have units that every replica of the head took
+-- how many of the first records have units that every replica of the head took; while a failover is open, as it began
 abbrev pub durable_now : MasterData → ℕ
-durable_now d = records_before (head_of d.head).units (length d.history) (everywhere d.head)
+durable_now d =
+    option_map_or (λ (f : Failover). f.frozen) d.failover
+    (records_before (head_of d.head).units (length d.history) (everywhere d.head))
 
 -- what the command's key has now
 abbrev pub held_now : MasterData → Command → Option Versioned
@@ -150,14 +199,15 @@ abbrev pub rest_now : MasterData → List Place
 rest_now d = option_map_or (rest_of (images_in d.closed)) d.pass []
 
 -- the replicas of a segment from this one on, so many
-abbrev pub spots_from : Config → ℕ → ℕ → ℕ → List Spot
-spots_from c s j zero = []
-spots_from c s j (suc n) = record { segment = s; backup = home c s j } ∷ spots_from c s (suc j) n
+abbrev pub spots_from : Config → List ℕ → ℕ → ℕ → ℕ → List Spot
+spots_from c failed s j zero = []
+spots_from c failed s j (suc n) =
+    record { segment = s; backup = home c failed s j } ∷ spots_from c failed s (suc j) n
 
--- the replicas of these segments, but for so many of the first that were freed
-abbrev pub spots_in : Config → List ℕ → ℕ → List Spot
-spots_in c [] freed = []
-spots_in c (s ∷ ids) freed = spots_from c s freed (c.replicas - freed) ++ spots_in c ids 0
+-- the replicas of these segments that weren't freed
+abbrev pub spots_in : Config → List ℕ → List Waiting → List Spot
+spots_in c failed [] = []
+spots_in c failed (w ∷ ws) = spots_from c failed w.segment w.freed (w.replicas - w.freed) ++ spots_in c failed ws
 
 -- memory as compaction and cleaning see it
 abbrev pub memory_of : MasterData → FailMemory
@@ -167,5 +217,5 @@ memory_of d = record {
   pass = record { victims = victims_of d.pass; survivors = survivors_of d.pass };
   rest = map (entry_place d) (rest_now d);
   commits = is_committing d;
-  waiting = spots_in d.config d.waiting d.freed;
+  waiting = spots_in d.config d.failed d.waiting;
 }

@@ -1,10 +1,11 @@
 -- The text of each refusal, and the name of each fault of a configuration.
-use Rattle.std.specs.Prelude.{ℕ, List, codes}
+use Rattle.std.specs.Prelude.{ℕ, List, ◌++◌, codes}
+use Rattle.std.specs.Fmt.{decimal}
 use Rattle.cleaner.specs.Texts.{pass_fault_text}
 use Rattle.master_state.specs.declared.step.Refusal.{Refusal}
 use Rattle.master_state.specs.declared.step.Refusal.TheVariants.{TooBig, Full, VersionsSpent, HistoryFull, NoMemory}
 use Rattle.master_state.specs.declared.step.Refusal.TheVariants.{Halted, Rolling, Nothing, Spent, SegmentsSpent}
-use Rattle.master_state.specs.declared.step.Refusal.TheVariants.{NoTablet, Pass}
+use Rattle.master_state.specs.declared.step.Refusal.TheVariants.{NoTablet, Pass, Lost}
 use Rattle.master_state.specs.declared.config.ConfigFault.{ConfigFault}
 use Rattle.master_state.specs.declared.config.ConfigFault.TheVariants.{BadBackups, BadStep, BadSegment, BadSeglet}
 use Rattle.master_state.specs.declared.config.ConfigFault.TheVariants.{BadBudget, BadTablets, BadHistory, BadFormat}
@@ -23,6 +24,7 @@ refusal_text (Pass fault) = pass_fault_text fault
 refusal_text Spent = codes "Spent"
 refusal_text SegmentsSpent = codes "SegmentsSpent"
 refusal_text NoTablet = codes "NoTablet"
+refusal_text (Lost backup) = codes "Lost " ++ decimal backup
 
 abbrev pub config_fault_name : ConfigFault → List ℕ
 config_fault_name BadBackups = codes "BadBackups"

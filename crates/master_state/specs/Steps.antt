@@ -1,7 +1,7 @@
 -- What a master's core becomes: a command is applied, a roll or a pass begins, a segment is compacted, an entry is
 -- copied, an op was taken, a take failed.
-use Rattle.std.specs.Prelude.{◌≡◌, ◌⊎◌, ℕ, suc, ◌+◌, ◌≤◌, ◌==◌, List, [], ◌∷◌, ◌++◌, length, map, drop, Bool, false, true}
-use Rattle.std.specs.Prelude.{Option, Some, None}
+use Rattle.std.specs.Prelude.{◌≡◌, ◌⊎◌, ℕ, suc, ◌+◌, ◌≤◌, ◌==◌, ◌&&◌, ◌-◌, List, [], ◌∷◌, ◌++◌, length, map, filter}
+use Rattle.std.specs.Prelude.{Bool, false, true, not, nat_lt, is_none, is_some, Option, Some, None}
 use Rattle.std.specs.Prelude.{if◌then◌else◌}
 use Rattle.std.specs.Option.{option_map, option_map_or}
 use Rattle.clean_model.specs.Intact.{IsCommit}
@@ -14,7 +14,6 @@ use Rattle.cleaner.specs.declared.pass.Cursor.{Cursor}
 use Rattle.cleaner.specs.declared.pass.Pass.{Pass}
 use Rattle.cleaner.specs.declared.survivors.Survivors.{Survivors}
 use Rattle.cleaner.specs.Passes.{images_in, survivor_ids, places_of, rest_of, CopiesOne, is_ready as is_ready_pass}
-use Rattle.cleaner.specs.Seals.{none_sealed, sealed_one}
 use Rattle.entry.specs.declared.digest.Listed.{Listed}
 use Rattle.entry.specs.declared.entry.Entry.{Entry}
 use Rattle.entry.specs.declared.key.Key.{Key}
@@ -22,14 +21,15 @@ use Rattle.entry.specs.Text.{text_of, IsSegment}
 use Rattle.places.specs.declared.place.Place.{Place}
 use Rattle.images.specs.declared.image.Image.{Image}
 use Rattle.images.specs.Sorted.{changed}
-use Rattle.images.specs.Steps.{replaced_by}
+use Rattle.images.specs.Steps.{replaced_by, more_replicas, fewer_replicas}
 use Rattle.compactor.specs.Kept.{kept_of, moved_all}
 use Rattle.log_head.specs.declared.head.Roll.{Roll}
 use Rattle.log_head.specs.declared.next.Next.{Next}
 use Rattle.log_head.specs.declared.next.Next.TheVariants as next
 use Rattle.log_head.specs.Head.{HeadValue, is_open}
 use Rattle.log_head.specs.Steps.{with_unit_end, with_opened_replica, with_all_taken, with_roll, with_new_replica}
-use Rattle.log_head.specs.Steps.{with_closed_replica}
+use Rattle.log_head.specs.Steps.{with_closed_replica, with_whole_replica, lost}
+use Rattle.log_head.specs.Log.{head_of, start_of}
 use Rattle.log_head.specs.Steps.{old_image, start_after}
 use Rattle.log_head.specs.Next.{replica_of, segment_of}
 use Rattle.log_model.specs.Data.{Start, start_entries}
@@ -48,12 +48,18 @@ use Rattle.master_state.specs.declared.step.StepAnswer.TheVariants.{Moved, Carri
 use Rattle.master_state.specs.Budget.{victims_of, survivors_of, is_ready}
 use Rattle.master_state.specs.Causes.{command_refusal, roll_refusal, compact_refusal, clean_refusal, copy_refusal}
 use Rattle.master_state.specs.Causes.{dead_segment, unit_now, survivors_for}
+use Rattle.master_state.specs.declared.config.Config.{Config}
+use Rattle.master_state.specs.declared.failover.Failover.{Failover}
+use Rattle.master_state.specs.declared.failover.Part.TheVariants as part
+use Rattle.master_state.specs.declared.waiting.Waiting.{Waiting}
+use Rattle.master_state.specs.Waits.{next_seal}
 use Rattle.master_state.specs.declared.ledger.Posting.{Posting}
 use Rattle.master_state.specs.declared.ledger.Posting.TheVariants as posting
 use Rattle.master_state.specs.Data.{MasterData}
 use Rattle.master_state.specs.Images.{with_closed, survivor_images, after_pass, leaving}
 use Rattle.master_state.specs.Ledger.{ended_with}
-use Rattle.master_state.specs.Log.{home, log_of, memory_of, state_now, images_of, find, log_set_ids}
+use Rattle.master_state.specs.Log.{home, place_in, is_opened, durable_now, log_of, memory_of, state_now, images_of}
+use Rattle.master_state.specs.Log.{find, log_set_ids}
 
 -- the head with a record's unit, where there is one
 abbrev pub appended : HeadValue → ℕ → List Entry → HeadValue
@@ -122,7 +128,7 @@ abbrev pub rolling_data : MasterData → MasterData
 rolling_data d = record d {
   head = with_roll d.head d.config.master (start_now d);
   next = d.next + 1;
-  pass = option_map (λ (p : Pass). record p { is_committing = is_ready_pass p }) d.pass;
+  pass = option_map (λ (p : Pass). record p { is_committing = is_ready_pass d.config.replicas d.closed p }) d.pass;
   ledger = posting.Began d.next ∷ d.ledger;
 }
 
@@ -176,7 +182,6 @@ fresh_pass victims survivors cursor = record {
   cursor = cursor;
   survivors = survivors;
   filling = 0;
-  sealed = none_sealed;
   is_committing = false;
 }
 
@@ -221,16 +226,17 @@ pub record Copies (d : MasterData) (answer : StepAnswer) (e : MasterData) : Type
 
 -- what a core becomes when the next replica of its survivors was sealed
 abbrev pub sealed_data : MasterData → MasterData
-sealed_data d = record d {
-  pass = option_map (λ (p : Pass). record p { sealed = sealed_one d.config.replicas p.sealed }) d.pass;
-}
+sealed_data d =
+    option_map_or (λ (x : ℕ × ℕ). record d { closed = changed d.closed x.0 more_replicas }) (next_seal d) d
 
--- What a core becomes when a replica of the first segment that waits was freed. With the last replica the segment waits
--- no more.
+-- what waits once a replica of the first segment was freed: with the last one the segment waits no more
+abbrev pub freed_one : List Waiting → List Waiting
+freed_one [] = []
+freed_one (w ∷ ws) = if suc w.freed == w.replicas then ws else record w { freed = suc w.freed } ∷ ws
+
+-- what a core becomes when a replica of the first segment that waits was freed
 abbrev pub freed_data : MasterData → MasterData
-freed_data d =
-    if suc d.freed == d.config.replicas then record d { waiting = drop 1 d.waiting; freed = 0 }
-    else record d { freed = suc d.freed }
+freed_data d = record d { waiting = freed_one d.waiting }
 
 -- ---- an op of the head
 
@@ -253,7 +259,7 @@ abbrev pub closed_data : MasterData → Roll → MasterData
 closed_data d r =
     let e = record d {
       head = with_closed_replica d.head r;
-      closed = with_closed d.closed d.head.id (old_image d.head r);
+      closed = with_closed d.closed d.head.id d.config.replicas (old_image d.head r);
     } in
     if suc r.closed == d.head.replicas then roll_ended d.pass e else e
 
@@ -261,13 +267,14 @@ closed_data d r =
 abbrev pub taken_data : MasterData → Next → MasterData
 taken_data d (next.OpenFirst j) = record d { head = with_opened_replica d.head }
 taken_data d (next.Extend j) = record d { head = with_all_taken d.head j }
+taken_data d (next.OpenWhole j) = record d { head = with_whole_replica d.head }
 taken_data d (next.OpenNew j) =
     option_map_or (λ (r : Roll). record d { head = with_new_replica d.head r }) d.head.roll d
 taken_data d (next.CloseOld j) = option_map_or (closed_data d) d.head.roll d
 
 -- the backup of the replica that a push is for
 abbrev pub backup_of : MasterData → Next → ℕ
-backup_of d next = home d.config (segment_of d.head next) (replica_of next)
+backup_of d next = home d.config d.failed (segment_of d.head next) (replica_of next)
 
 -- the ledger once the op of a push was taken
 abbrev pub ledger_after : MasterData → Next → List Posting
@@ -275,6 +282,9 @@ ledger_after d (next.OpenFirst j) =
     ended_with (suc j == d.config.replicas)
     (posting.Took (segment_of d.head (next.OpenFirst j)) (backup_of d (next.OpenFirst j)) ∷ d.ledger)
 ledger_after d (next.Extend j) = posting.Has (backup_of d (next.Extend j)) (length d.head.units) ∷ d.ledger
+ledger_after d (next.OpenWhole j) =
+    posting.Has (backup_of d (next.OpenWhole j)) (length d.head.units)
+    ∷ posting.Took (segment_of d.head (next.OpenWhole j)) (backup_of d (next.OpenWhole j)) ∷ d.ledger
 ledger_after d (next.OpenNew j) =
     posting.Took (segment_of d.head (next.OpenNew j)) (backup_of d (next.OpenNew j)) ∷ d.ledger
 ledger_after d (next.CloseOld j) =
@@ -284,24 +294,82 @@ ledger_after d (next.CloseOld j) =
 abbrev pub pushed_data : MasterData → Next → MasterData
 pushed_data d next = taken_data (record d { ledger = ledger_after d next }) next
 
--- a backup failed
+-- the master takes no further step
 abbrev pub halted : MasterData → MasterData
 halted d = record d { is_halted = true }
 
+-- ---- a backup fails
+
+-- A failure of a backup opens a failover under format 2, if none is open and as many backups as replicas are left.
+abbrev pub may_lose : MasterData → Bool
+may_lose d =
+    (d.config.format == 2) && is_none d.failover
+    && nat_lt (length d.failed + d.config.replicas) d.config.backups
+
+-- one less, if a place below that many is gone
+abbrev pub less_by : ℕ → Option ℕ → ℕ
+less_by n None = n
+less_by n (Some place) = if nat_lt place n then n - 1 else n
+
+-- a closed segment once the backup has failed: one of its replicas may be lost
+abbrev pub lost_image : Config → List ℕ → ℕ → Image → Image
+lost_image c failed b image =
+    if is_some (place_in c failed image.id image.replicas b) then fewer_replicas image else image
+
+-- a segment that waits, in the same way
+abbrev pub lost_waiting : Config → List ℕ → ℕ → Waiting → Waiting
+lost_waiting c failed b w =
+    let place = place_in c failed w.segment w.replicas b in
+    record w { freed = less_by w.freed place; replicas = less_by w.replicas place }
+
+-- some replica of it is still to be freed
+abbrev pub still_waits : Waiting → Bool
+still_waits w = nat_lt w.freed w.replicas
+
+-- which replica of the head is on the backup
+abbrev pub place_of : MasterData → ℕ → Option ℕ
+place_of d b = place_in d.config d.failed d.head.id (length d.head.taken) b
+
+-- the new heads of a roll that is under way, the first head's too
+abbrev pub new_heads_in : HeadValue → List Start
+new_heads_in h =
+    if is_opened h then option_map_or (λ (r : Roll). start_of r ∷ []) h.roll [] else (head_of h).start ∷ []
+
+-- a failover that begins
+abbrev pub opened_failover : MasterData → ℕ → Failover
+opened_failover d b = record {
+  part = part.Mends;
+  frozen = durable_now d;
+  closed = less_by (option_map_or (λ (r : Roll). r.closed) d.head.roll 0) (place_of d b);
+  abandoned = option_map (λ (r : Roll). r.image) d.head.roll;
+  is_first = not (is_opened d.head);
+}
+
+-- What a core becomes when a backup has failed and a failover begins: a roll that was under way is abandoned, and the
+-- replicas on the backup are counted no more.
+abbrev pub lost_data : MasterData → ℕ → MasterData
+lost_data d b = record d {
+  failed = b ∷ d.failed;
+  head = lost d.head (place_of d b);
+  closed = map (lost_image d.config d.failed b) d.closed;
+  pass = option_map (λ (p : Pass). record p { is_committing = false }) d.pass;
+  waiting = filter still_waits (map (lost_waiting d.config d.failed b) d.waiting);
+  failover = Some (opened_failover d b);
+  abandoned = new_heads_in d.head;
+}
+
 -- ---- faults of a take
 
-abbrev pub refusal_of : TakeFault → Refusal
-refusal_of take_fault.NoMemory = refusal.NoMemory
-refusal_of take_fault.Spent = refusal.Spent
-refusal_of take_fault.Wrong = refusal.Halted
-refusal_of take_fault.Fault = refusal.Halted
+-- what a fault of a take on this backup answers
+abbrev pub refusal_of : MasterData → ℕ → TakeFault → Refusal
+refusal_of d b take_fault.NoMemory = refusal.NoMemory
+refusal_of d b take_fault.Spent = refusal.Spent
+refusal_of d b take_fault.Wrong = refusal.Halted
+refusal_of d b take_fault.Fault = if may_lose d then refusal.Lost b else refusal.Halted
 
-abbrev pub is_halting : TakeFault → Bool
-is_halting take_fault.NoMemory = false
-is_halting take_fault.Spent = false
-is_halting take_fault.Wrong = true
-is_halting take_fault.Fault = true
-
--- what a fault of a take leaves
-abbrev pub failed_data : MasterData → TakeFault → MasterData
-failed_data d fault = if is_halting fault then halted d else d
+-- what it leaves
+abbrev pub failed_data : MasterData → ℕ → TakeFault → MasterData
+failed_data d b take_fault.NoMemory = d
+failed_data d b take_fault.Spent = d
+failed_data d b take_fault.Wrong = halted d
+failed_data d b take_fault.Fault = if may_lose d then lost_data d b else halted d

@@ -2,12 +2,13 @@
 use Rattle.std.specs.Prelude.{ℕ, Option, slice_get}
 use Rattle.std.specs.Option.{option_map, option_and_then}
 use Rattle.cleaner.specs.Passes.{next_seal as next_seal_of}
+use Rattle.master_state.specs.declared.waiting.Waiting.{Waiting}
 use Rattle.master_state.specs.Data.{MasterData}
 
 -- the survivor of the open pass that is sealed next, and its replica; none while there is something to copy
 abbrev pub next_seal : MasterData → Option (ℕ × ℕ)
-next_seal d = option_and_then next_seal_of d.pass
+next_seal d = option_and_then (next_seal_of d.config.replicas d.closed) d.pass
 
 -- the first segment that waits, and its replica that is freed next
 abbrev pub next_free : MasterData → Option (ℕ × ℕ)
-next_free d = option_map (λ (s : ℕ). (s, d.freed)) (slice_get d.waiting 0)
+next_free d = option_map (λ (w : Waiting). (w.segment, w.freed)) (slice_get d.waiting 0)

@@ -1,12 +1,15 @@
 //! How much memory a core counts, and when a roll may begin.
 
-ghost use Rattle.std.specs.Prelude.{◌≡◌, ◌+◌, ◌-◌, ◌*◌, ◌≤◌, ◌^◌, length, true};
+ghost use Rattle.std.specs.Prelude.{◌≡◌, ◌+◌, ◌-◌, ◌*◌, ◌≤◌, ◌^◌, length, true, IfSome};
 ghost use Rattle.log_head.specs.Head.{is_open};
-ghost use Rattle.master_state.specs.Budget.{used_seglets, free_seglets, seglets_of, may_roll};
+ghost use Rattle.master_state.specs.Budget.{used_seglets, free_seglets, seglets_of, is_working, may_roll, may_commit};
+ghost use Rattle.master_state.specs.Budget.{has_abandoned, commit_listed, may_turn, turn_listed, turn_need};
+ghost use Rattle.master_state.specs.declared.failover.Part.TheVariants as part;
 ghost use Rattle.master_state.specs.Budget.{is_ready, segments_taken, segments_leaving, segments_entering};
 ghost use Rattle.master_state.specs.Budget.{newest_digest, survivors_of, whole_seglets};
 
 use crate::state::Core;
+use entry::MAX_SEGMENT_ID;
 
 impl Core {
     /// How many seglets of memory are counted. A head that takes appends counts whole, and each other segment counts
@@ -16,9 +19,10 @@ impl Core {
         ensures within { result ≤ self.now.config.seglets }
     {
         let whole = self.config.segment / self.config.seglet;
-        let head = match self.head.roll() {
-            None => whole,
-            Some(_) => self.closing_seglets() + whole,
+        let head = if self.head.roll().is_some() || self.has_abandoned() {
+            self.closing_seglets() + whole
+        } else {
+            whole
         };
         head + self.closed.used()
     }
@@ -44,8 +48,26 @@ impl Core {
     {
         match &self.pass {
             None => false,
-            Some(pass) => pass.is_ready(),
+            Some(pass) => pass.is_ready(self.config.replicas as usize, &self.closed),
         }
+    }
+
+    /// Whether a failover has the image of a head that a roll was opening.
+    fn has_abandoned(&self) -> bool
+        ensures { result ≡ has_abandoned self.now }
+    {
+        match &self.failover {
+            None => false,
+            Some(failover) => failover.abandoned.is_some(),
+        }
+    }
+
+    /// Whether all replicas of the head are open, no roll is under way, and no failover is open.
+    #[inline(always)]
+    pub fn is_working(&self) -> bool
+        ensures { result ≡ is_working self.now }
+    {
+        self.head.is_open() && self.failover.is_none()
     }
 
     /// How many segments an open pass has taken already.
@@ -110,20 +132,76 @@ impl Core {
         free.saturating_sub(self.segments_taken()) * whole + self.closing_seglets()
     }
 
-    /// The rule of a roll. The commit of a pass that is ready may begin. Any other roll needs one more place in the
-    /// digest than there are now, but for the places that are kept for the next commit, and its seglets free.
+    /// The rule of a roll. The commit of a pass that is ready may begin, under format 2 if it has its places. Any other
+    /// roll needs one more place in the digest than there are now, but for the places that are kept for the next
+    /// commit, and its seglets free.
     pub fn may_roll(&self, free: u64) -> bool
         requires open { is_open self.now.head ≡ true }
         requires few { free ≤ 3 }
         ensures { result ≡ may_roll self.now free }
     {
         if self.is_ready() {
-            return true;
+            return self.may_commit();
         }
         let more = self.listed() + 1;
         let most = self.config.segment / 32;
         let left = most - 1 - self.segments_entering() + self.segments_leaving();
         let needed = self.needed(free);
         more <= most && more <= left && needed <= self.free()
+    }
+
+    /// Whether the commit of a pass that is ready may begin.
+    fn may_commit(&self) -> bool
+        requires { is_open self.now.head ≡ true }
+        ensures { result ≡ may_commit self.now }
+    {
+        self.config.format == 1
+            || self.commit_listed() <= self.config.segment / 32
+                && self.closing_seglets() <= self.free()
+    }
+
+    /// How many ids the digest of the next commit lists.
+    fn commit_listed(&self) -> u64
+        ensures { result ≡ commit_listed self.now }
+    {
+        let listed = self.closed.len() as u64 + 1 - self.survivors();
+        listed.saturating_sub(self.segments_leaving()) + self.segments_entering() + 1
+    }
+
+    /// The rule of a failover's new head: an id is left, its digest has places, and no seglet is missing. It may use
+    /// what is kept for other rolls. If no head was open yet, the new one takes the place of the first.
+    pub fn may_turn(&self) -> bool
+        requires { IfSome self.now.failover (λ f. f.part ≡ part.Mends) }
+        ensures { result ≡ may_turn self.now }
+    {
+        if self.next_id > MAX_SEGMENT_ID {
+            return false;
+        }
+        let is_first = match &self.failover {
+            None => false,
+            Some(failover) => failover.is_first,
+        };
+        is_first
+            || self.turn_listed() <= self.config.segment / 32 && self.turn_need() <= self.free()
+    }
+
+    /// How many ids that digest lists.
+    fn turn_listed(&self) -> u64
+        ensures { result ≡ turn_listed self.now }
+    {
+        if self.is_ready() {
+            return self.commit_listed();
+        }
+        self.closed.len() as u64 + 1 - self.survivors() + 1
+    }
+
+    /// How many seglets have to be free for it.
+    fn turn_need(&self) -> u64
+        ensures { result ≡ turn_need self.now }
+    {
+        if self.has_abandoned() {
+            return 0;
+        }
+        self.closing_seglets()
     }
 }

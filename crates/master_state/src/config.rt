@@ -1,11 +1,12 @@
 //! What a master is made with.
 
-ghost use Rattle.std.specs.Prelude.{◌≡◌, ◌<◌, ◌≤◌, None, Some};
+ghost use Rattle.std.specs.Prelude.{◌≡◌, ◌<◌, ◌≤◌, length, None, Some, IfSome};
 ghost use Rattle.std.specs.Result.{result_err};
 ghost use Rattle.master_state.specs.Config.{config_fault, has_backups};
-ghost use Rattle.master_state.specs.Log.{home};
+ghost use Rattle.master_state.specs.Log.{backup_at, home, working, place_in};
 ghost use Rattle.master_state.specs.Names.{config_fault_name};
 
+use crate::failover::Failed;
 use entry::Tablets;
 use hash_index::KeyHasher;
 use segment::MAX_SEGMENT_LEN;
@@ -124,12 +125,67 @@ impl Config {
         self.replicas >= 1 && self.replicas <= self.backups && self.backups <= 64
     }
 
-    /// The backup of a replica of a segment: replicas of one segment lie on different backups.
-    pub fn home(&self, segment: u64, replica: usize) -> u64
+    /// The home of a replica of a segment: of the backups that haven't failed, in the segment's order, the one at the
+    /// replica's place. Replicas of one segment lie on different backups.
+    #[inline(always)]
+    pub fn home(&self, failed: &Failed, segment: u64, replica: usize) -> u64
         requires config { config_fault self.now ≡ None }
-        requires replica { replica < 64 }
-        ensures { result ≡ home self.now segment replica }
+        requires replica { replica < length (working self.now failed.now segment) }
+        ensures { result ≡ home self.now failed.now segment replica }
     {
-        ((segment % self.backups) * self.step + replica as u64) % self.backups
+        if failed.is_empty() {
+            return self.backup_at(segment, replica as u64);
+        }
+        self.working_home(failed, segment, replica)
+    }
+
+    /// The backup at this place of a segment's order.
+    fn backup_at(&self, segment: u64, place: u64) -> u64
+        requires config { config_fault self.now ≡ None }
+        requires place { place < 64 }
+        ensures { result ≡ backup_at self.now segment place }
+    {
+        ((segment % self.backups) * self.step + place) % self.backups
+    }
+
+    /// The home of a replica, if some backup failed.
+    fn working_home(&self, failed: &Failed, segment: u64, replica: usize) -> u64
+        requires config { config_fault self.now ≡ None }
+        requires replica { replica < length (working self.now failed.now segment) }
+        ensures { result ≡ home self.now failed.now segment replica }
+    {
+        let mut left = replica;
+        for place in 0..self.backups {
+            let backup = self.backup_at(segment, place);
+            if failed.has(backup) {
+                continue;
+            }
+            if left == 0 {
+                return backup;
+            }
+            left -= 1;
+        }
+        unreachable!()
+    }
+
+    /// Which of the first replicas of a segment, so many, is on this backup.
+    pub fn place_in(
+        &self,
+        failed: &Failed,
+        segment: u64,
+        replicas: usize,
+        backup: u64,
+    ) -> Option<usize>
+        requires config { config_fault self.now ≡ None }
+        requires replicas { replicas ≤ length (working self.now failed.now segment) }
+        ensures place { result ≡ place_in self.now failed.now segment replicas backup }
+        ensures within { IfSome result (λ j. j < replicas) }
+    {
+        for replica in 0..replicas {
+            if self.home(failed, segment, replica) == backup {
+                return Some(replica);
+            }
+        }
+        None
     }
 }

@@ -3,7 +3,10 @@
 ghost use Rattle.std.specs.Prelude.{◌≡◌, List, [], ◌∷◌};
 ghost use Rattle.std.specs.Borrow.{ftrue};
 ghost use Rattle.master_state.specs.declared.ledger.Posting.{Posting as PostingValue};
+ghost use Rattle.log_model.specs.Data.{Start};
+ghost use Rattle.master_state.specs.Steps.{new_heads_in};
 
+use log_head::Head;
 use std::marker::Model;
 
 /// What happened to a segment, or was answered for it.
@@ -54,5 +57,36 @@ impl Ledger {
         ensures { result.postings ≡ _posting.now ∷ _before.now.postings }
     {
         Ledger {}
+    }
+}
+
+/// The heads that a roll was opening as a failover began. It takes no bytes.
+#[derive(Drop)]
+pub struct Abandoned {
+    pub ghost heads: { List Start },
+}
+
+impl Model for Abandoned {
+    ghost also_owns = { λ _. ftrue };
+}
+
+// As of `Ledger`.
+unsafe impl Send for Abandoned {}
+
+unsafe impl Sync for Abandoned {}
+
+impl Abandoned {
+    /// None.
+    pub fn none() -> Abandoned
+        ensures { result.heads ≡ [] }
+    {
+        Abandoned {}
+    }
+
+    /// The head that a roll of this head is opening, or this one, if it isn't open yet.
+    pub fn of(_head: &Head) -> Abandoned
+        ensures { result.heads ≡ new_heads_in _head.now }
+    {
+        Abandoned {}
     }
 }

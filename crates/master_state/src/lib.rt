@@ -11,16 +11,21 @@
 
 mod budget;
 mod config;
+mod failover;
 mod image;
 mod ledger;
 mod loaded;
+mod losing;
 mod state;
 mod step;
+mod waiting;
 
 pub use config::{Config, ConfigFault};
+pub use failover::{Failed, Failover, Part};
 pub use hash_index::{KeyHasher, Secret};
 pub use image::image_of;
-pub use ledger::{Ledger, Posting};
+pub use ledger::{Abandoned, Ledger, Posting};
 pub use loaded::Loaded;
 pub use state::Core;
 pub use step::{Refusal, Step, StepAnswer};
+pub use waiting::Waiting;

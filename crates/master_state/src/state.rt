@@ -4,22 +4,27 @@ ghost use Rattle.std.specs.Prelude.{◌≡◌, ◌<◌, None, IfOk, OnErr, IsSom
 ghost use Rattle.std.specs.Option.{option_map};
 ghost use Rattle.entry.specs.Text.{text_of};
 ghost use Rattle.log_head.specs.Head.{digest_of};
+ghost use Rattle.master_state.specs.Causes.{step_refusal};
 ghost use Rattle.master_state.specs.Config.{config_fault};
+ghost use Rattle.std.specs.Result.{result_err};
 ghost use Rattle.master_state.specs.Data.{fresh_data};
 ghost use Rattle.master_state.specs.Invariant.{IsCore};
 ghost use Rattle.failover_model.specs.Steps.{restored};
 ghost use Rattle.master_state.specs.Loading.{restored_data, IsBare};
 ghost use Rattle.master_state.specs.Log.{fail_config, log_of, durable_now, image_of, home};
-ghost use Rattle.master_state.specs.Steps.{failed_data, refusal_of, backup_of, ledger_after};
+ghost use Rattle.master_state.specs.Steps.{failed_data, refusal_of, halted, backup_of, ledger_after};
 ghost use Rattle.master_state.specs.Ledger.{posted, ended_with};
 ghost use Rattle.log_head.specs.Next.{replica_of, segment_of};
-ghost use Rattle.std.specs.Prelude.{ℕ, suc, ◌==◌};
+ghost use Rattle.std.specs.Prelude.{ℕ, suc, ◌==◌, false};
+ghost use Rattle.log_model.specs.Ids.{has};
 
 use crate::config::Config;
+use crate::failover::{Failed, Failover};
 use crate::image::image_of;
-use crate::ledger::{Ledger, Posting};
+use crate::ledger::{Abandoned, Ledger, Posting};
 use crate::loaded::Loaded;
 use crate::step::Refusal;
+use crate::waiting::Waiting;
 use cleaner::Pass;
 use entry::{NoMemory, Row, SafeVersion, Tablet};
 use hash_index::Index;
@@ -51,10 +56,12 @@ pub struct Core {
     /// The open pass of cleaning.
     pub pass: Option<Pass>,
     /// Victims of earlier passes, in the order in which their replicas are freed.
-    pub waiting: Vec<u64>,
-    /// How many replicas of the first of these were freed.
-    pub freed: usize,
-    /// Whether a backup failed.
+    pub waiting: Vec<Waiting>,
+    /// The backups that failed.
+    pub failed: Failed,
+    /// The failover that is open.
+    pub failover: Option<Failover>,
+    /// Whether it takes no further step.
     pub is_halted: bool,
     /// What it was loaded with before its history began.
     pub loaded: Loaded,
@@ -62,6 +69,8 @@ pub struct Core {
     pub first_safe: SafeVersion,
     /// What its backups answered.
     pub ledger: Ledger,
+    /// The heads that a roll was opening as the failover began.
+    pub abandoned: Abandoned,
 }
 
 impl Model for Core {
@@ -81,10 +90,12 @@ impl Model for Core {
       history = m.history.records;
       pass = m.pass;
       waiting = m.waiting.items;
-      freed = m.freed;
+      failed = m.failed;
+      failover = m.failover;
       is_halted = m.is_halted;
       origin = record { objects = m.loaded.objects; safe = m.first_safe };
       ledger = m.ledger.postings;
+      abandoned = m.abandoned.heads;
     } };
 
     // while a roll is under way there is room for one more closed segment, and while a pass commits `waiting` has room
@@ -100,10 +111,12 @@ impl Model for Core {
           history = m.history.records;
           pass = m.pass;
           waiting = m.waiting.items;
-          freed = m.freed;
+          failed = m.failed;
+          failover = m.failover;
           is_halted = m.is_halted;
           origin = record { objects = m.loaded.objects; safe = m.first_safe };
           ledger = m.ledger.postings;
+          abandoned = m.abandoned.heads;
         })
         × IfSome m.pass (λ p. p.is_committing ≡ true
         → length m.waiting.items + length p.victims ≤ vec_capacity m.waiting) };
@@ -133,6 +146,7 @@ impl Core {
         let head = Head::begin(
             alloc,
             config.master,
+            1,
             replicas,
             config.format,
             safe,
@@ -155,11 +169,13 @@ impl Core {
             history: History::new(alloc),
             pass: None,
             waiting: Vec::new(alloc),
-            freed: 0,
+            failed: Failed::none(),
+            failover: None,
             is_halted: false,
             loaded: Loaded::nothing(),
             first_safe: safe,
             ledger: Ledger::empty(),
+            abandoned: Abandoned::none(),
         };
         core.show_valid();
         Ok(core)
@@ -186,7 +202,7 @@ impl Core {
         self.config.tablets.as_slice()
     }
 
-    /// Whether a backup failed.
+    /// Whether it takes no further step.
     pub fn is_halted(&self) -> bool
         ensures { result ≡ self.now.is_halted }
     {
@@ -208,12 +224,14 @@ impl Core {
         self.config.backups
     }
 
-    /// The backup of a replica of a segment.
+    /// The home of a replica of a segment.
+    #[inline(always)]
     pub fn home(&self, segment: u64, replica: usize) -> u64
-        requires { replica < 64 }
-        ensures { result ≡ home self.now.config segment replica }
+        requires { replica < self.now.config.replicas }
+        ensures home { result ≡ home self.now.config self.now.failed segment replica }
+        ensures there { result < self.now.config.backups }
     {
-        self.config.home(segment, replica)
+        self.config.home(&self.failed, segment, replica)
     }
 
     /// The accepted commands, with their replies.
@@ -227,6 +245,9 @@ impl Core {
     pub fn durable(&self) -> u64
         ensures { result ≡ durable_now self.now }
     {
+        if let Some(failover) = &self.failover {
+            return failover.frozen;
+        }
         match self.head.first_missing() {
             None => self.history.len() as u64,
             Some(number) => number as u64,
@@ -262,6 +283,11 @@ impl Core {
                 let units = self.head.count();
                 self.post(&Posting::Has(backup, units));
             }
+            Next::OpenWhole(_) => {
+                let units = self.head.count();
+                self.post(&Posting::Took(segment, backup));
+                self.post(&Posting::Has(backup, units));
+            }
             Next::OpenNew(_) => self.post(&Posting::Took(segment, backup)),
             Next::CloseOld(replica) => {
                 self.post(&Posting::Shut(backup));
@@ -285,22 +311,72 @@ impl Core {
 
     // ---- a fault
 
-    /// What a fault of a take answers. After a fault of a backup the master stays halted. No op of a master is Wrong.
-    pub fn fail(&mut self, fault: TakeFault) -> Refusal
-        requires { fault ≡ TakeFault.Wrong → ⊥ }
-        ensures answer { result ≡ refusal_of fault }
-        ensures failed { self.new ≡ failed_data self.old fault }
+    /// What a fault of a take on this backup answers. Under format 2 the backup counts as failed from now on, and a
+    /// failover is open, if none was and as many backups as replicas are left. Else the master stays halted. No op of a
+    /// master is Wrong.
+    pub fn fail(&mut self, backup: u64, fault: TakeFault) -> Refusal
+        requires right { fault ≡ TakeFault.Wrong → ⊥ }
+        requires there { backup < self.old.config.backups }
+        requires works { has self.old.failed backup ≡ false }
+        ensures answer { result ≡ refusal_of self.old backup fault }
+        ensures failed { self.new ≡ failed_data self.old backup fault }
         ensures valid { IsCore self.new }
     {
+        self.show_valid();
         match fault {
             TakeFault::NoMemory => Refusal::NoMemory,
             TakeFault::Spent => Refusal::Spent,
             TakeFault::Fault => {
-                self.is_halted = true;
+                if self.may_lose() {
+                    self.lose(backup);
+                    return Refusal::Lost(backup);
+                }
+                self.halt();
                 Refusal::Halted
             }
             TakeFault::Wrong => unreachable!(),
         }
+    }
+
+    /// What a fault of a raise answers. A failover is open then, so after a fault the master stays halted.
+    pub fn refuse_raise(&mut self, fault: TakeFault) -> Refusal
+        requires right { fault ≡ TakeFault.Wrong → ⊥ }
+        requires failing { IsSome self.old.failover }
+        ensures answer { (b : ℕ) → result ≡ refusal_of self.old b fault }
+        ensures failed { (b : ℕ) → self.new ≡ failed_data self.old b fault }
+        ensures valid { IsCore self.new }
+    {
+        self.show_valid();
+        match fault {
+            TakeFault::NoMemory => Refusal::NoMemory,
+            TakeFault::Spent => Refusal::Spent,
+            TakeFault::Fault => {
+                self.halt();
+                Refusal::Halted
+            }
+            TakeFault::Wrong => unreachable!(),
+        }
+    }
+
+    /// The test that comes before all others of a step that is neither a command nor a push.
+    pub fn admit(&self) -> Result<(), Refusal>
+        ensures { result_err result ≡ step_refusal self.now }
+    {
+        if self.is_halted {
+            return Err(Refusal::Halted);
+        }
+        if self.failover.is_some() {
+            return Err(Refusal::Rolling);
+        }
+        Ok(())
+    }
+
+    /// It takes no further step.
+    pub fn halt(&mut self)
+        ensures halted { self.new ≡ halted self.old }
+        ensures valid { IsCore self.new }
+    {
+        self.is_halted = true;
     }
 
     // ---- what is shown

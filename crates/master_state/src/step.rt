@@ -17,6 +17,7 @@ pub enum Step {
     /// One command of a seat. It takes nothing from the fleet.
     Apply(u64, Command),
     /// One op goes to one backup: all units that it lacks if a replica lags, and else the next Open or Close of a roll.
+    /// While a failover is open, its next op.
     Push,
     /// A roll to the next head begins. It takes nothing from the fleet.
     BeginRoll,
@@ -84,6 +85,10 @@ pub enum StepAnswer {
     Sealed(u64),
     /// The segment and the backup.
     Freed(u64, u64),
+    /// The registry lets no older head be used than this one.
+    Raised(u64),
+    /// The backup and the segment: a lost replica was sealed anew.
+    Repaired(u64, u64),
 }
 
 /// Why a step was refused. The numbers are fixed.
@@ -99,9 +104,9 @@ pub enum Refusal {
     HistoryFull,
     /// 5: memory ran out, and nothing changed.
     NoMemory,
-    /// 6: a backup failed, in this step or an earlier one.
+    /// 6: a backup failed, in this step or an earlier one, and the master takes no further step.
     Halted,
-    /// 7: a roll is under way, or is due, or the first head is not open yet.
+    /// 7: a roll is under way, or is due, or the first head is not open yet; or a failover is open.
     Rolling,
     /// 8: nothing waits.
     Nothing,
@@ -113,6 +118,8 @@ pub enum Refusal {
     SegmentsSpent,
     /// 12: no tablet of the master has the key's place.
     NoTablet,
+    /// 13: this backup failed in the step, and counts as failed from now on. A failover is open, which pushes end.
+    Lost(u64),
 }
 
 impl Error for Refusal {}
@@ -134,6 +141,7 @@ impl fmt::Display for Refusal {
             Refusal::Spent => write!(f, "Spent"),
             Refusal::SegmentsSpent => write!(f, "SegmentsSpent"),
             Refusal::NoTablet => write!(f, "NoTablet"),
+            Refusal::Lost(backup) => write!(f, "Lost {backup}"),
         }
     }
 }

@@ -2,7 +2,7 @@
 
 use crate::asks::{Ask, SEAT, command_of, steps_of};
 use crate::comparisons::{is_the_plain_map, value};
-use crate::masters::new_master;
+use crate::masters::new_master_in;
 use backup::MemoryFleet;
 use entry::Size;
 use master::{Command, History, Look, Master, Record, Refusal, Reply, Shown, Step, StepAnswer};
@@ -16,6 +16,7 @@ fn refusal_kind(refusal: &Refusal) -> Kind {
     match refusal {
         Refusal::Nothing => ("Nothing", 0, 0),
         Refusal::Rolling => ("Rolling", 0, 0),
+        Refusal::Lost(backup) => ("Lost", *backup, 0),
         _ => ("refused", 0, 0),
     }
 }
@@ -34,6 +35,8 @@ pub fn kind(answer: &Result<StepAnswer, Refusal>) -> Kind {
         Ok(StepAnswer::Dropped) => ("dropped", 0, 0),
         Ok(StepAnswer::Sealed(backup)) => ("sealed", *backup, 0),
         Ok(StepAnswer::Freed(segment, backup)) => ("freed", *backup, *segment),
+        Ok(StepAnswer::Raised(segment)) => ("raised", *segment, 0),
+        Ok(StepAnswer::Repaired(backup, segment)) => ("repaired", *backup, *segment),
         Err(refusal) => refusal_kind(refusal),
     }
 }
@@ -71,6 +74,12 @@ pub enum Call {
     Turn(Kind),
     /// A cleaner has nothing to do.
     Rests,
+    /// The step that is under way, and what it did.
+    Goes(Kind),
+    /// Which take from now ends in a fault, and whether it is taken.
+    Fault(u64, bool),
+    /// How many pushes of a failover are left at most.
+    Left(u64),
     /// The victims that a cleaner would choose.
     Victims(&'static [u64]),
     /// The head, how many records are durable, and how many there are.
@@ -153,6 +162,16 @@ fn would(alloc: Global, master: &Master<MemoryFleet>, ask: &Ask) -> Option<Told>
 fn turn(master: &mut Master<MemoryFleet>) -> Option<Kind> {
     let step = master.next_step().ok()??;
     Some(kind(&master.step(step)))
+}
+
+fn goes(master: &mut Master<MemoryFleet>) -> Option<Kind> {
+    let step = master.pending_step()?;
+    Some(kind(&master.step(step)))
+}
+
+fn fails(master: &mut Master<MemoryFleet>, takes: u64, taken: bool) -> bool {
+    master.fault_at(takes, taken);
+    true
 }
 
 fn rests(master: &Master<MemoryFleet>) -> bool {
@@ -239,6 +258,9 @@ fn is_answered(alloc: Global, master: &mut Master<MemoryFleet>, call: &Call) -> 
         Call::Would(ask, want) => would(alloc, master, ask) == Some(*want),
         Call::Turn(want) => turn(master) == Some(*want),
         Call::Rests => rests(master),
+        Call::Goes(want) => goes(master) == Some(*want),
+        Call::Fault(takes, taken) => fails(master, *takes, *taken),
+        Call::Left(want) => master.failover_left() == *want,
         Call::Victims(want) => has_victims(master, want),
         Call::Counts(head, durable, records) => has_counts(master, *head, *durable, *records),
         Call::NoImage(id) => has_no_image(master, *id),
@@ -260,9 +282,9 @@ pub fn passed(alloc: Global, master: &mut Master<MemoryFleet>, calls: &[Call]) -
     calls.len()
 }
 
-/// The same of a new master. It is none if memory runs out.
-pub fn passed_by_new(alloc: Global, calls: &[Call]) -> usize {
-    match new_master(alloc) {
+/// The same of a new master that writes this format. It is none if memory runs out.
+pub fn passed_by_new(alloc: Global, format: u64, calls: &[Call]) -> usize {
+    match new_master_in(alloc, format) {
         Some(mut master) => passed(alloc, &mut master, calls),
         None => 0,
     }

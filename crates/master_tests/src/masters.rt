@@ -37,6 +37,13 @@ pub const TABLETS: &[Tablet] = &[
 pub fn config_of(alloc: Global, number: u64, seglets: u64) -> Option<Config>
     ensures { IfSome result (λ config. config_fault config ≡ None) }
 {
+    config_in(alloc, number, seglets, 1)
+}
+
+/// The same in this format, of which 1 is the default.
+fn config_in(alloc: Global, number: u64, seglets: u64, format: u64) -> Option<Config>
+    ensures { IfSome result (λ config. config_fault config ≡ None) }
+{
     let Ok(tablets) = Vec::from_slice(alloc, TABLETS) else {
         return None;
     };
@@ -51,7 +58,7 @@ pub fn config_of(alloc: Global, number: u64, seglets: u64) -> Option<Config>
         tablets: Tablets::new(tablets),
         history: 1_048_576,
         hasher: KeyHasher::new(),
-        format: 1,
+        format,
     };
     match config.check() {
         Ok(()) => Some(config),
@@ -73,7 +80,12 @@ pub fn new_fleet(alloc: Global, config: &Config) -> Option<MemoryFleet>
 
 /// Master 1, over a fleet that holds nothing.
 pub fn new_master(alloc: Global) -> Option<Master<MemoryFleet>> {
-    let config = config_of(alloc, 1, 64)?;
+    new_master_in(alloc, 1)
+}
+
+/// The same in this format.
+pub fn new_master_in(alloc: Global, format: u64) -> Option<Master<MemoryFleet>> {
+    let config = config_in(alloc, 1, 64, format)?;
     let fleet = new_fleet(alloc, &config)?;
     match Master::new(alloc, config, fleet) {
         Ok(master) => Some(master),

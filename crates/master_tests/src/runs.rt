@@ -245,10 +245,67 @@ const RUNS: &[&[Call]] = &[
     COMPARED,
 ];
 
+/// A take for the second put ends in a fault of backup 2, and the master goes on without it. The head's other replica gets
+/// the put, and its lost one is replaced. Head 3 is opened on both backups that are left, the registry is raised to it, head 2
+/// is closed, and segment 1 is sealed anew. Until then no unit is taken, and no further record is durable.
+const FAILOVER: &[Call] = &[
+    Call::Run(&[
+        Push(2),
+        Put(b"a", b'x', If::Any),
+        Push(2),
+        Roll,
+        Push(4),
+        Put(b"b", b'y', If::Any),
+    ]),
+    Call::Left(0),
+    Call::Fault(1, false),
+    Call::Answers(&[Push(1)], &[("Lost", 2, 0)]),
+    Call::Left(8),
+    Call::Counts(2, 1, 2),
+    Call::Answers(
+        &[Put(b"c", b'z', If::Any), Get(b"b"), Push(2)],
+        &[
+            ("Rolling", 0, 0),
+            ("applied", 2, 0),
+            ("extended", 0, 2),
+            ("opened", 1, 2),
+        ],
+    ),
+    Call::Left(6),
+    Call::Answers(
+        &[Push(3)],
+        &[("opened", 0, 3), ("opened", 1, 3), ("raised", 3, 0)],
+    ),
+    Call::Left(3),
+    Call::Counts(2, 1, 3),
+    Call::Goes(("closed", 0, 2)),
+    Call::Goes(("closed", 1, 2)),
+    Call::Left(1),
+    Call::Counts(3, 1, 3),
+    Call::Goes(("repaired", 0, 1)),
+    Call::Left(0),
+    Call::Counts(3, 3, 3),
+    Call::Answers(
+        &[Put(b"c", b'z', If::Any), Push(3)],
+        &[
+            ("applied", 3, 0),
+            ("extended", 0, 3),
+            ("extended", 1, 3),
+            ("Nothing", 0, 0),
+        ],
+    ),
+];
+
 #[test]
 fn a_master_answers(rt: HostRuntime) {
     for (run, calls) in RUNS.iter().enumerate() {
-        let passed = passed_by_new(rt.alloc(), calls);
+        let passed = passed_by_new(rt.alloc(), 1, calls);
         assert!(rt; passed == calls.len(), "run {run}: call {passed}");
     }
+}
+
+#[test]
+fn a_master_goes_on_without_a_backup(rt: HostRuntime) {
+    let passed = passed_by_new(rt.alloc(), 2, FAILOVER);
+    assert!(rt; passed == FAILOVER.len(), "call {passed}");
 }

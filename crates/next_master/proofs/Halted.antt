@@ -30,12 +30,11 @@ valid_halted d f valid = record {
     head = valid.placed.head;
     counts = valid.placed.counts;
     unopened = valid.placed.unopened;
+    whole = valid.placed.whole;
     new = valid.placed.new;
     shut = valid.placed.shut;
-    others = valid.placed.others;
-    survivors = valid.placed.survivors;
+    closed = valid.placed.closed;
   };
-  least = valid.least;
   covered = valid.covered;
   durable = valid.durable;
   counted = valid.counted;

@@ -1,10 +1,11 @@
 -- How a recovery ends, and what it makes of the fleet's limit.
-use Rattle.std.proofs.Common.{◌≡◌, ℕ, inl, inr, refl, sym, ap, subst, ◌∙◌, true, false, arith}
+use Rattle.std.proofs.Common.{◌≡◌, ℕ, ◌≤◌, inl, inr, refl, sym, ap, subst, ◌∙◌, true, false, arith}
 use Rattle.std.specs.Prelude.{Option, Some, None, Result, Ok, Err}
 use Rattle.std.specs.Option.{option_map}
 use Rattle.backup.specs.State.{fleet_state}
 use Rattle.backup.specs.declared.fleet.MemoryFleet.{MemoryFleet}
 use Rattle.command_line.specs.declared.settings.Options.{Options}
+use Rattle.master.specs.Registry.{AreUnraisedAbove}
 use Rattle.master.specs.World.{MasterValue, World, world}
 use Rattle.master_state.specs.declared.config.Config.{Config}
 use Rattle.master_state.specs.Data.{MasterData}
@@ -28,7 +29,7 @@ use Rattle.next_master.specs.Recoveries.{IsTakenOver, MakesLimit, StandsAfter, a
 use Rattle.next_master.specs.Recoveries.{fault_answer}
 use Rattle.node.specs.Lives.{Left, Position}
 use Rattle.node.specs.Served.{IsNodeAt, IsOf, fleet_of, is_up, world_of}
-use Rattle.node.proofs.LeastHeads.{least_in, KeepsLeast, in_world}
+use Rattle.node.proofs.LeastHeads.{IsUnraisedAbove, in_world, unraised_more, with_fleet}
 use Rattle.recovery.proofs.Following.{adopted_still}
 use Rattle.next_master.proofs.Retired.{others_gone, retire_keeps_end, spent_retire}
 
@@ -195,34 +196,59 @@ limit_made old new options a used x number (inr (f, down, inr (table, found, nex
 
 -- ---- the registry
 
+-- an adoption raises at most the least head of its own master
+adopted_unraised : (master : ℕ) (f left : FleetState) → IsAdoptedOn master f left → AreUnraisedAbove master f
+    → AreUnraisedAbove master left
+adopted_unraised master f left on are =
+    λ m above. on.least m (λ is. absurd (omega (arith, above, is))) ∙ are m above
+
+-- a fleet with the same least heads
+same_unraised : (number : ℕ) (f g : FleetState) → g.least ≡ f.least → AreUnraisedAbove number f
+    → AreUnraisedAbove number g
+same_unraised number f g same are = λ m above. ap (λ (h : ℕ → ℕ). h m) same ∙ are m above
+
 -- a node that is down after an answer
-down_least : (x : Answer) (left : FleetState) (new : Node) → IsDownOn (after_answer x left) new
-    → least_in (fleet_of new) ≡ Some left.least
-down_least x left new on = ap least_in on.1 ∙ ap (λ (g : ℕ → ℕ). Some g) (after_least x left)
+down_unraised : (number : ℕ) (x : Answer) (left : FleetState) (new : Node) → IsDownOn (after_answer x left) new
+    → AreUnraisedAbove number left → IsUnraisedAbove number (fleet_of new)
+down_unraised number x left new on are =
+    with_fleet number new (after_answer x left) on.1 (same_unraised number left (after_answer x left)
+    (after_least x left) are)
 
-module _ (old new : Node) (f : FleetState) (was : fleet_of old ≡ Some f) where
-  same_least : (g : ℕ → ℕ) → least_in (fleet_of new) ≡ Some g → g ≡ f.least → KeepsLeast old new
-  same_least g is same = is ∙ ap (λ (h : ℕ → ℕ). Some h) same ∙ sym (ap least_in was)
+over_unraised : (f : FleetState) (r : Rebuilt) (config : Config) (new : Node) (x : Answer)
+    → IsTakenOver f r config new x → AreUnraisedAbove config.master f → IsUnraisedAbove config.master (fleet_of new)
+over_unraised f r config new x over are = go over.freed over.succeeds over.stands
+  where
+    kept : (freed : Result Unit TakeFault) → IsSuccessor config r f freed over.next
+        → AreUnraisedAbove config.master over.next.fleet
+    kept freed s = same_unraised config.master s.taken over.next.fleet
+        (retire_spares s.taken over.next.fleet config.master freed s.retires).least
+        (adopted_unraised config.master f s.taken s.on are)
 
-  over_least : (r : Rebuilt) (config : Config) (x : Answer) → IsTakenOver f r config new x → KeepsLeast old new
-  over_least r config x over = go over.freed over.succeeds over.stands
-    where
-      go : (freed : Result Unit TakeFault) (s : IsSuccessor config r f freed over.next)
-          → StandsAfter over.next freed new → KeepsLeast old new
-      go (Ok u) s stands = same_least over.next.fleet.least (ap least_in (in_world new over.next stands.0))
-          ((retire_spares s.taken over.next.fleet config.master (Ok u) s.retires).least ∙ s.on.least)
-      go (Err why) s stands =
-          same_least over.next.fleet.least (down_least (fault_answer why) over.next.fleet new stands.0)
-          ((retire_spares s.taken over.next.fleet config.master (Err why) s.retires).least ∙ s.on.least)
+    go : (freed : Result Unit TakeFault) (s : IsSuccessor config r f freed over.next)
+        → StandsAfter over.next freed new → IsUnraisedAbove config.master (fleet_of new)
+    go (Ok u) s stands =
+        with_fleet config.master new over.next.fleet (in_world new over.next stands.0) (kept (Ok u) s)
+    go (Err why) s stands =
+        down_unraised config.master (fault_answer why) over.next.fleet new stands.0 (kept (Err why) s)
 
--- no recovery raises a least head
-pub ends_least : (old new : Node) (options : Options) (a : Asked) (used : ℕ) (x : Answer) (number : ℕ)
-    → Ends old options a used new x number → KeepsLeast old new
-ends_least old new options a used x number (inl (up, is, same, n, u)) =
-    ap (λ (m : Node). least_in (fleet_of m)) same
-ends_least old new options a used x number (inr (f, down, inl (nothing, same, n, u))) =
-    ap (λ (m : Node). least_in (fleet_of m)) same
-ends_least old new options a used x number (inr (f, down, inr (table, found, next, inl (declined, n)))) =
-    same_least old new f down.1 declined.left.least (down_least x declined.left new declined.down) declined.on.least
-ends_least old new options a used x number (inr (f, down, inr (table, found, next, inr (over, n)))) =
-    over_least old new f down.1 table (config_of options used) x over
+-- no recovery raises the least head of a master with a greater number than those that were used
+pub ends_unraised : (old new : Node) (options : Options) (a : Asked) (used : ℕ) (x : Answer) (number : ℕ)
+    → Ends old options a used new x number → a.used ≤ used → IsUnraisedAbove a.used (fleet_of old)
+    → IsUnraisedAbove used (fleet_of new)
+ends_unraised old new options a used x number ends more are = go ends where
+  still : new ≡ old → IsUnraisedAbove used (fleet_of new)
+  still same = subst (λ (n : Node). IsUnraisedAbove used (fleet_of n)) (sym same)
+      (unraised_more a.used used (fleet_of old) more are)
+
+  held : (f : FleetState) → fleet_of old ≡ Some f → AreUnraisedAbove used f
+  held f was = subst (λ (o : Option FleetState). IsUnraisedAbove used o) was
+      (unraised_more a.used used (fleet_of old) more are)
+
+  go : Ends old options a used new x number → IsUnraisedAbove used (fleet_of new)
+  go (inl (up, is, same, n, u)) = still same
+  go (inr (f, down, inl (nothing, same, n, u))) = still same
+  go (inr (f, down, inr (table, found, next, inl (declined, n)))) =
+      down_unraised used x declined.left new declined.down
+      (adopted_unraised used f declined.left declined.on (held f down.1))
+  go (inr (f, down, inr (table, found, next, inr (over, n)))) =
+      over_unraised f table (config_of options used) new x over (held f down.1)

@@ -77,7 +77,7 @@ spared_left d l old mid new other apart on picture backups least of = record {
   held = λ b s. ap (λ (p : Picture). p b d.config.master s) picture
       ∙ on.others b d.config.master s apart ∙ of.held b s;
   backups = let was = of.backups in let same = on.backups in let last = backups in omega arith;
-  least = least ∙ on.least ∙ of.least;
+  least = ap (λ (g : ℕ → ℕ). g d.config.master) least ∙ on.least d.config.master apart ∙ of.least;
 }
 
 -- ---- an adoption that is refused, and a retirement that is cut short

@@ -112,8 +112,8 @@ module _ (node : Node) (fleet : MemoryFleet) (config : Config) (d : MasterData) 
 
     -- the same heads may be used as when it was dropped
     same_least : left.0.shown.least ≡ least
-    same_least = ap (λ (s : Shown). s.least) left.2.shown ∙ ap left.2.crashed.least of_master
-        ∙ sym (old ∙ ap (λ (g : ℕ → ℕ). g master) left.2.least)
+    same_least = ap (λ (s : Shown). s.least) left.2.shown ∙ sym left.2.least
+        ∙ ap (fleet_state fleet).least of_master ∙ sym old
 
     sound : IsSoundInBytes master (log_of d) left.0.shown
     sound =

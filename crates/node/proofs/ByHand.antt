@@ -1,5 +1,5 @@
 -- A step by hand of a node's master, told of the master's life.
-use Rattle.std.proofs.Common.{[], ◌≡◌, ◌∙◌, true, false, refl, sym, subst}
+use Rattle.std.proofs.Common.{[], ◌≡◌, ◌∙◌, ℕ, Bool, true, false, refl, sym, ap, subst, inl, inr}
 use Rattle.std.specs.Prelude.{Option, None, Some, Result, Ok, Err, IfSome}
 use Rattle.backup.specs.State.{fleet_state}
 use Rattle.backup.specs.declared.fleet.MemoryFleet.{MemoryFleet}
@@ -15,10 +15,18 @@ use Rattle.master_state.specs.declared.step.Step.TheVariants.{Free}
 use Rattle.master_state.specs.declared.step.StepAnswer.{StepAnswer}
 use Rattle.master_state.specs.declared.step.StepAnswer.TheVariants.{Applied, Extended, Opened, Closed, Rolling}
 use Rattle.master_state.specs.declared.step.StepAnswer.TheVariants.{Compacted, Begun, Moved, Carried, Dropped, Sealed}
-use Rattle.master_state.specs.declared.step.StepAnswer.TheVariants.{Freed}
+use Rattle.master_state.specs.declared.step.StepAnswer.TheVariants.{Freed, Raised, Repaired}
+use Rattle.failover_model.specs.Data.{FailData}
+use Rattle.failover_model.specs.Shown.{Op}
 use Rattle.master_state.specs.Data.{MasterData}
+use Rattle.master_state.specs.Log.{log_of}
 use Rattle.master_state.specs.Steps.{copy_answer}
+use Rattle.master_mending.specs.declared.mending.Mend.{Mend}
+use Rattle.master_mending.specs.declared.mending.Mend.TheVariants as mend
+use Rattle.master_mending.specs.Mending.{backup_for, segment_for}
 use Rattle.master.specs.Keeps.{Keeps}
+use Rattle.master.specs.Mends.{answer_for}
+use Rattle.master.specs.Pushes.{IsNextOp}
 use Rattle.master.specs.Steps.{Accepts, Declines, Steps}
 use Rattle.master.specs.Valid.{IsValid}
 use Rattle.master.specs.World.{MasterValue, World, world}
@@ -77,6 +85,37 @@ module _ (config : Config) (life : Life) where
   refusal_of Seal r is = is
   refusal_of Free r is = is
 
+-- what a push may answer
+abbrev of_push : StepAnswer → Bool
+of_push (Extended backup segment) = true
+of_push (Opened backup segment) = true
+of_push (Closed backup segment) = true
+of_push (Raised id) = true
+of_push (Repaired backup segment) = true
+of_push a = false
+
+next_of : (d : MasterData) (o : Op) (a : StepAnswer) (e : FailData) → IsNextOp d o a e → of_push a ≡ true
+next_of d o (Extended backup segment) e is = refl
+next_of d o (Opened backup segment) e is = refl
+next_of d o (Closed backup segment) e is = refl
+next_of d o (Raised id) e is = refl
+next_of d o (Repaired backup segment) e is = refl
+next_of d o a e is = absurd is
+
+mend_of : (m : Mend) (backup segment : ℕ) → of_push (answer_for m backup segment) ≡ true
+mend_of (mend.Extend j) backup segment = refl
+mend_of (mend.Replace j) backup segment = refl
+mend_of mend.Turn backup segment = refl
+mend_of (mend.Open j) backup segment = refl
+mend_of (mend.Raise id) backup segment = refl
+mend_of (mend.Close j) backup segment = refl
+mend_of (mend.Repair s j) backup segment = refl
+
+pushed_of : (old new : World) (a : StepAnswer) → Accepts old Push a new → of_push a ≡ true
+pushed_of old new a (inl h) = next_of old.knows h.op a (log_of new.knows) h.next
+pushed_of old new a (inr h) =
+    ap of_push h.told ∙ mend_of h.mend (backup_for old.knows h.mend) (segment_for old.knows h.mend)
+
 module _ (config : Config) (life : Life) (at : Position) (none : at.left ≡ None) where
   abbrev IsMadeAt : Step → StepAnswer → Type 0
   IsMadeAt s a = IsStepAt config (life_to life at.made) s (Ok a)
@@ -99,7 +138,9 @@ module _ (config : Config) (life : Life) (at : Position) (none : at.left ≡ Non
   push_told (Extended backup segment) is = (none, refl, is, refl)
   push_told (Opened backup segment) is = (none, refl, is, refl)
   push_told (Closed backup segment) is = (none, refl, is, refl)
-  push_told a is = absurd is.4.next
+  push_told (Raised id) is = (none, refl, is, refl)
+  push_told (Repaired backup segment) is = (none, refl, is, refl)
+  push_told a is = absurd (let other : of_push a ≡ true = pushed_of is.0 is.1 a is.4 in cc)
 
   -- what is told of a step that is made
   tells_made : (s : Step) (a : StepAnswer) → IsMadeAt s a → IfSome (line_of s) (λ (line : LineValue). IsToldAs line a)
@@ -139,6 +180,8 @@ still_there Carried m = refl
 still_there Dropped m = refl
 still_there (Sealed backup) m = refl
 still_there (Freed segment backup) m = refl
+still_there (Raised id) m = refl
+still_there (Repaired backup segment) m = refl
 
 module _ (node : Node) (up m : MasterValue MemoryFleet) (there : node ≡ Up up) (step : Step) where
   abbrev before : World

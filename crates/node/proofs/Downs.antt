@@ -1,5 +1,5 @@
 -- A node without a master rolls nothing, and shows nothing of a master.
-use Rattle.std.proofs.Common.{◌≡◌, ℕ, true, false, refl}
+use Rattle.std.proofs.Common.{◌≡◌, ℕ, false, refl}
 use Rattle.std.specs.Prelude.{Some}
 use Rattle.master_state.specs.declared.config.Config.{Config}
 use Rattle.answers.specs.declared.answer.Answer.TheVariants as answer

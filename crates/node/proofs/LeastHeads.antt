@@ -1,6 +1,6 @@
--- No line raises a least head.
-use Rattle.std.proofs.Common.{◌≡◌, ℕ, List, refl, ap, ◌∙◌}
-use Rattle.std.specs.Prelude.{Option, Some, None}
+-- No line raises a least head of a master with a greater number than the node's.
+use Rattle.std.proofs.Common.{◌≡◌, ℕ, ◌≤◌, List, sym, ap, subst, ◌∙◌, arith}
+use Rattle.std.specs.Prelude.{Option, Some, None, IfSome}
 use Rattle.std.specs.Option.{option_map}
 use Rattle.backup.specs.State.{fleet_state, lost}
 use Rattle.backup.specs.declared.fleet.MemoryFleet.{MemoryFleet}
@@ -12,27 +12,48 @@ use Rattle.replica.specs.Take.{limited}
 use Rattle.versioned_map.specs.declared.command.Command.{Command}
 use Rattle.versioned_map.specs.declared.command.Command.TheVariants as command
 use Rattle.versioned_map.specs.declared.command.If.TheVariants.{Any, Absent, Version}
+use Rattle.master_state.specs.declared.config.Config.{Config}
 use Rattle.master_state.specs.declared.step.Step.{Step}
 use Rattle.master_state.specs.declared.step.Step.TheVariants as step
+use Rattle.master_state.specs.Data.{MasterData}
+use Rattle.master.specs.Registry.{AreUnraisedAbove}
 use Rattle.master.specs.World.{MasterValue, World, world}
 use Rattle.answers.specs.declared.answer.Answer.{Answer}
 use Rattle.answers.specs.declared.answer.Answer.TheVariants as answer
-use Rattle.driving.proofs.LeastHeads.{SameLeast, step_least, rolls_least, cleans_least, command_least}
+use Rattle.driving.proofs.LeastHeads.{SameLeast, step_least, rolls_leave, cleans_leave, command_leaves}
 use Rattle.node.specs.declared.node.Node.{Node}
 use Rattle.node.specs.declared.node.Node.TheVariants.{Up, Down, Changing}
-use Rattle.node.specs.Served.{fleet_of, world_of, IsLeftIn, MakesStep, MakesRoll, MakesClean, MakesCommand}
-use Rattle.node.specs.Served.{MakesClients, MakesLine, LosesOne}
+use Rattle.node.specs.Lives.{Position}
+use Rattle.node.specs.Served.{fleet_of, world_of, IsLeftIn, IsNodeAt, MakesStep, MakesRoll, MakesClean}
+use Rattle.node.specs.Served.{MakesClients, MakesCommand, MakesLine, LosesOne}
 
--- the least heads that its fleet has
-abbrev pub least_in : Option FleetState → Option (ℕ → ℕ)
-least_in o = option_map (λ (f : FleetState). f.least) o
+-- of each master with a greater number than this any head may be used
+abbrev pub IsUnraisedAbove : ℕ → Option FleetState → Type 0
+IsUnraisedAbove number o = IfSome o (AreUnraisedAbove number)
 
--- both have the same, or no fleet
-abbrev pub KeepsLeast : Node → Node → Type 0
-KeepsLeast old new = least_in (fleet_of new) ≡ least_in (fleet_of old)
+-- so of each with a still greater number
+pub unraised_more : (used more : ℕ) (o : Option FleetState) → used ≤ more → IsUnraisedAbove used o
+    → IsUnraisedAbove more o
+unraised_more used more None le are = are
+unraised_more used more (Some f) le are = λ m above. are m (omega (arith, le, above))
 
-same_node : (old new : Node) → new ≡ old → KeepsLeast old new
-same_node old new is = ap (λ (n : Node). least_in (fleet_of n)) is
+-- the node's master, if there is one, has no greater number than this
+abbrev pub IsUpTo : ℕ → Node → Type 0
+IsUpTo number node = IfSome (world_of node) (λ (w : World). w.knows.config.master ≤ number)
+
+-- any head may be used of each master with a greater number than this, if that was so before
+abbrev pub StaysUnraised : ℕ → Node → Node → Type 0
+StaysUnraised number old new = IsUnraisedAbove number (fleet_of old) → IsUnraisedAbove number (fleet_of new)
+
+-- a node that stands for a master of this configuration has no other
+pub stands_up_to : (number : ℕ) (node : Node) (config : Config) (d : MasterData) (at : Position)
+    → IsNodeAt node config d at → config.master ≤ number → IsUpTo number node
+stands_up_to number (Up m) config d at s below =
+    let same = ap (λ (x : MasterData). x.config.master) s.node_of.1 in
+    let here = ap (λ (c : Config). c.master) s.configured in
+    omega (arith, same, here, below)
+stands_up_to number (Down fleet) config d at s below = tt
+stands_up_to number Changing config d at s below = tt
 
 -- the fleet of a node that has a master
 pub in_world : (node : Node) (w : World) → world_of node ≡ Some w → fleet_of node ≡ Some w.fleet
@@ -40,92 +61,118 @@ in_world (Up m) w is = ap (option_map (λ (x : World). x.fleet)) is
 in_world (Down fleet) w is = absurd (cc)
 in_world Changing w is = absurd (cc)
 
-left_least : (w : World) (a : Answer) (new : Node) → IsLeftIn w a new → least_in (fleet_of new) ≡ Some w.fleet.least
-left_least w answer.Stopped new is = ap least_in is.1
-left_least w a new is = ap least_in (in_world new w is)
+-- a step, or many, of a master with no greater number
+pub made_unraised : (number : ℕ) (old new : World) → old.knows.config.master ≤ number → SameLeast old new
+    → AreUnraisedAbove number old.fleet → AreUnraisedAbove number new.fleet
+made_unraised number old new below same are =
+    λ m above. same m (λ is. absurd (omega (arith, below, above, is))) ∙ are m above
 
--- ---- what a master makes
+module _ (number : ℕ) where
+  -- a node with this fleet
+  pub with_fleet : (node : Node) (f : FleetState) → fleet_of node ≡ Some f → AreUnraisedAbove number f
+      → IsUnraisedAbove number (fleet_of node)
+  with_fleet node f is are = subst (λ (o : Option FleetState). IsUnraisedAbove number o) (sym is) are
 
-module _ (m : MasterValue MemoryFleet) (w : World) (a : Answer) (new : Node) (is : IsLeftIn w a new) where
-  made : SameLeast (world fleet_state m) w → KeepsLeast (Up m) new
-  made same = left_least w a new is ∙ ap (λ (g : ℕ → ℕ). Some g) same
+  same_node : (old new : Node) → new ≡ old → StaysUnraised number old new
+  same_node old new is are = subst (λ (n : Node). IsUnraisedAbove number (fleet_of n)) (sym is) are
 
-step_made : (old : Node) (s : Step) (new : Node) (a : Answer) → MakesStep old s new a → KeepsLeast old new
-step_made (Up m) s new a is = made m is.1 a new is.4 (step_least (world fleet_state m) is.1 s is.0 is.2)
-step_made (Down fleet) s new a is = same_node (Down fleet) new is.0
-step_made Changing s new a is = same_node Changing new is.0
+  same_fleet : (old new : Node) → fleet_of new ≡ fleet_of old → StaysUnraised number old new
+  same_fleet old new is are = subst (λ (o : Option FleetState). IsUnraisedAbove number o) (sym is) are
 
-roll_made : (old new : Node) (a : Answer) → MakesRoll old new a → KeepsLeast old new
-roll_made (Up m) new a is = made m is.1 a new is.4 (rolls_least (world fleet_state m) is.1 is.0 is.2)
-roll_made (Down fleet) new a is = same_node (Down fleet) new is.0
-roll_made Changing new a is = same_node Changing new is.0
+  left_unraised : (w : World) (a : Answer) (new : Node) → IsLeftIn w a new → AreUnraisedAbove number w.fleet
+      → IsUnraisedAbove number (fleet_of new)
+  left_unraised w answer.Stopped new is are = with_fleet new _ is.1 are
+  left_unraised w a new is are = with_fleet new w.fleet (in_world new w is) are
 
-clean_made : (old : Node) (victims : List ℕ) (new : Node) (a : Answer) → MakesClean old victims new a
-    → KeepsLeast old new
-clean_made (Up m) victims new a is = made m is.1 a new is.4 (cleans_least (world fleet_state m) is.1 victims is.0 is.2)
-clean_made (Down fleet) victims new a is = same_node (Down fleet) new is.0
-clean_made Changing victims new a is = same_node Changing new is.0
+  -- ---- what a master makes
 
-command_made : (old : Node) (c : Command) (new : Node) (a : Answer) → MakesCommand old c new a → KeepsLeast old new
-command_made (Up m) c new a is = made m is.1 a new is.4 (command_least (world fleet_state m) is.1 c is.0 is.2)
-command_made (Down fleet) c new a is = same_node (Down fleet) new is.0
-command_made Changing c new a is = same_node Changing new is.0
+  module _ (m : MasterValue MemoryFleet) (w : World) (a : Answer) (new : Node) (is : IsLeftIn w a new)
+      (below : IsUpTo number (Up m)) where
+    made : SameLeast (world fleet_state m) w → StaysUnraised number (Up m) new
+    made same are = left_unraised w a new is (made_unraised number (world fleet_state m) w below same are)
 
-clients_made : (old : Node) (clients rounds : ℕ) (new : Node) (a : Answer) → MakesClients old clients rounds new a
-    → KeepsLeast old new
-clients_made (Up m) clients rounds new a is = made m is.1 a new is.4 is.2.goes_on.least
-clients_made (Down fleet) clients rounds new a is = same_node (Down fleet) new is.0
-clients_made Changing clients rounds new a is = same_node Changing new is.0
+  step_made : (old : Node) (s : Step) (new : Node) (a : Answer) → MakesStep old s new a → IsUpTo number old
+      → StaysUnraised number old new
+  step_made (Up m) s new a is below = made m is.1 a new is.4 below (step_least (world fleet_state m) is.1 s is.0 is.2)
+  step_made (Down fleet) s new a is below = same_node (Down fleet) new is.0
+  step_made Changing s new a is below = same_node Changing new is.0
 
--- ---- what is done to the fleet
+  roll_made : (old new : Node) (a : Answer) → MakesRoll old new a → IsUpTo number old → StaysUnraised number old new
+  roll_made (Up m) new a is below =
+      made m is.1 a new is.4 below (rolls_leave (world fleet_state m) is.1 is.0 is.2).least
+  roll_made (Down fleet) new a is below = same_node (Down fleet) new is.0
+  roll_made Changing new a is below = same_node Changing new is.0
 
-limited_least : (n : ℕ) (o : Option FleetState)
-    → least_in (option_map (λ (f : FleetState). limited f n) o) ≡ least_in o
-limited_least n None = refl
-limited_least n (Some f) = refl
+  clean_made : (old : Node) (victims : List ℕ) (new : Node) (a : Answer) → MakesClean old victims new a
+      → IsUpTo number old → StaysUnraised number old new
+  clean_made (Up m) victims new a is below =
+      made m is.1 a new is.4 below (cleans_leave (world fleet_state m) is.1 victims is.0 is.2).least
+  clean_made (Down fleet) victims new a is below = same_node (Down fleet) new is.0
+  clean_made Changing victims new a is below = same_node Changing new is.0
 
-lost_least : (backup : ℕ) (o : Option FleetState)
-    → least_in (option_map (λ (f : FleetState). lost f backup) o) ≡ least_in o
-lost_least backup None = refl
-lost_least backup (Some f) = refl
+  command_made : (old : Node) (c : Command) (new : Node) (a : Answer) → MakesCommand old c new a
+      → IsUpTo number old → StaysUnraised number old new
+  command_made (Up m) c new a is below =
+      made m is.1 a new is.4 below (command_leaves (world fleet_state m) is.1 c is.0 is.2).least
+  command_made (Down fleet) c new a is below = same_node (Down fleet) new is.0
+  command_made Changing c new a is below = same_node Changing new is.0
 
-loses_least : (old : Node) (backup : ℕ) (new : Node) → LosesOne old backup new → KeepsLeast old new
-loses_least (Up m) backup new is = same_node (Up m) new is
-loses_least (Down fleet) backup new is = ap least_in is.1 ∙ lost_least backup (Some (fleet_state fleet))
-loses_least Changing backup new is = ap least_in is.1
+  clients_made : (old : Node) (clients rounds : ℕ) (new : Node) (a : Answer) → MakesClients old clients rounds new a
+      → IsUpTo number old → StaysUnraised number old new
+  clients_made (Up m) clients rounds new a is below = made m is.1 a new is.4 below is.2.goes_on.least
+  clients_made (Down fleet) clients rounds new a is below = same_node (Down fleet) new is.0
+  clients_made Changing clients rounds new a is below = same_node Changing new is.0
 
--- ---- any line
+  -- ---- what is done to the fleet
 
-pub line_least : (old : Node) (line : LineValue) (new : Node) (a : Answer) → MakesLine old line new a
-    → KeepsLeast old new
-line_least old Roll new a is = roll_made old new a is
-line_least old BeginRoll new a is = step_made old step.BeginRoll new a is
-line_least old (Compact segment) new a is = step_made old (step.Compact segment) new a is
-line_least old Push new a is = step_made old step.Push new a is
-line_least old (Clean victims) new a is = clean_made old victims new a is
-line_least old (Begin victims) new a is = step_made old (step.BeginClean victims) new a is
-line_least old Copy new a is = step_made old step.Copy new a is
-line_least old Seal new a is = step_made old step.Seal new a is
-line_least old Free new a is = step_made old step.Free new a is
-line_least old Idle new a is = same_node old new is
-line_least old (Hex segment) new a is = same_node old new is.0
-line_least old Log new a is = same_node old new is.0
-line_least old Room new a is = same_node old new is.0
-line_least old Holdings new a is = same_node old new is.0
-line_least old Will new a is = same_node old new is
-line_least old (Stop takes) new a is = ap least_in is.1 ∙ limited_least takes (fleet_of old)
-line_least old (Fault takes taken) new a is = ap least_in is.1
-line_least old Format new a is = same_node old new is
-line_least old Crash new a is = ap least_in is.1
-line_least old (Lose backup) new a is = loses_least old backup new is
-line_least old (Recover order) new a is = absurd is
-line_least old (Clients clients rounds passes) new a is = clients_made old clients rounds new a is
-line_least old (Put table key value) new a is =
-    command_made old (command.Put (record { table = table; bytes = key }) value Any) new a is
-line_least old (New table key value) new a is =
-    command_made old (command.Put (record { table = table; bytes = key }) value Absent) new a is
-line_least old (Cas table key version value) new a is =
-    command_made old (command.Put (record { table = table; bytes = key }) value (Version version)) new a is
-line_least old (Get table key) new a is = command_made old (command.Get (record { table = table; bytes = key })) new a is
-line_least old (Del table key) new a is =
-    command_made old (command.Delete (record { table = table; bytes = key })) new a is
+  limited_unraised : (n : ℕ) (o : Option FleetState) → IsUnraisedAbove number o
+      → IsUnraisedAbove number (option_map (λ (f : FleetState). limited f n) o)
+  limited_unraised n None are = tt
+  limited_unraised n (Some f) are = are
+
+  stops_unraised : (old : Node) (n : ℕ) (new : Node)
+      → fleet_of new ≡ option_map (λ (f : FleetState). limited f n) (fleet_of old) → StaysUnraised number old new
+  stops_unraised old n new is are = subst (λ (o : Option FleetState). IsUnraisedAbove number o) (sym is)
+      (limited_unraised n (fleet_of old) are)
+
+  loses_unraised : (old : Node) (backup : ℕ) (new : Node) → LosesOne old backup new → StaysUnraised number old new
+  loses_unraised (Up m) backup new is are = same_node (Up m) new is are
+  loses_unraised (Down fleet) backup new is are = with_fleet new (lost (fleet_state fleet) backup) is.1 are
+  loses_unraised Changing backup new is are = subst (λ (o : Option FleetState). IsUnraisedAbove number o) (sym is.1) tt
+
+  -- ---- any line
+
+  pub line_unraised : (old : Node) (line : LineValue) (new : Node) (a : Answer) → MakesLine old line new a
+      → IsUpTo number old → StaysUnraised number old new
+  line_unraised old Roll new a is below = roll_made old new a is below
+  line_unraised old BeginRoll new a is below = step_made old step.BeginRoll new a is below
+  line_unraised old (Compact segment) new a is below = step_made old (step.Compact segment) new a is below
+  line_unraised old Push new a is below = step_made old step.Push new a is below
+  line_unraised old (Clean victims) new a is below = clean_made old victims new a is below
+  line_unraised old (Begin victims) new a is below = step_made old (step.BeginClean victims) new a is below
+  line_unraised old Copy new a is below = step_made old step.Copy new a is below
+  line_unraised old Seal new a is below = step_made old step.Seal new a is below
+  line_unraised old Free new a is below = step_made old step.Free new a is below
+  line_unraised old Idle new a is below = same_node old new is
+  line_unraised old (Hex segment) new a is below = same_node old new is.0
+  line_unraised old Log new a is below = same_node old new is.0
+  line_unraised old Room new a is below = same_node old new is.0
+  line_unraised old Holdings new a is below = same_node old new is.0
+  line_unraised old Will new a is below = same_node old new is
+  line_unraised old (Stop takes) new a is below = stops_unraised old takes new is.1
+  line_unraised old (Fault takes taken) new a is below = same_fleet old new is.1
+  line_unraised old Format new a is below = same_node old new is
+  line_unraised old Crash new a is below = same_fleet old new is.1
+  line_unraised old (Lose backup) new a is below = loses_unraised old backup new is
+  line_unraised old (Recover order) new a is below = absurd is
+  line_unraised old (Clients clients rounds passes) new a is below = clients_made old clients rounds new a is below
+  line_unraised old (Put table key value) new a is below =
+      command_made old (command.Put (record { table = table; bytes = key }) value Any) new a is below
+  line_unraised old (New table key value) new a is below =
+      command_made old (command.Put (record { table = table; bytes = key }) value Absent) new a is below
+  line_unraised old (Cas table key version value) new a is below =
+      command_made old (command.Put (record { table = table; bytes = key }) value (Version version)) new a is below
+  line_unraised old (Get table key) new a is below =
+      command_made old (command.Get (record { table = table; bytes = key })) new a is below
+  line_unraised old (Del table key) new a is below =
+      command_made old (command.Delete (record { table = table; bytes = key })) new a is below

@@ -12,7 +12,7 @@ use Rattle.versioned_map.specs.declared.command.Reply.{Reply}
 use Rattle.master_state.specs.declared.step.Refusal.{Refusal}
 use Rattle.master_state.specs.declared.step.Refusal.TheVariants as refusal
 use Rattle.master_state.specs.declared.step.Step.TheVariants.{Apply, Push}
-use Rattle.master_state.specs.Causes.{is_pushed}
+use Rattle.master_state.specs.Causes.{is_done}
 use Rattle.master_state.specs.Data.{MasterData}
 use Rattle.master.specs.Steps.{Declines}
 use Rattle.master.specs.World.{MasterValue, World, world}
@@ -31,14 +31,16 @@ use Rattle.node.proofs.Steps.{refused_left}
 
 -- no push is refused as Rolling
 push_unrolling : (old new : World) → Declines old Push refusal.Rolling new → ⊥
-push_unrolling old new (inl h) = tested old.knows.is_halted (is_pushed old.knows.head) h.0
+push_unrolling old new (inl h) = tested old.knows.is_halted (is_done old.knows) h.0
   where
-    tested : (halted pushed : Bool) → (if halted then Some refusal.Halted else if pushed then Some refusal.Nothing
+    tested : (halted done : Bool) → (if halted then Some refusal.Halted else if done then Some refusal.Nothing
         else None) ≡ Some refusal.Rolling → ⊥
     tested true pushed e = cc
     tested false true e = cc
     tested false false e = cc
-push_unrolling old new (inr h) = h.1
+push_unrolling old new (inr (passed, inl h)) = let halts : refusal.Rolling ≡ refusal.Halted = h.2 in cc
+push_unrolling old new (inr (passed, inr (inl h))) = let halts : refusal.Rolling ≡ refusal.Halted = h.1 in cc
+push_unrolling old new (inr (passed, inr (inr h))) = h
 
 -- a try that is refused as Rolling does nothing
 pub try_waits : (old new : World) (command : Command) → Tries old command (Err refusal.Rolling) new

@@ -16,7 +16,6 @@ use Rattle.master_state.specs.declared.config.Config.{Config}
 use Rattle.master_state.specs.Data.{MasterData}
 use Rattle.master.specs.Valid.{IsValid}
 use Rattle.recovery.specs.Kept.{is_kept}
-use Rattle.recovery.specs.declared.recovery.RecoveryFault.TheVariants as fault
 use Rattle.answers.specs.declared.answer.Answer.TheVariants as answer
 use Rattle.node.specs.declared.node.Node.{Node}
 use Rattle.node.specs.declared.node.Node.TheVariants.{Down}
@@ -119,7 +118,7 @@ lost_of d l old new backup is of = record {
       ∙ ap (λ (r : Option Replica). cond (not (backup == b)) r None) (of.held b s)
       ∙ cut_twice (backup == b) (is_kept l.lost b) (l.shown.holds b d.config.master s);
   backups = let was = of.backups in let same = ap (λ (f : FleetState). f.backups) is in omega arith;
-  least = ap (λ (f : FleetState). f.least) is ∙ of.least;
+  least = ap (λ (f : FleetState). f.least d.config.master) is ∙ of.least;
 }
 
 -- a fleet with the same picture and the same least heads
@@ -133,7 +132,7 @@ same_picture d l old new is same least of = record {
   homes = of.homes;
   held = λ b s. (λ i. is i b d.config.master s) ∙ of.held b s;
   backups = let was = of.backups in omega arith;
-  least = least ∙ of.least;
+  least = ap (λ (g : ℕ → ℕ). g d.config.master) least ∙ of.least;
 }
 
 -- ---- what is left, by hand

@@ -1,5 +1,5 @@
 -- A master's life, and what a crash leaves of it.
-use Rattle.std.specs.Prelude.{◌≡◌, ℕ, List, [], not, Bool, true, take, Option, Some, None}
+use Rattle.std.specs.Prelude.{◌≡◌, ℕ, List, [], not, Bool, true, take, Option, None}
 use Rattle.replica.specs.Picture.{FleetState, Shown, shown_of}
 use Rattle.versioned_map.specs.declared.command.Record.{Record}
 use Rattle.versioned_map.specs.Versioned.{State}

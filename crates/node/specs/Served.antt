@@ -50,7 +50,7 @@ use Rattle.tablet_will.specs.declared.part.Part.{Part}
 use Rattle.tablet_will.specs.Parts.{Divides}
 
 -- Of a master that is gone the fleet holds what its crash left, without the backups that were lost since, and shows the
--- same least head.
+-- same least head of it.
 pub record IsLeftOf (d : MasterData) (l : Left) (f : FleetState) : Type 0 where
   pub crashed : FleetState
   pub valid : IsValid d crashed
@@ -59,7 +59,7 @@ pub record IsLeftOf (d : MasterData) (l : Left) (f : FleetState) : Type 0 where
   pub homes : l.homes ≡ homes (log_of d)
   pub held : (b s : ℕ) → f.picture b d.config.master s ≡ left_on (is_left l.lost) l.shown.holds b d.config.master s
   pub backups : d.config.backups ≤ f.backups
-  pub least : f.least ≡ crashed.least
+  pub least : f.least d.config.master ≡ crashed.least d.config.master
 
 -- a master that is up knows `d`; one that is down knew `d`, and `left` is left of it
 abbrev pub IsOf : Node → Option Left → MasterData → Type 0
@@ -137,6 +137,8 @@ step_told (Ok step_answer.Carried) = Carried
 step_told (Ok step_answer.Dropped) = Dropped
 step_told (Ok (step_answer.Sealed backup)) = Sealed backup
 step_told (Ok (step_answer.Freed segment backup)) = Freed segment backup
+step_told (Ok (step_answer.Raised id)) = answers.Raised id
+step_told (Ok (step_answer.Repaired backup segment)) = answers.Repaired backup segment
 step_told (Err r) = refusal_answer r
 
 -- what is answered to a roll

@@ -61,6 +61,8 @@ fn answer_of(made: StepAnswer) -> Answer
         StepAnswer::Dropped => Answer::Dropped,
         StepAnswer::Sealed(backup) => Answer::Sealed(backup),
         StepAnswer::Freed(segment, backup) => Answer::Freed(segment, backup),
+        StepAnswer::Raised(id) => Answer::Raised(id),
+        StepAnswer::Repaired(backup, segment) => Answer::Repaired(backup, segment),
     }
 }
 

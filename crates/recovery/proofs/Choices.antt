@@ -6,7 +6,7 @@ use Rattle.entry.specs.Bag.{IsAmong}
 use Rattle.entry.specs.Text.{Opening, is_data, entries_in, opening_in}
 use Rattle.replica.specs.declared.holding.Holding.{Holding}
 use Rattle.replica.specs.Picture.{Replica, Picture, Shown, left_on, survivors, IsHeld}
-use Rattle.replica.specs.Choice.{Choice, IsUsableOf, IsChoice, IsShownChoice, bag_of}
+use Rattle.replica.specs.Choice.{Choice, IsUsableOf, IsChoice, bag_of}
 use Rattle.claims.specs.Bags.{segments_bag}
 use Rattle.recovery_plan.specs.declared.chosen.Plan.{Plan}
 use Rattle.recovery_plan.specs.Good.{IsGood}

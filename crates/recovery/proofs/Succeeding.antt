@@ -53,13 +53,16 @@ run_others old new (s ∷ ss) (a ∷ rest) run b m t other =
     ap (λ (c : Config). c.master) run.2.keeps.config in
     run_others run.0 new ss rest run.3 b m t (λ is. other (is ∙ same)) ∙ run.2.keeps.others b m t other
 
--- no least head is raised
+-- no least head of another master is raised
 run_least : (old new : World) (steps : List Step) (answers : List (Result StepAnswer Refusal))
-    → IsRun old steps answers new → new.fleet.least ≡ old.fleet.least
-run_least old new [] [] run = ap (λ (w : World). w.fleet.least) run
-run_least old new [] (a ∷ rest) run = absurd run
-run_least old new (s ∷ ss) [] run = absurd run
-run_least old new (s ∷ ss) (a ∷ rest) run = run_least run.0 new ss rest run.3 ∙ run.2.keeps.least
+    → IsRun old steps answers new → (m : ℕ) → (m ≡ old.knows.config.master → ⊥) → new.fleet.least m ≡ old.fleet.least m
+run_least old new [] [] run m other = ap (λ (w : World). w.fleet.least m) run
+run_least old new [] (a ∷ rest) run m other = absurd run
+run_least old new (s ∷ ss) [] run m other = absurd run
+run_least old new (s ∷ ss) (a ∷ rest) run m other =
+    let same : run.0.knows.config.master ≡ old.knows.config.master =
+    ap (λ (c : Config). c.master) run.2.keeps.config in
+    run_least run.0 new ss rest run.3 m (λ is. other (is ∙ same)) ∙ run.2.keeps.least m other
 
 pub run_newest : (old new : World) (steps : List Step) (answers : List (Result StepAnswer Refusal)) (left : FleetState)
     → IsRun old steps answers new → left ≡ new.fleet → IsNewest old.knows.config.master old.fleet
@@ -69,7 +72,7 @@ run_newest old new steps answers left run same newest = record {
       ∙ run_others old new steps answers run b m s (λ is. absurd (omega (arith, is, above)))
       ∙ newest.held b m s above;
   least = above_on old.knows.config.master old.fleet left
-      (ap (λ (f : FleetState). f.least) same ∙ run_least old new steps answers run) newest.least;
+      (λ m other. ap (λ (f : FleetState). f.least m) same ∙ run_least old new steps answers run m other) newest.least;
 }
 
 -- ---- replicas that are freed
@@ -120,7 +123,7 @@ next_newest n left taken new result newest on retires = record {
   held = λ b m s above. retire_leaves b m s taken new (suc n) result retires
       (on.others b m s (λ is. absurd (omega (arith, is, above))) ∙ newest.held b m s (omega (arith, above)));
   least = λ m above. ap (λ (h : ℕ → ℕ). h m) (retire_spares taken new (suc n) result retires).least
-      ∙ ap (λ (h : ℕ → ℕ). h m) on.least ∙ newest.least m (omega (arith, above));
+      ∙ on.least m (λ is. absurd (omega (arith, is, above))) ∙ newest.least m (omega (arith, above));
 }
 
 -- ---- lives

@@ -16,7 +16,7 @@ use Rattle.log_head.proofs.Rolls.{zeros_length}
 use Rattle.master_state.specs.declared.config.Config.{Config}
 use Rattle.master_state.specs.declared.step.Refusal.{Refusal}
 use Rattle.master_state.specs.declared.step.Refusal.TheVariants as refusal
-use Rattle.master_state.specs.Causes.{is_pushed}
+use Rattle.master_state.specs.Causes.{is_done, is_pushed}
 use Rattle.master_state.specs.Data.{MasterData}
 use Rattle.master_state.specs.Loading.{restored_data, Settles}
 use Rattle.master.specs.Loading.{DeclinesLoad}
@@ -45,8 +45,8 @@ settled_pushed h opened =
 
 -- ---- what is adopted
 
-all_pushed : (os : List Object) (old new : World) → LoadsAll os old new → is_pushed new.knows.head ≡ true
-all_pushed os old new (mid, loaded, (count, last, pushes, declines)) = (nothing_waits last new declines).1
+pub all_done : (os : List Object) (old new : World) → LoadsAll os old new → is_done new.knows ≡ true
+all_done os old new (mid, loaded, (count, last, pushes, declines, lost)) = (nothing_waits last new declines).1
 
 pub adopts : (c : Config) (r : Rebuilt) (os : List Object) (f : FleetState) (start now new : World)
     → start.knows ≡ restored_data c r.safe
@@ -68,8 +68,8 @@ pub adopted_is : (c : Config) (r : Rebuilt) (os : List Object) (start now : Worl
     → os ≡ r.objects → LoadsAll os start now → Settles now.knows m → IsAdopted c r m
 adopted_is c r os start now m made listed loads settles =
     let kept = all_keeps os start now loads in
-    let pushed = all_pushed os start now loads in
-    let opened = (and_parts (is_open now.knows.head) _ pushed).0 in
+    let done = and_parts (is_none now.knows.failover) (is_pushed now.knows.head) (all_done os start now loads) in
+    let opened = (and_parts (is_open now.knows.head) _ done.1).0 in
     let objects : m.origin.objects ≡ stacked r.objects [] =
     ap (λ (d : MasterData). d.origin.objects) settles.rest ∙ kept.objects
     ∙ ap (λ (d : MasterData). stacked os d.origin.objects) made ∙ ap (λ (ps : List Object). stacked ps []) listed in
@@ -83,7 +83,9 @@ adopted_is c r os start now m made listed loads settles =
       history =
           ap (λ (d : MasterData). d.history) settles.rest ∙ kept.history ∙ ap (λ (d : MasterData). d.history) made;
       opened = ap (λ (d : MasterData). is_open d.head) settles.rest ∙ settled_open now.knows.head ∙ opened;
-      pushed = ap (λ (d : MasterData). is_pushed d.head) settles.rest ∙ settled_pushed now.knows.head opened;
+      pushed = ap is_done settles.rest
+          ∙ ap (λ (b : Bool). is_none now.knows.failover && b) (settled_pushed now.knows.head opened)
+          ∙ ap (λ (b : Bool). b && true) done.0;
     }
 
 -- ---- its fleet
@@ -99,7 +101,7 @@ adopted_from c safe start f g h made fleet is same =
 -- ---- spent
 
 until_spent : (old new : World) → PushesUntil old refusal.Spent new → IsSpent new.fleet
-until_spent old new (count, mid, pushes, declines) = spent_push mid new refusal.Spent declines refl
+until_spent old new (count, mid, pushes, declines, lost) = spent_push mid new refusal.Spent declines refl
 
 spent_load : (o : Object) (old new : World) → DeclinesLoad old.knows (entry.Object o) refusal.Spent new.knows → ⊥
 spent_load o old new (same, inl test) = tested _ _ _ _ test

@@ -3,27 +3,32 @@ use Rattle.std.proofs.Common.{◌≡◌, ℕ, zero, suc, List, [], ◌∷◌, �
 use Rattle.std.proofs.Common.{inl, inr, ◌∙◌, arith}
 use Rattle.std.proofs.lemmas.List.{append-nil}
 use Rattle.entry.specs.declared.entry.Object.{Object}
+use Rattle.replica.specs.declared.op.TakeFault.TheVariants as take_fault
 use Rattle.replica.specs.Picture.{FleetState}
+use Rattle.failover_model.specs.Shown.{Op}
+use Rattle.failover_bytes.specs.Ops.{RefusesOp, TakesOp}
 use Rattle.master_state.specs.declared.step.Refusal.{Refusal}
 use Rattle.master_state.specs.declared.step.Refusal.TheVariants as refusal
 use Rattle.master_state.specs.declared.step.Step.TheVariants.{Push, BeginRoll}
 use Rattle.master_state.specs.declared.step.StepAnswer.{StepAnswer}
 use Rattle.master_state.specs.Data.{MasterData}
 use Rattle.master_state.specs.Loading.{Loads}
-use Rattle.master.specs.Steps.{Accepts, Declines, FailsTake, IsPushOp}
+use Rattle.master.specs.Steps.{Accepts, Declines, IsPushOp}
 use Rattle.master.specs.World.{World}
-use Rattle.master.proofs.Keeping.{take_failed}
-use Rattle.master.proofs.PushedRest.{same_rest}
-use Rattle.driving.specs.Rolls.{ArePushed, PushesUntil, GoesRolling, IsRolled, IsNotRolled}
+use Rattle.master.proofs.Keeping.{op_beside, op_faulted, take_failed}
+use Rattle.master.proofs.MendedRest.{mended_rest}
+use Rattle.master.proofs.PushedRest.{SameRest, same_rest}
+use Rattle.driving.specs.Rolls.{Advances, ArePushed, PushesUntil, GoesRolling, IsRolled, IsNotRolled}
+use Rattle.driving.proofs.Losses.{push_lost}
 use Rattle.driving.proofs.MasterSteps.{nothing_waits}
-use Rattle.driving.proofs.Ops.{failed_beside, failed_counts, next_on_replica, op_beside, op_counts, push_on_replica}
+use Rattle.driving.proofs.Ops.{failed_counts, op_counts}
 use Rattle.replay.specs.Adopting.{HasRoomMade, LoadsOne, HasLoaded, LoadsAll, DeclinesOne, IsStuck, Stops, IsAdoptedOn}
 
 -- ---- the fleet
 
 pub adopted_same : (master : ℕ) (f : FleetState) → IsAdoptedOn master f f
 adopted_same master f =
-    record { backups = refl; takes = omega arith; end = refl; others = λ b m s other. refl; least = refl }
+    record { backups = refl; takes = omega arith; end = refl; others = λ b m s other. refl; least = λ m other. refl }
 
 pub adopted_further : (master : ℕ) (f g h : FleetState) → IsAdoptedOn master f g → IsAdoptedOn master g h
     → IsAdoptedOn master f h
@@ -35,46 +40,55 @@ adopted_further master f g h first later =
       takes = omega arith;
       end = later.end ∙ first.end;
       others = λ b m s other. later.others b m s other ∙ first.others b m s other;
-      least = later.least ∙ first.least;
+      least = λ m other. later.least m other ∙ first.least m other;
+    }
+
+-- an op that was taken, or that may have been taken in a fault
+taken_adopts : (master : ℕ) (f g : FleetState) (o : Op) → TakesOp master f o g → IsAdoptedOn master f g
+taken_adopts master f g o takes =
+    let beside = op_beside master f g o takes in
+    let counts = op_counts master f o g takes in
+    record {
+      backups = counts.backups;
+      takes = beside.takes.0;
+      end = counts.end;
+      others = beside.others;
+      least = beside.least;
+    }
+
+faulted_adopts : (master : ℕ) (f g : FleetState) (o : Op) → RefusesOp master f o take_fault.Fault g
+    → IsAdoptedOn master f g
+faulted_adopts master f g o refuses =
+    let beside = op_faulted master f g o refuses in
+    let counts = failed_counts master f o g refuses in
+    record {
+      backups = counts.backups;
+      takes = counts.takes;
+      end = counts.end;
+      others = beside.others;
+      least = beside.least;
     }
 
 module _ (old new : World) where
-  pub push_adopts : (a : StepAnswer) → Accepts old Push a new → IsAdoptedOn old.knows.config.master old.fleet new.fleet
-  push_adopts a p =
-      let master = old.knows.config.master in
-      let beside = op_beside master old.fleet p.op new.fleet (next_on_replica old.knows p.op a _ p.next) p.takes in
-      let counts = op_counts master old.fleet p.op new.fleet p.takes in
-      record {
-        backups = counts.backups;
-        takes = beside.takes.0;
-        end = counts.end;
-        others = beside.others;
-        least = beside.least;
-      }
+  quiet : new.fleet ≡ old.fleet → IsAdoptedOn old.knows.config.master old.fleet new.fleet
+  quiet same =
+      subst (IsAdoptedOn old.knows.config.master old.fleet) (sym same) (adopted_same old.knows.config.master old.fleet)
 
   same_adopts : new ≡ old → IsAdoptedOn old.knows.config.master old.fleet new.fleet
-  same_adopts same =
-      subst (λ (w : World). IsAdoptedOn old.knows.config.master old.fleet w.fleet) (sym same)
-      (adopted_same old.knows.config.master old.fleet)
+  same_adopts same = quiet (ap (λ (w : World). w.fleet) same)
 
-  halted_adopts : FailsTake (IsPushOp old) old refusal.Halted new
-      → IsAdoptedOn old.knows.config.master old.fleet new.fleet
-  halted_adopts t =
-      let master = old.knows.config.master in
-      let on = push_on_replica old t.1.0 t.1.1 in
-      let beside = failed_beside master old.fleet t.1.0 new.fleet on t.1.2 in
-      let counts = failed_counts master old.fleet t.1.0 new.fleet on t.1.2 in
-      record {
-        backups = counts.0;
-        takes = beside.takes.0;
-        end = counts.1;
-        others = beside.others;
-        least = beside.least;
-      }
+  push_adopts : (a : StepAnswer) → Accepts old Push a new → IsAdoptedOn old.knows.config.master old.fleet new.fleet
+  push_adopts a (inl p) = taken_adopts old.knows.config.master old.fleet new.fleet p.op p.takes
+  push_adopts a (inr p) = taken_adopts old.knows.config.master old.fleet new.fleet p.op p.takes
 
   declined_adopts : (r : Refusal) → Declines old Push r new → IsAdoptedOn old.knows.config.master old.fleet new.fleet
   declined_adopts r (inl t) = same_adopts t.1
-  declined_adopts r (inr t) = take_failed (IsPushOp old) old new r t.1 same_adopts halted_adopts
+  declined_adopts r (inr (test, inl t)) = quiet (ap (λ (w : World). w.fleet) t.3)
+  declined_adopts r (inr (test, inr (inl t))) =
+      faulted_adopts old.knows.config.master old.fleet new.fleet t.3.0 t.3.3
+  declined_adopts r (inr (test, inr (inr t))) = take_failed (IsPushOp old) old new r t same_adopts
+      (λ b h. faulted_adopts old.knows.config.master old.fleet new.fleet h.2.0 h.2.3)
+      (λ h. faulted_adopts old.knows.config.master old.fleet new.fleet h.2.0 h.2.2)
 
 -- ---- what is loaded
 
@@ -118,20 +132,29 @@ keeps_at : (old new : World) → new ≡ old → KeepsLoaded [] old new
 keeps_at old new same = subst (KeepsLoaded [] old) (sym same) (keeps_same old)
 
 module _ (old new : World) where
-  quiet : new.fleet ≡ old.fleet → IsAdoptedOn old.knows.config.master old.fleet new.fleet
-  quiet same =
-      subst (IsAdoptedOn old.knows.config.master old.fleet) (sym same) (adopted_same old.knows.config.master old.fleet)
+  -- the core goes on with the same rest
+  rest_keeps : (e : MasterData) → new.knows ≡ e → SameRest e old.knows
+      → IsAdoptedOn old.knows.config.master old.fleet new.fleet → KeepsLoaded [] old new
+  rest_keeps e is same fleet = record {
+    config = ap (λ (d : MasterData). d.config) is ∙ same.0;
+    history = ap (λ (d : MasterData). d.history) is ∙ same.1;
+    safe = ap (λ (d : MasterData). d.origin.safe) is ∙ ap (λ o. o.safe) same.3;
+    objects = ap (λ (d : MasterData). d.origin.objects) is ∙ ap (λ o. o.objects) same.3;
+    fleet = fleet;
+  }
 
-  push_keeps : (a : StepAnswer) → Accepts old Push a new → KeepsLoaded [] old new
-  push_keeps a p =
-      let same = same_rest old.knows p.push in
-      record {
-        config = ap (λ (d : MasterData). d.config) p.rest ∙ same.0;
-        history = ap (λ (d : MasterData). d.history) p.rest ∙ same.1;
-        safe = ap (λ (d : MasterData). d.origin.safe) p.rest ∙ ap (λ o. o.safe) same.3;
-        objects = ap (λ (d : MasterData). d.origin.objects) p.rest ∙ ap (λ o. o.objects) same.3;
-        fleet = push_adopts old new a p;
-      }
+  push_keeps : Advances Push old new → KeepsLoaded [] old new
+  push_keeps (inl (a, inl p)) =
+      rest_keeps _ p.rest (same_rest old.knows p.push) (push_adopts old new a (inl p))
+  push_keeps (inl (a, inr p)) =
+      rest_keeps _ p.rest (mended_rest old.knows p.mend) (push_adopts old new a (inr p))
+  push_keeps (inr (b, declines)) = record {
+    config = ap (λ (d : MasterData). d.config) (push_lost old new b declines).knows;
+    history = ap (λ (d : MasterData). d.history) (push_lost old new b declines).knows;
+    safe = ap (λ (d : MasterData). d.origin.safe) (push_lost old new b declines).knows;
+    objects = ap (λ (d : MasterData). d.origin.objects) (push_lost old new b declines).knows;
+    fleet = declined_adopts old new (refusal.Lost b) declines;
+  }
 
   roll_keeps : (a : StepAnswer) → Accepts old BeginRoll a new → KeepsLoaded [] old new
   roll_keeps a h = record {
@@ -139,7 +162,7 @@ module _ (old new : World) where
     history = ap (λ (d : MasterData). d.history) h.0.rest;
     safe = ap (λ (d : MasterData). d.origin.safe) h.0.rest;
     objects = ap (λ (d : MasterData). d.origin.objects) h.0.rest;
-    fleet = quiet h.1;
+    fleet = quiet old new h.1;
   }
 
   load_keeps : (o : Object) → Loads old.knows o new.knows → new.fleet ≡ old.fleet → KeepsLoaded (o ∷ []) old new
@@ -148,16 +171,16 @@ module _ (old new : World) where
     history = ap (λ (d : MasterData). d.history) h.rest;
     safe = ap (λ (d : MasterData). d.origin.safe) h.rest;
     objects = ap (λ (d : MasterData). d.origin.objects) h.rest;
-    fleet = quiet fleet;
+    fleet = quiet old new fleet;
   }
 
 pushed_keeps : (count : ℕ) (old new : World) → ArePushed count old new → KeepsLoaded [] old new
 pushed_keeps zero old new same = keeps_at old new same
-pushed_keeps (suc count) old new (mid, before, a, push) =
-    keeps_further [] [] old mid new (pushed_keeps count old mid before) (push_keeps mid new a push)
+pushed_keeps (suc count) old new (mid, before, push) =
+    keeps_further [] [] old mid new (pushed_keeps count old mid before) (push_keeps mid new push)
 
 until_keeps : (old new : World) → PushesUntil old refusal.Nothing new → KeepsLoaded [] old new
-until_keeps old new (count, mid, pushes, declines) =
+until_keeps old new (count, mid, pushes, declines, lost) =
     keeps_further [] [] old mid new (pushed_keeps count old mid pushes)
     (keeps_at mid new (nothing_waits mid new declines).0)
 
@@ -209,7 +232,7 @@ then_adopts os a b c kept later =
 
 until_adopts : (old new : World) (r : Refusal) → PushesUntil old r new
     → IsAdoptedOn old.knows.config.master old.fleet new.fleet
-until_adopts old new r (count, mid, pushes, declines) =
+until_adopts old new r (count, mid, pushes, declines, lost) =
     then_adopts [] old mid new (pushed_keeps count old mid pushes) (declined_adopts mid new r declines)
 
 unrolled_adopts : (old new : World) (r : Refusal) → IsNotRolled old r new

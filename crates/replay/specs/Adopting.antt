@@ -8,7 +8,7 @@ use Rattle.log_head.specs.Head.{is_open}
 use Rattle.master_state.specs.declared.config.Config.{Config}
 use Rattle.master_state.specs.declared.step.Refusal.{Refusal}
 use Rattle.master_state.specs.declared.step.Refusal.TheVariants as refusal
-use Rattle.master_state.specs.Causes.{is_pushed}
+use Rattle.master_state.specs.Causes.{is_done}
 use Rattle.master_state.specs.Data.{MasterData}
 use Rattle.master_state.specs.Loading.{load_refusal, restored_data, Loads, Settles}
 use Rattle.master_state.specs.Log.{opening_of}
@@ -77,7 +77,7 @@ pub record IsAdopted (c : Config) (r : Rebuilt) (d : MasterData) : Type 0 where
   pub opening : opening_of d ≡ record { contents = contents_of r.objects; safe = r.safe }
   pub history : d.history ≡ []
   pub opened : is_open d.head ≡ true
-  pub pushed : is_pushed d.head ≡ true
+  pub pushed : is_done d ≡ true
 
 -- What an adoption leaves of the fleet, whether it succeeds or not.
 pub record IsAdoptedOn (master : ℕ) (old new : FleetState) : Type 0 where
@@ -86,8 +86,8 @@ pub record IsAdoptedOn (master : ℕ) (old new : FleetState) : Type 0 where
   pub end : new.end ≡ old.end
   -- no replica of another master changed
   pub others : (b m s : ℕ) → (m ≡ master → ⊥) → new.picture b m s ≡ old.picture b m s
-  -- no least head is raised
-  pub least : new.least ≡ old.least
+  -- no least head of another master is raised
+  pub least : (m : ℕ) → (m ≡ master → ⊥) → new.least m ≡ old.least m
 
 -- A master was restored over this fleet and loaded with the list, and this is the master that it became. A roll began
 -- only if the next object had to wait and the head was open. Pushes were made only for an object that had to wait, or

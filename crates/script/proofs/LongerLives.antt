@@ -61,6 +61,8 @@ module _ (config : Config) (life : Life) where
   rises at line (answer.Extended backup segment) next t = as_before at next t.3
   rises at line (answer.Opened backup segment) next t = as_before at next t.3
   rises at line (answer.Closed backup segment) next t = as_before at next t.3
+  rises at line (answer.Raised id) next t = as_before at next t.3
+  rises at line (answer.Repaired backup segment) next t = as_before at next t.3
   rises at line (answer.Begun survivors) next t = as_before at next t.2
   rises at line answer.Moved next t = as_before at next t.3
   rises at line answer.Carried next t = as_before at next t.3
@@ -223,6 +225,10 @@ module _ (config : Config) (opening : State) (history more : List Record) where
       step_longer at _ step.Push (Ok (step_answer.Opened backup segment)) next within t
   tells_longer at line (answer.Closed backup segment) next within after t =
       step_longer at _ step.Push (Ok (step_answer.Closed backup segment)) next within t
+  tells_longer at line (answer.Raised id) next within after t =
+      step_longer at _ step.Push (Ok (step_answer.Raised id)) next within t
+  tells_longer at line (answer.Repaired backup segment) next within after t =
+      step_longer at _ step.Push (Ok (step_answer.Repaired backup segment)) next within t
   tells_longer at line (answer.Begun survivors) next within after t = (
     t.0,
     (

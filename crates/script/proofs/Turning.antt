@@ -37,7 +37,7 @@ use Rattle.script.specs.Telling.{at_first, Moves, AreTelling, TellLives, Told}
 use Rattle.node.specs.Told.{Tells}
 use Rattle.script.specs.Turns.{RunsText, IsPrinted, PrintsText, TakesTurn, IsNoMore}
 use Rattle.script.proofs.Sessions.{options_kept, options_renewed, options_stay}
-use Rattle.script.proofs.LaterMasters.{begins_unraised, line_unraised}
+use Rattle.script.proofs.LaterMasters.{begins_unraised, line_numbers, line_unraised}
 use Rattle.script.proofs.Succeeding.{nothing_more, telling_longer, telling_more, with_more}
 use Rattle.node.proofs.Standing.{legal_of, same_opening}
 use Rattle.entry.specs.Meaning.{contents_of}
@@ -122,6 +122,7 @@ pub record Running (options : Options) (session : Session) (had left held holds 
   pub run : AreRunOn start told session
   pub covers : IsCovered session
   pub stands : IsNodeAt session.node (config_of session.options session.master) knows at
+  pub used : session.master ≤ session.used
   pub later : AreLaterUnraised session
   pub count : suc (length told) ≡ number
   pub lines : All (IsScriptLine options.backups) told
@@ -150,6 +151,7 @@ starts_running options session had held begins =
       run = refl;
       covers = begins.covers;
       stands = subst (λ (c : Config). IsNodeAt session.node c d at_start) (sym same) begins.stands.1;
+      used = let used = begins.used in omega (arith, number, used);
       later = begins_unraised options session begins;
       count = refl;
       lines = All-nil (IsScriptLine options.backups);
@@ -338,7 +340,8 @@ module _ (options : Options) (old : Session) (had mid left held wrote holds : Op
           run = run_on;
           covers = covers_on old new runs.line a runs.runs (r.covers, (r.knows, r.at, r.stands), r.later);
           stands = after_line.2;
-          later = line_unraised old new runs.line a runs.runs r.later;
+          used = line_numbers old new runs.line a runs.runs r.used;
+          later = line_unraised old new runs.line a runs.runs r.knows r.at r.stands r.used r.later;
           count = omega arith;
           lines = line_there;
           opening = r.opening;

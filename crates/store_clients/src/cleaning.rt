@@ -34,6 +34,8 @@ pub(crate) fn clean<F: Fleet, B: Naming, R: Wait>(
                 ended = ended.saturating_add(1);
             }
             Ok(_) => {}
+            // A failover is open, and goes on.
+            Err(Refusal::Lost(_)) => {}
             // While a pass is open, something is next.
             Err(Refusal::Nothing) => {
                 is_open = false;

@@ -6,7 +6,7 @@ use backup::MemoryFleet;
 use entry::{NoMemory, Row};
 use lines::Line;
 use locked_log::{CleanTurn, Naming, Store};
-use master::{Look, Refusal, Shown, StepAnswer};
+use master::{Look, PassFault, Refusal, Shown, StepAnswer};
 use script::Answer;
 use std::alloc::Global;
 use std::sync::Wait;
@@ -40,7 +40,10 @@ pub fn turn_line<B: Naming, R: Wait>(
 ) -> Result<Option<Answer>, LineFault> {
     match line {
         Line::Roll => Ok(Some(roll(rt, store))),
-        Line::Clean { segments } => Ok(Some(clean(rt, store, row_of(alloc, segments)?))),
+        Line::Clean { segments } => {
+            let victims = row_of(alloc, segments)?;
+            Ok(Some(clean(rt, alloc, store, victims)))
+        }
         _ => match turn_of(alloc, line)? {
             Some(turn) => Ok(Some(take_turn(rt, store, turn))),
             None => Ok(None),
@@ -85,6 +88,8 @@ fn answer_of(answer: StepAnswer) -> Answer {
         StepAnswer::Dropped => Answer::Dropped,
         StepAnswer::Sealed(backup) => Answer::Sealed(backup),
         StepAnswer::Freed(segment, backup) => Answer::Freed(segment, backup),
+        StepAnswer::Raised(id) => Answer::Raised(id),
+        StepAnswer::Repaired(backup, segment) => Answer::Repaired(backup, segment),
     }
 }
 
@@ -103,7 +108,8 @@ pub fn refuse<B: Naming, R: Wait>(
     }
 }
 
-/// Takes turns of one kind until nothing is left to do, or one is refused.
+/// Takes turns of one kind until nothing is left to do, or one is refused for good. A backup that failed is no end: its
+/// failover is pushed to its end.
 pub fn take_all<B: Naming, R: Wait>(
     rt: &R,
     store: &Store<MemoryFleet, B>,
@@ -111,22 +117,40 @@ pub fn take_all<B: Naming, R: Wait>(
 ) -> Result<(), Refusal> {
     for _ in rt.forever() {
         if let Err(refusal) = store.turn(rt, phase.turn()) {
-            return match refusal {
-                Refusal::Nothing => Ok(()),
-                _ => Err(refusal),
-            };
+            match refusal {
+                Refusal::Nothing => return Ok(()),
+                Refusal::Lost(_) => push_all(rt, store)?,
+                _ => return Err(refusal),
+            }
         }
     }
     unreachable!()
 }
 
-/// Begins a roll if none is under way, and pushes until nothing waits. Answers the head.
-fn roll_all<B: Naming, R: Wait>(rt: &R, store: &Store<MemoryFleet, B>) -> Result<u64, Refusal> {
-    match store.turn(rt, CleanTurn::BeginRoll).err() {
-        None | Some(Refusal::Rolling) => {}
-        Some(refusal) => return Err(refusal),
+/// Pushes until nothing waits, or a push is refused for good.
+fn push_all<B: Naming, R: Wait>(rt: &R, store: &Store<MemoryFleet, B>) -> Result<(), Refusal> {
+    for _ in rt.forever() {
+        if let Err(refusal) = store.turn(rt, CleanTurn::Push) {
+            match refusal {
+                Refusal::Nothing => return Ok(()),
+                Refusal::Lost(_) => {}
+                _ => return Err(refusal),
+            }
+        }
     }
-    take_all(rt, store, Phase::Pushes)?;
+    unreachable!()
+}
+
+/// Begins a roll if none is under way, and pushes until nothing waits.
+fn roll_all<B: Naming, R: Wait>(rt: &R, store: &Store<MemoryFleet, B>) -> Result<(), Refusal> {
+    match store.turn(rt, CleanTurn::BeginRoll).err() {
+        None | Some(Refusal::Rolling) => push_all(rt, store),
+        Some(refusal) => Err(refusal),
+    }
+}
+
+/// The head in force.
+fn head<B: Naming, R: Wait>(rt: &R, store: &Store<MemoryFleet, B>) -> Result<u64, Refusal> {
     match store.look(rt, Look::Digest) {
         Ok(shown) => head_in(&shown).ok_or(Refusal::NoMemory),
         Err(NoMemory) => Err(Refusal::NoMemory),
@@ -142,16 +166,27 @@ fn head_in(shown: &Shown) -> Option<u64> {
 }
 
 fn roll<B: Naming, R: Wait>(rt: &R, store: &Store<MemoryFleet, B>) -> Answer {
-    match roll_all(rt, store) {
+    if let Err(refusal) = roll_all(rt, store) {
+        return refuse(rt, store, refusal);
+    }
+    match head(rt, store) {
         Ok(head) => Answer::Head(head),
         Err(refusal) => refuse(rt, store, refusal),
     }
 }
 
-/// Cleans these segments, from the begin of a pass to the last free.
-fn clean<B: Naming, R: Wait>(rt: &R, store: &Store<MemoryFleet, B>, victims: Row<u64>) -> Answer {
+/// Cleans these segments, from the begin of a pass to the last free. A failover that is open is pushed to its end first.
+fn clean<B: Naming, R: Wait>(
+    rt: &R,
+    alloc: Global,
+    store: &Store<MemoryFleet, B>,
+    victims: Row<u64>,
+) -> Answer {
+    if let Err(refusal) = mend(rt, alloc, store) {
+        return refuse(rt, store, refusal);
+    }
     match store.turn(rt, CleanTurn::BeginClean(victims)) {
-        Ok(StepAnswer::Begun(survivors)) => match finish_pass(rt, store) {
+        Ok(StepAnswer::Begun(survivors)) => match finish_pass(rt, alloc, store) {
             Ok(head) => Answer::Cleaned(survivors, head),
             Err(refusal) => refuse(rt, store, refusal),
         },
@@ -160,12 +195,46 @@ fn clean<B: Naming, R: Wait>(rt: &R, store: &Store<MemoryFleet, B>, victims: Row
     }
 }
 
-/// Makes all of a pass that has begun. Answers the head that it ends with.
-fn finish_pass<B: Naming, R: Wait>(rt: &R, store: &Store<MemoryFleet, B>) -> Result<u64, Refusal> {
+/// Pushes a failover that is open to its end.
+fn mend<B: Naming, R: Wait>(
+    rt: &R,
+    alloc: Global,
+    store: &Store<MemoryFleet, B>,
+) -> Result<(), Refusal> {
+    match refused_pass(rt, alloc, store) {
+        Some(Refusal::Rolling) => push_all(rt, store),
+        _ => Ok(()),
+    }
+}
+
+/// Why a pass without victims is refused: since a failover is open, or a pass is, or there are no victims.
+fn refused_pass<B: Naming, R: Wait>(
+    rt: &R,
+    alloc: Global,
+    store: &Store<MemoryFleet, B>,
+) -> Option<Refusal> {
+    let victims = Row::new(Vec::new(alloc));
+    store.turn(rt, CleanTurn::BeginClean(victims)).err()
+}
+
+/// Makes all of a pass that has begun. Answers the head that is in force then. A failover may end the pass, or leave
+/// replicas of its survivors to be sealed anew before another roll.
+fn finish_pass<B: Naming, R: Wait>(
+    rt: &R,
+    alloc: Global,
+    store: &Store<MemoryFleet, B>,
+) -> Result<u64, Refusal> {
     take_all(rt, store, Phase::Copies)?;
-    take_all(rt, store, Phase::Seals)?;
-    take_all(rt, store, Phase::Pushes)?;
-    let head = roll_all(rt, store)?;
-    take_all(rt, store, Phase::Frees)?;
-    Ok(head)
+    for _ in rt.forever() {
+        take_all(rt, store, Phase::Seals)?;
+        push_all(rt, store)?;
+        match refused_pass(rt, alloc, store) {
+            Some(Refusal::Pass(PassFault::PassOpen)) => roll_all(rt, store)?,
+            _ => {
+                take_all(rt, store, Phase::Frees)?;
+                return head(rt, store);
+            }
+        }
+    }
+    unreachable!()
 }

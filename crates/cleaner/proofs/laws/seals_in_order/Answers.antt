@@ -1,5 +1,5 @@
-use Rattle.cleaner.proofs.SealOrder.{seal_stays_within, sealed_is_all, seal_is_next, seal_adds_one}
+use Rattle.cleaner.proofs.Lacking.{lacking_is_one, none_is_lacking, seal_adds_one, copy_keeps_replicas}
 use Rattle.cleaner.proofs.laws.seals_in_order.Goals as goal
 
 pub returns : goal.returns
-returns c = record { within = seal_stays_within; all = sealed_is_all; next = seal_is_next; one = seal_adds_one }
+returns c = record { first = lacking_is_one; none = none_is_lacking; one = seal_adds_one; copy = copy_keeps_replicas }

@@ -1,5 +1,7 @@
 use Rattle.std.proofs.Common.{refl}
-use Rattle.driving.proofs.Heads.{fewer_left, one_more}
+use Rattle.master_state.specs.declared.step.Step.TheVariants.{Push}
+use Rattle.driving.proofs.Heads.{one_more}
+use Rattle.driving.proofs.Losses.{goes_lost, goes_ok, push_lowers}
 use Rattle.driving.proofs.MasterSteps.{open_push, spent_push}
 use Rattle.driving.proofs.pushing.push_all.Goals as goal
 
@@ -22,20 +24,24 @@ returns-in_default-refusal-clause-open g c = tt
 pub returns-in_default-refusal-clause-spent : goal.returns-in_default-refusal-clause-spent
 returns-in_default-refusal-clause-spent g c = spent_push _ _ _ c.in-Err.ensures.gives
 
-pub loop-refusal-preserved : goal.loop-refusal-preserved
-loop-refusal-preserved g c = (
+pub loop-refusal-preserved-in-Lost : goal.loop-refusal-preserved-in-Lost
+loop-refusal-preserved-in-Lost g c = (
   g.met.D.Driven.further _ _ _ c.loop-refusal.invariant.0 c.push.ensures.goes_on,
-  one_more _ _ _ _ c.in_default.field-0 c.in_default.is c.push.ensures.gives c.loop-refusal.invariant.1,
+  one_more _ _ _ (goes_lost Push _ _ _ c.in-Lost.field-0 c.in-Lost.is c.in-Err.ensures.gives)
+      c.loop-refusal.invariant.1,
 )
 
-pub loop-refusal-smaller : goal.loop-refusal-smaller
-loop-refusal-smaller g c = fewer_left _ _ _ c.in_default.field-0 c.in_default.is c.push.ensures.gives
+pub loop-refusal-smaller-in-Lost : goal.loop-refusal-smaller-in-Lost
+loop-refusal-smaller-in-Lost g c =
+    push_lowers _ _ (goes_lost Push _ _ _ c.in-Lost.field-0 c.in-Lost.is c.in-Err.ensures.gives)
 
 pub loop-refusal-preserved-in_default-3 : goal.loop-refusal-preserved-in_default-3
 loop-refusal-preserved-in_default-3 g c = (
   g.met.D.Driven.further _ _ _ c.loop-refusal.invariant.0 c.push.ensures.goes_on,
-  one_more _ _ _ _ c.in_default.field-0 c.in_default.is c.push.ensures.gives c.loop-refusal.invariant.1,
+  one_more _ _ _ (goes_ok Push _ _ _ c.in_default.field-0 c.in_default.is c.push.ensures.gives)
+      c.loop-refusal.invariant.1,
 )
 
 pub loop-refusal-smaller-in_default-3 : goal.loop-refusal-smaller-in_default-3
-loop-refusal-smaller-in_default-3 g c = fewer_left _ _ _ c.in_default.field-0 c.in_default.is c.push.ensures.gives
+loop-refusal-smaller-in_default-3 g c =
+    push_lowers _ _ (goes_ok Push _ _ _ c.in_default.field-0 c.in_default.is c.push.ensures.gives)

@@ -1,5 +1,7 @@
 use Rattle.failover_clean.proofs.LoadingFleets.{restored_holds_loading, load_holds_loading, ok_holds_loading}
 use Rattle.failover_clean.proofs.LoadingFleets.{loading_is_never_wrong, roll_holds_loading, end_holds_loading}
+use Rattle.failover_clean.proofs.LoadingFleets.{repair_holds_loading, repair_is_never_wrong, fault_fails_loading}
+use Rattle.failover_clean.proofs.LoadingFleets.{mend_holds_loading}
 use Rattle.failover_clean.proofs.LoadingFleets.{same_holds_loading, others_leave_loading, finished_holds_all}
 use Rattle.failover_clean.proofs.fleets.loading_holds.Goals as goal
 
@@ -9,6 +11,10 @@ returns c = record {
   loads = load_holds_loading;
   ok = ok_holds_loading;
   right = loading_is_never_wrong;
+  repairs = repair_holds_loading;
+  right_repairs = repair_is_never_wrong;
+  fails = fault_fails_loading;
+  mends = mend_holds_loading;
   rolls = roll_holds_loading;
   ends = end_holds_loading;
   same = same_holds_loading;

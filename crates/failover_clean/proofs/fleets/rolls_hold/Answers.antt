@@ -1,4 +1,5 @@
 use Rattle.failover_clean.proofs.FleetSteps.{roll_holds_all, commit_holds_all, end_holds_all, finish_holds_all}
+use Rattle.failover_clean.proofs.FleetSteps.{mend_holds_all}
 use Rattle.failover_clean.proofs.fleets.rolls_hold.Goals as goal
 
 pub returns : goal.returns
@@ -7,4 +8,5 @@ returns c = record {
   commits = commit_holds_all;
   ends = end_holds_all;
   finishes = finish_holds_all;
+  mends = mend_holds_all;
 }

@@ -1,7 +1,9 @@
 use Rattle.failover_clean.proofs.LoadedObjects.{load_keeps}
 use Rattle.failover_clean.proofs.Loading.{same_is_loading, finish_is_intact}
 use Rattle.failover_clean.proofs.LoadingBegins.{restored_is_loading}
+use Rattle.failover_clean.proofs.LoadingFails.{loading_fails, loading_mends}
 use Rattle.failover_clean.proofs.LoadingOps.{loading_op_keeps, loading_op_fits}
+use Rattle.failover_clean.proofs.LoadingRepairs.{loading_repair_keeps, loading_repair_fits}
 use Rattle.failover_clean.proofs.LoadingRolls.{loading_roll_keeps, loading_end_keeps}
 use Rattle.failover_clean.proofs.laws.loading_keeps.Goals as goal
 
@@ -11,6 +13,10 @@ returns c = record {
   loads = load_keeps;
   ops = loading_op_keeps;
   fits = loading_op_fits;
+  repairs = loading_repair_keeps;
+  repairs_fit = loading_repair_fits;
+  fails = loading_fails;
+  mends = loading_mends;
   rolls = loading_roll_keeps;
   ends = loading_end_keeps;
   same = same_is_loading;

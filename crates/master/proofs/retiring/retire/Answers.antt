@@ -29,7 +29,7 @@ returns-in-Fault-clause-kept g c =
     let d : MasterData = c.args.core.now in
     let f : FleetState = g.F.Fleet.state c.args.fleet.now in
     let after : FleetState = g.F.Fleet.state c.retire.new.self in
-    subst (λ (e : MasterData). IsWellKept e after) (sym c.fail.ensures.failed)
+    subst (λ (e : MasterData). IsWellKept e after) (sym c.halt.ensures.halted)
     (halted_kept d after (retired_kept d f after c.retire.result c.requires.kept
     (of_master f after c.master.result d.config.master c.retire.result c.master.ensures c.retire.ensures.retires)))
 

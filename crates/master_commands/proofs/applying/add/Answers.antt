@@ -94,40 +94,22 @@ module _ (c : goal.After-push) where
       there.1 moved head
 
   abbrev left : MasterData
-  left = record {
-    config = d.config;
+  left = record d {
     head = c.enact.new.head;
-    closed = d.closed;
-    next = d.next;
     index = c.enact.new.index.held;
     safe = c.safe_after-core-inside.result;
     history = c.push.new.self.records;
-    pass = d.pass;
-    waiting = d.waiting;
-    freed = d.freed;
-    is_halted = d.is_halted;
-    origin = d.origin;
-    ledger = d.ledger;
   }
 
   abbrev with_reply : Reply → List Record
   with_reply r = d.history ++ record { seat = c.args.accepted.now.seat; command = command; reply = r } ∷ []
 
   knows : e ≡ left
-  knows = λ i. record {
-    config = d.config;
+  knows = λ i. record d {
     head = sym c.in_ok-enact.ensures.head i;
-    closed = d.closed;
-    next = d.next;
     index = c.enact.new.index.held;
     safe = sym c.safe_after-core-inside.ensures i;
     history = sym (items ∙ ap with_reply reply) i;
-    pass = d.pass;
-    waiting = d.waiting;
-    freed = d.freed;
-    is_halted = d.is_halted;
-    origin = d.origin;
-    ledger = d.ledger;
   }
 
   core : IsCore left

@@ -5,8 +5,7 @@ use Rattle.entry.specs.Text.{text_of}
 use Rattle.versioned_map.specs.declared.command.Command.{Command}
 use Rattle.history.specs.View.{shown_command}
 use Rattle.master_commands.specs.declared.change.Change.{Change}
-use Rattle.log_head.specs.Head.{is_open}
-use Rattle.master_state.specs.Budget.{may_roll, segments_for}
+use Rattle.master_state.specs.Budget.{is_working, may_roll, segments_for}
 use Rattle.master_state.specs.Causes.{dead_segment, has_room, unit_now, is_empty}
 use Rattle.master_commands.specs.Change.{is_nothing, unit_of_change, IsChangeNow}
 use Rattle.master_state.specs.Data.{MasterData}
@@ -26,13 +25,12 @@ returns-then-is_nothing c = λ is.
     sym (refused_nothing d k (unit_now d k) (empty d k c.args.change.now c.is_nothing.result true is
     c.is_nothing.ensures c.if-is_nothing.true))
 
-pub returns-then-not-is_open : goal.returns-then-not-is_open
-returns-then-not-is_open c = λ is.
+pub returns-then-not-is_working : goal.returns-then-not-is_working
+returns-then-not-is_working c = λ is.
     let d = c.args.core.now in
     let k = shown_command c.args.command.now in
     let some = empty d k c.args.change.now c.is_nothing.result false is c.is_nothing.ensures c.if-is_nothing.false in
-    let closed : is_open d.head ≡ false =
-    ap (λ (m : MasterData). is_open m.head) (sym c.core.view_is) ∙ sym c.is_open.ensures.open ∙ c.if-not-is_open.true in
+    let closed : is_working d ≡ false = sym c.is_working.ensures ∙ c.if-not-is_working.true in
     sym (refused_closed d k (unit_now d k) some closed)
 
 -- there is room just if the image with the unit's bytes stays within the segment
@@ -49,9 +47,7 @@ returns-then-fits c = λ is.
     let d = c.args.core.now in
     let k = shown_command c.args.command.now in
     let some = empty d k c.args.change.now c.is_nothing.result false is c.is_nothing.ensures c.if-is_nothing.false in
-    let opened : is_open d.head ≡ true =
-    ap (λ (m : MasterData). is_open m.head) (sym c.core.view_is) ∙ sym c.is_open.ensures.open
-    ∙ c.if-not-is_open.false in
+    let opened : is_working d ≡ true = sym c.is_working.ensures ∙ c.if-not-is_working.false in
     let room = room_is d k c.args.change.now c.unit_len.result true is c.unit_len.ensures.len
     (ap (λ (m : MasterData). nat_le (length (text_of m.head.image) + c.unit_len.result) m.config.segment)
     (sym c.core.view_is)
@@ -63,9 +59,7 @@ returns-then-may_roll c = λ is.
     let d = c.args.core.now in
     let k = shown_command c.args.command.now in
     let some = empty d k c.args.change.now c.is_nothing.result false is c.is_nothing.ensures c.if-is_nothing.false in
-    let opened : is_open d.head ≡ true =
-    ap (λ (m : MasterData). is_open m.head) (sym c.core.view_is) ∙ sym c.is_open.ensures.open
-    ∙ c.if-not-is_open.false in
+    let opened : is_working d ≡ true = sym c.is_working.ensures ∙ c.if-not-is_working.false in
     let full = room_is d k c.args.change.now c.unit_len.result false is c.unit_len.ensures.len
     (ap (λ (m : MasterData). nat_le (length (text_of m.head.image) + c.unit_len.result) m.config.segment)
     (sym c.core.view_is)
@@ -79,9 +73,7 @@ returns c = λ is.
     let d = c.args.core.now in
     let k = shown_command c.args.command.now in
     let some = empty d k c.args.change.now c.is_nothing.result false is c.is_nothing.ensures c.if-is_nothing.false in
-    let opened : is_open d.head ≡ true =
-    ap (λ (m : MasterData). is_open m.head) (sym c.core.view_is) ∙ sym c.is_open.ensures.open
-    ∙ c.if-not-is_open.false in
+    let opened : is_working d ≡ true = sym c.is_working.ensures ∙ c.if-not-is_working.false in
     let full = room_is d k c.args.change.now c.unit_len.result false is c.unit_len.ensures.len
     (ap (λ (m : MasterData). nat_le (length (text_of m.head.image) + c.unit_len.result) m.config.segment)
     (sym c.core.view_is)

@@ -8,5 +8,5 @@ returns c = record {
     record { history = is.history; pass = is.pass; waiting = is.waiting },
     λ push. pushed_bare d is push,
   );
-  whole = λ d core pushed. (pushed_calm d core pushed, pushed_whole d core pushed);
+  whole = λ d core done. (pushed_calm d core done, pushed_whole d core done);
 }

@@ -1,7 +1,6 @@
-use Rattle.std.proofs.Common.{◌≡◌, ℕ, ◌+◌, ◌∷◌, List, length, drop, sym, ap, ◌∙◌, arith}
+use Rattle.std.proofs.Common.{◌≡◌, ◌+◌, ◌∷◌, List, length, drop, sym, ap, ◌∙◌, arith}
 use Rattle.std.proofs.lemmas.List.{length-append, drop_more}
 use Rattle.images.specs.Image.{Image}
-use Rattle.log_model.specs.Ids.{has}
 use Rattle.master_state.specs.Images.{leaving}
 use Rattle.master_space.proofs.Ended.{rising_ids, leaving_here}
 use Rattle.master_space.proofs.Leaving.{leaving_few}
@@ -18,7 +17,7 @@ push_reserved-requires c =
     drop_more cs i item c.loop-image-test.true ∙ ap (λ (x : Image). x ∷ drop (i + 1) cs) (sym c.image-item.is) in
     let here = ap (λ (xs : List Image). length (leaving vs xs)) next
     ∙ ap length (leaving_here vs item (drop (i + 1) cs)
-    (ap (λ (n : ℕ). has vs n) (sym c.id-id.ensures) ∙ sym c.is_victim.ensures ∙ c.if-is_victim.true)) in
+    (sym c.leaves.ensures ∙ c.if-leaves.true)) in
     let sizes = ap length c.loop-image.invariant.added in
     let before = length-append c.loop-image.waiting.items (leaving vs (drop i cs)) in
     let after = length-append c.args.waiting.now.items (leaving vs cs) in

@@ -6,7 +6,8 @@ use Rattle.master_state.specs.contracts.state.Core.{the_view}
 use Rattle.master_state.specs.Budget.{may_clean}
 use Rattle.master_state.specs.Causes.{survivors_for, victims_fault}
 use Rattle.master_state.specs.Data.{MasterData}
-use Rattle.master_space.proofs.FreeVictims.{are_free, at_most_four, full_refused, spent_refused, none_refused}
+use Rattle.master_space.proofs.FreeVictims.{are_free, at_most_four, more_than_four}
+use Rattle.master_space.proofs.FreeVictims.{much_refused, full_refused, spent_refused, none_refused}
 use Rattle.master_space.proofs.PassIds.{victims_there}
 use Rattle.master_space.proofs.victims.admit_space.Goals as goal
 use Rattle.master_space.proofs.victims.admit_space.Goals.{After-may_clean}
@@ -16,6 +17,18 @@ fit-requires-clause-there c =
     let d = the_view c.core.inside in
     victims_there d c.core.invariant.2 c.args.victims.now (are_free d c.args.victims.now
     (ap (λ (m : MasterData). victims_fault m c.args.victims.now) c.core.view_is ∙ c.requires))
+
+pub returns-in_default-clause-refused : goal.returns-in_default-clause-refused
+returns-in_default-clause-refused c =
+    let d : MasterData = the_view c.core.inside in
+    let victims : List ℕ = c.args.victims.now in
+    let many = more_than_four c.fit.result
+    (survivors_over d.config.segment (ids_in d.closed c.id.result c.opening_id-new.result) d.index
+    (images_in d.closed) victims)
+    (survivors_for d victims) c.in_default.is c.fit.ensures.count
+    (λ i. survivors_over d.config.segment (ids_in d.closed (c.id.ensures.id i) (c.opening_id-new.ensures i)) d.index
+    (images_in d.closed) victims) in
+    rw (← c.core.view_is) (much_refused d victims many)
 
 module _ (c : After-may_clean) where
   abbrev d : MasterData

@@ -4,7 +4,7 @@ use Rattle.std.proofs.lemmas.Bool.Decides.{nat_tests}
 use Rattle.std.proofs.lemmas.Result.{err_from_is_err_and}
 use Rattle.std.specs.Result.{result_err}
 use Rattle.master_state.specs.Data.{MasterData}
-use Rattle.master_space.proofs.FreeVictims.{next_fault, found_fault}
+use Rattle.master_space.proofs.FreeVictims.{next_fault, found_fault, no_fault_left}
 use Rattle.master_space.proofs.victims.check_victims.Goals as goal
 
 pub loop-at-preserved : goal.loop-at-preserved
@@ -23,3 +23,14 @@ returns-in_err-check_victim c =
     let few : nat_lt 32 (length c.args.victims.now) ≡ false =
     grind (arith, nat_tests, c.if-victims-gt-MAX_VICTIMS.false) in
     rw (failed.1, failed.2, open_now, some, few) (sym fault)
+
+pub returns : goal.returns
+returns c =
+    let none = no_fault_left c.args.core.now c.args.victims.now c.loop-at.at c.loop-at-test.false
+    c.loop-at.invariant in
+    let open_now : is_some c.args.core.now.pass ≡ false =
+    sym (ap (λ (d : MasterData). is_some d.pass) c.core.view_is) ∙ sym c.is_some.ensures ∙ c.if-is_some.false in
+    let some : (length c.args.victims.now == 0) ≡ false = sym c.is_empty.ensures ∙ c.if-is_empty.false in
+    let few : nat_lt 32 (length c.args.victims.now) ≡ false =
+    grind (arith, nat_tests, c.if-victims-gt-MAX_VICTIMS.false) in
+    rw (open_now, some, few) (sym none)

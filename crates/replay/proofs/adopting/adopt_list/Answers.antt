@@ -1,6 +1,6 @@
 use Rattle.std.proofs.Common.{ap, refl}
 use Rattle.master.specs.World.{world}
-use Rattle.replay.proofs.AdoptedList.{adopted_is, adopts, adopted_from, stops_spent}
+use Rattle.replay.proofs.AdoptedList.{adopted_is, adopts, all_done, adopted_from, stops_spent}
 use Rattle.replay.proofs.LoadList.{new_list}
 use Rattle.replay.proofs.LoadSteps.{all_keeps, stops_adopts}
 use Rattle.replay.proofs.adopting.adopt_list.Goals as goal
@@ -9,6 +9,13 @@ pub load_all-requires : goal.load_all-requires
 load_all-requires g c =
     new_list c.args.config c.args.rebuilt.now c.in-Ok.loading.knows c.args.rebuilt.now.objects
     c.in-Ok.ensures.made.0 refl
+
+pub unreachable-requires : goal.unreachable-requires
+unreachable-requires g c =
+    let now = world g.F.Fleet.state c.load_all.new.loading in
+    let done = all_done c.args.rebuilt.now.objects (world g.F.Fleet.state c.in-Ok.loading) now
+    c.in-Ok-load_all.ensures.loaded in
+    let lags = c.in-Err-finish.ensures.lags in cc
 
 pub returns-in-Ok-finish-clause-adopted : goal.returns-in-Ok-finish-clause-adopted
 returns-in-Ok-finish-clause-adopted g c =

@@ -2,8 +2,10 @@ use Rattle.std.proofs.Common.{◌<◌, ap, refl, subst}
 use Rattle.std.proofs.lemmas.Result.{err_from_is_err_and}
 use Rattle.entry.specs.View.{shown_object}
 use Rattle.master.specs.World.{world}
-use Rattle.replay.proofs.LoadList.{new_still, load_not_nothing, room_kept, one_loaded, one_declined, more_room, no_room}
-use Rattle.replay.proofs.LoadRoom.{ops_left, rolled_fewer}
+use Rattle.driving.proofs.Losses.{left_to_push}
+use Rattle.replay.proofs.LoadList.{new_still, load_not_nothing, load_same, room_kept, one_loaded, one_declined}
+use Rattle.replay.proofs.LoadList.{more_room, no_room}
+use Rattle.replay.proofs.LoadRoom.{rolled_fewer}
 use Rattle.replay.proofs.adopting.load_one.Goals as goal
 
 pub load_object-requires : goal.load_object-requires
@@ -33,7 +35,9 @@ loop-refusal-smaller g c =
     let now = world g.F.Fleet.state c.loop-refusal.loading in
     let mid = world g.F.Fleet.state c.load_object.new.self in
     let after = world g.F.Fleet.state c.roll_all.new.master in
-    subst (λ f. ops_left after.fleet < ops_left f) (ap g.F.Fleet.state c.in-Err.ensures.fleet)
+    subst (λ w. left_to_push after < left_to_push w)
+    (load_same (shown_object c.args.object.now) now mid c.in-Err.refusal c.in-Err.ensures.refused
+    (ap g.F.Fleet.state c.in-Err.ensures.fleet))
     (rolled_fewer after.knows.head.id mid after c.in_ok-roll_all-in-Rolling.ensures.rolled)
 
 pub returns-in_err-roll_all-in-Rolling-clause-stopped : goal.returns-in_err-roll_all-in-Rolling-clause-stopped

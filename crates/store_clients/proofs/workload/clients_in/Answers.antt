@@ -1,9 +1,9 @@
 use Rattle.std.proofs.Common.{ℕ, arith, ap, refl, sym, subst}
 use Rattle.store_seat.specs.Made.{Made}
-use Rattle.locked_log.specs.Made.{IsMade}
+use Rattle.locked_log.specs.Made.{IsMade, made_now}
 use Rattle.locked_log.specs.Sharing.{AreOfSeats, AreSeatsAfter}
 use Rattle.locked_log.proofs.Lasting.{made_at_first}
-use Rattle.master.specs.World.{world}
+use Rattle.master.specs.World.{MasterValue, world}
 use Rattle.store_clients.proofs.Counts.{accepted, fits}
 use Rattle.store_clients.proofs.workload.clients_in.Goals as goal
 
@@ -11,6 +11,13 @@ pub share-requires-clause-made : goal.share-requires-clause-made
 share-requires-clause-made g c =
     let w = world g.F.Fleet.state c.args.master in
     subst (λ (m : Made). IsMade m w) (sym c.requires.made) (made_at_first 64 w)
+
+-- a store that isn't made hands back the master as it was
+pub returns-in-Err-clause-made : goal.returns-in-Err-clause-made
+returns-in-Err-clause-made g c =
+    let w = world g.F.Fleet.state c.args.master in
+    subst (λ (m : MasterValue _). IsMade (made_now 64 w) (world g.F.Fleet.state m)) (sym c.in-Err.ensures)
+    (made_at_first 64 w)
 
 pub overflow_mul-result-in-Ok-outcome : goal.overflow_mul-result-in-Ok-outcome
 overflow_mul-result-in-Ok-outcome g c =

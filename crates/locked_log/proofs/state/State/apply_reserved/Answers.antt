@@ -101,7 +101,7 @@ done-missed g c =
     let what = shown_record c.in-Some.what in
     missed g.F.Fleet.state _ c.args.self.now c.self.view_is c.args.seat.now c.number.result c.number.ensures
     c.args.command c.in-Ok.applied.0 c.in-Ok.applied.1 _ g.B.Naming.made what
-    c.self.invariant known c.if-self.false c.in-Ok.ensures.gives c.apply_command.ensures.keeps
+    c.self.invariant c.show_kept.ensures known c.if-self.false c.in-Ok.ensures.gives c.apply_command.ensures.keeps
     c.apply_command.ensures.valid
     (sym (get_or_from_slice_get _ c.in-Ok.applied.0 what what (sym (c.in-Some.ensures
     ∙ ap (λ (h : List Record). slice_get h c.in-Ok.applied.0) c.history.ensures))))
@@ -136,7 +136,7 @@ done-took g c =
     let what = shown_record c.in-Some.what in
     took g.F.Fleet.state _ c.args.self.now c.self.view_is c.args.seat.now c.number.result c.number.ensures
     c.args.command c.in-Ok.applied.0 c.in-Ok.applied.1 _ g.B.Naming.made what
-    c.self.invariant known c.if-self.false c.in-Ok.ensures.gives c.apply_command.ensures.keeps
+    c.self.invariant c.show_kept.ensures known c.if-self.false c.in-Ok.ensures.gives c.apply_command.ensures.keeps
     c.apply_command.ensures.valid
     (sym (get_or_from_slice_get _ c.in-Ok.applied.0 what what (sym (c.in-Some.ensures
     ∙ ap (λ (h : List Record). slice_get h c.in-Ok.applied.0) c.history.ensures))))

@@ -7,6 +7,7 @@ use Rattle.master_state.specs.declared.step.Step.TheVariants.{Free}
 use Rattle.master_state.specs.declared.step.StepAnswer.{StepAnswer}
 use Rattle.master.specs.Steps.{Accepts, Declines, Steps}
 use Rattle.master.specs.World.{World, world}
+use Rattle.master.proofs.GoingOn.{step_goes_on}
 use Rattle.master.proofs.Keeping.{steps_keep}
 use Rattle.master.proofs.master.Master.step.Goals.{in-Apply, in-Push, in-BeginRoll, in-Compact, in-BeginClean, in-Copy}
 use Rattle.master.proofs.master.Master.step.Goals.{in-Seal, in-Free}
@@ -55,3 +56,8 @@ returns-clause-keeps g c =
     steps_keep (world g.F.Fleet.state c.args.self.now) (world g.F.Fleet.state c.match-step.self) c.args.step
     c.match-step.outcome
     c.show_kept.ensures (returns-clause-gives g c)
+
+pub returns-clause-goes_on : goal.returns-clause-goes_on
+returns-clause-goes_on g c =
+    step_goes_on (world g.F.Fleet.state c.args.self.now) c.args.step c.match-step.outcome
+    (world g.F.Fleet.state c.match-step.self) c.show_kept.ensures (returns-clause-gives g c)

@@ -4,7 +4,7 @@ use Rattle.log_head.specs.Head.{HeadValue, IsHeadValue}
 use Rattle.log_head.specs.Steps.{settled}
 use Rattle.master_state.specs.contracts.state.Core.{the_view}
 use Rattle.master_state.specs.declared.ledger.Posting.TheVariants as posting
-use Rattle.master_state.specs.Causes.{is_pushed}
+use Rattle.master_state.specs.Causes.{is_done}
 use Rattle.master_state.specs.Data.{MasterData}
 use Rattle.master_state.specs.Invariant.{IsCore}
 use Rattle.master_state.specs.Ledger.{posted}
@@ -20,8 +20,8 @@ module _ (c : After-begin_history) where
   bare : IsBare d
   bare = subst IsBare (sym c.self.view_is) c.requires.bare
 
-  pushed : is_pushed d.head ≡ true
-  pushed = subst (λ (m : MasterData). is_pushed m.head ≡ true) (sym c.self.view_is) c.requires.done
+  done : is_done d ≡ true
+  done = subst (λ (m : MasterData). is_done m ≡ true) (sym c.self.view_is) c.requires.done
 
   head : IsHeadValue (settled d.head)
   head = subst IsHeadValue c.begin_history.ensures.settled c.begin_history.ensures.valid
@@ -33,12 +33,12 @@ module _ (c : After-begin_history) where
   left_is = ap (λ (h : HeadValue). record d { head = h }) (sym c.begin_history.ensures.settled)
 
   core : IsCore left
-  core = subst IsCore left_is (settled_core d c.self.invariant.2 pushed bare head)
+  core = subst IsCore left_is (settled_core d c.self.invariant.2 done bare head)
 
   settles : Settles d (posted left posting.Settled)
   settles =
       subst (λ (m : MasterData). Settles d (posted m posting.Settled)) left_is
-      (record { log = settled_log d c.self.invariant.2 pushed bare head; rest = refl })
+      (record { log = settled_log d c.self.invariant.2 done bare head; rest = refl })
 
   roll_then : c.begin_history.new.self.roll ≡ d.head.roll
   roll_then = ap (λ (h : HeadValue). h.roll) c.begin_history.ensures.settled

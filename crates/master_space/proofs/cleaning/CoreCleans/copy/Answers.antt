@@ -1,22 +1,24 @@
 use Rattle.std.proofs.Common.{◌≡◌, ◌+◌, ◌<◌, ◌≤◌, true, false, List, ℕ, length, refl, sym, ap, subst, ◌∙◌, arith}
 use Rattle.std.specs.Prelude.{Option, Some, None, IfSome, IsSome}
 use Rattle.std.specs.Vec.{vec_capacity}
+use Rattle.std.specs.Result.{result_err}
 use Rattle.cleaner.specs.declared.pass.Pass.{Pass}
 use Rattle.cleaner.specs.Passes.{ids_in, is_at_end, CopiesOne}
 use Rattle.images.specs.Images.{ImagesValue}
 use Rattle.master_state.specs.contracts.state.Core.{the_view}
-use Rattle.master_state.specs.Causes.{copy_refusal}
+use Rattle.master_state.specs.Causes.{copy_refusal, step_refusal}
 use Rattle.master_state.specs.Data.{MasterData}
 use Rattle.master_state.specs.Invariant.{IsCore, AreImagesOf}
 use Rattle.master_state.specs.Log.{log_set_ids}
+use Rattle.master_space.proofs.Calm.{calm_parts}
 use Rattle.master_space.proofs.CopiedCore.{copied_core}
 use Rattle.master_space.proofs.CopiedImages.{length_same}
 use Rattle.master_space.proofs.cleaning.CoreCleans.copy.Goals as goal
 
 -- no test refused it
-no_refusal : (d : MasterData) (p : Pass) → d.is_halted ≡ false → d.pass ≡ Some p → is_at_end p ≡ false
+no_refusal : (d : MasterData) (p : Pass) → step_refusal d ≡ None → d.pass ≡ Some p → is_at_end p ≡ false
     → copy_refusal d ≡ None
-no_refusal d p running opened more = rw (running, opened, more) refl
+no_refusal d p step opened more = rw (step, opened, more) refl
 
 module _ (c : goal.After-copy_answer) where
   abbrev d : MasterData
@@ -30,6 +32,9 @@ module _ (c : goal.After-copy_answer) where
 
   opened : d.pass ≡ Some p
   opened = c.in-Some.is
+
+  step : step_refusal d ≡ None
+  step = ap step_refusal c.self.view_is ∙ sym c.admit.ensures ∙ ap result_err c.in_ok-admit.was
 
   one : CopiesOne d.config.segment (log_set_ids d) p d.closed d.index c.copy_one-copied.result q
       c.copy_one-copied.new.images.images c.copy_one-copied.new.index.held
@@ -47,7 +52,8 @@ module _ (c : goal.After-copy_answer) where
   valid_then =
       copied_core d c.self.invariant.2 p q c.copy_one-copied.result c.copy_one-copied.new.images.images
       c.copy_one-copied.new.index.held opened
-      (sym c.is_at_end.ensures ∙ c.if-is_at_end.false) c.show_valid.ensures.rising one c.copy_one-copied.ensures.pass
+      (sym c.is_at_end.ensures ∙ c.if-is_at_end.false) c.show_valid.ensures.rising (calm_parts d step).1 one
+      c.copy_one-copied.ensures.pass
 
   room_then : IsSome d.head.roll → length c.copy_one-copied.new.images.images < c.copy_one-copied.new.images.room
   room_then some =
@@ -77,7 +83,7 @@ returns-clause-valid c = valid_then c
 
 pub returns-clause-copied : goal.returns-clause-copied
 returns-clause-copied c = rw (← c.self.view_is) (record {
-  passed = no_refusal (d c) (p c) c.if-self.false (opened c) (sym c.is_at_end.ensures ∙ c.if-is_at_end.false);
+  passed = no_refusal (d c) (p c) (step c) (opened c) (sym c.is_at_end.ensures ∙ c.if-is_at_end.false);
   pass = p c;
   after = q c;
   copied = c.copy_one-copied.result;

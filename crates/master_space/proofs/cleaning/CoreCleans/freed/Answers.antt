@@ -1,58 +1,37 @@
-use Rattle.std.proofs.Common.{◌≡◌, ℕ, ◌+◌, ◌<◌, ◌≤◌, true, length, drop, vec_capacity, sym, ap, subst, ◌∙◌, arith}
-use Rattle.std.proofs.Common.{length-drop}
-use Rattle.std.specs.Prelude.{IfSome}
+use Rattle.std.proofs.Common.{◌≡◌, ℕ, ◌+◌, ◌≤◌, true, length, vec_capacity, sym, ap, subst, arith}
+use Rattle.std.specs.Prelude.{List, IfSome}
+use Rattle.master_state.specs.declared.waiting.Waiting.{Waiting}
 use Rattle.master_state.specs.contracts.state.Core.{the_view}
 use Rattle.master_state.specs.Data.{MasterData}
-use Rattle.master_space.proofs.FreedCore.{freed_core, freed_last, freed_one, room_left}
+use Rattle.master_state.specs.Invariant.{IsCore}
+use Rattle.master_state.specs.Steps.{freed_one}
+use Rattle.master_space.proofs.FreedCore.{freed_core, freed_valid, freed_less, room_left}
 use Rattle.master_space.proofs.cleaning.CoreCleans.freed.Goals as goal
+
+module _ (c : goal.After-free_one) where
+  abbrev d : MasterData
+  d = the_view c.self.inside
+
+  valid_then : IsCore (record (the_view c.self.inside) { waiting = c.free_one.new.waiting.items })
+  valid_then =
+      subst (λ (ws : List Waiting). IsCore (record (the_view c.self.inside) { waiting = ws }))
+      (sym c.free_one.ensures.items)
+      (freed_core d c.self.invariant.2 (freed_one d.waiting)
+      (freed_valid d.config.replicas d.waiting c.self.invariant.2.waiting))
 
 pub invariant_of-self : goal.invariant_of-self
 invariant_of-self c =
-    let core = c.self.invariant.2 in
-    let some : 0 < c.self.inside.config.replicas = (let few = core.freed in omega arith) in (
+    let fewer = freed_less c.self.inside.waiting.items in
+    let now = ap length c.free_one.ensures.items in (
       c.self.invariant.0,
       c.self.invariant.1,
-      freed_core (the_view c.self.inside) core c.remove.new.self.items 0 some,
+      valid_then c,
       subst (λ (n : ℕ). IfSome c.self.inside.pass (λ p. p.is_committing ≡ true
-          → length c.remove.new.self.items + length p.victims ≤ n))
-          (sym c.remove.ensures.capacity)
-          (room_left c.self.inside.pass (length c.self.inside.waiting.items) (length c.remove.new.self.items)
-          (vec_capacity c.self.inside.waiting)
-          (let fewer = ap length c.remove.ensures.items in let dropped = length-drop 1 c.self.inside.waiting.items in
-          omega arith) c.self.invariant.3),
+          → length c.free_one.new.waiting.items + length p.victims ≤ n))
+          (sym c.free_one.ensures.capacity)
+          (room_left c.self.inside.pass (length c.self.inside.waiting.items) (length c.free_one.new.waiting.items)
+          (vec_capacity c.self.inside.waiting) (omega arith) c.self.invariant.3),
     )
 
-pub invariant_of-self-else-self : goal.invariant_of-self-else-self
-invariant_of-self-else-self c =
-    let core = c.self.invariant.2 in
-    let few : c.self.inside.freed + 1 < c.self.inside.config.replicas =
-    (let less = core.freed in let other = c.if-self.false in omega (arith, other)) in (
-      c.self.invariant.0,
-      c.self.invariant.1,
-      freed_core (the_view c.self.inside) core c.self.inside.waiting.items (c.self.inside.freed + 1) few,
-      c.self.invariant.3,
-    )
-
-pub returns-then-self-clause-valid : goal.returns-then-self-clause-valid
-returns-then-self-clause-valid c =
-    let core = c.self.invariant.2 in
-    let some : 0 < c.self.inside.config.replicas = (let few = core.freed in omega arith) in
-    freed_core (the_view c.self.inside) core c.remove.new.self.items 0 some
-
-pub returns-else-self-clause-valid : goal.returns-else-self-clause-valid
-returns-else-self-clause-valid c =
-    let core = c.self.invariant.2 in
-    let few : c.self.inside.freed + 1 < c.self.inside.config.replicas =
-    (let less = core.freed in let other = c.if-self.false in omega (arith, other)) in
-    freed_core (the_view c.self.inside) core c.self.inside.waiting.items (c.self.inside.freed + 1) few
-
-pub returns-then-self-clause-freed : goal.returns-then-self-clause-freed
-returns-then-self-clause-freed c =
-    let d : MasterData = the_view c.self.inside in
-    let left : record d { waiting = c.remove.new.self.items; freed = 0 }
-    ≡ record d { waiting = drop 1 d.waiting; freed = 0 } =
-    λ i. record d { waiting = c.remove.ensures.items i; freed = 0 } in
-    rw (← c.self.view_is) (left ∙ sym (freed_last d c.if-self.true))
-
-pub returns-else-self-clause-freed : goal.returns-else-self-clause-freed
-returns-else-self-clause-freed c = rw (← c.self.view_is) (sym (freed_one (the_view c.self.inside) c.if-self.false))
+pub returns-clause-valid : goal.returns-clause-valid
+returns-clause-valid c = valid_then c

@@ -1,34 +1,46 @@
-use Rattle.std.proofs.Common.{◌≡◌, true, sym, ap, subst, ◌∙◌}
-use Rattle.std.specs.Prelude.{Some, IsSome}
-use Rattle.cleaner.specs.declared.pass.Pass.{Pass}
+use Rattle.std.proofs.Common.{ℕ, ◌<◌, length, sym, ap, subst, ◌∙◌}
+use Rattle.std.specs.Prelude.{IsSome}
+use Rattle.std.proofs.lemmas.List.{length-map}
+use Rattle.images.specs.Images.{ImagesValue}
 use Rattle.master_state.specs.contracts.state.Core.{the_view}
 use Rattle.master_state.specs.Data.{MasterData}
-use Rattle.master_state.specs.Invariant.{IsCore}
+use Rattle.master_state.specs.Invariant.{IsCore, AreImagesOf}
 use Rattle.master_state.specs.Waits.{next_seal}
-use Rattle.master_space.proofs.SealedCore.{MaySealNext, may_seal, not_committing, sealed_core}
+use Rattle.master_space.proofs.SealedCore.{SealsNext, seals_next, few_before, sealed_core}
 use Rattle.master_space.proofs.cleaning.CoreCleans.sealed.Goals as goal
 
-module _ (c : goal.After-seal_taken) where
+module _ (c : goal.After-add_replica) where
   abbrev d : MasterData
   d = the_view c.self.inside
 
-  abbrev p : Pass
-  p = c.in-Some.pass
+  next : SealsNext d c.in-Some.survivor c.in-Some.field-0-1
+  next = seals_next d c.in-Some.survivor c.in-Some.field-0-1
+      (ap next_seal c.self.view_is ∙ sym c.to_seal.ensures.next ∙ c.in-Some.is)
 
-  may : MaySealNext p
-  may = may_seal d p c.in-Some.is (subst (λ (m : MasterData). IsSome (next_seal m)) (sym c.self.view_is) c.requires)
-
-  valid_then : IsCore (record d { pass = Some c.seal_taken.new.self })
+  valid_then : IsCore (record d { closed = c.add_replica.new.self.images })
   valid_then =
-      subst (λ (z : Pass). IsCore (record d { pass = Some z })) (sym c.seal_taken.ensures.next)
-      (sealed_core d c.self.invariant.2 p c.in-Some.is may)
+      subst (λ (v : ImagesValue). IsCore (record d { closed = v.images })) (sym c.add_replica.ensures)
+      (sealed_core d c.self.invariant.2 next.pass next.opened c.in-Some.survivor c.in-Some.field-0-1 next.next)
 
-  never : c.seal_taken.new.self.is_committing ≡ true → ⊥
-  never commits = not_committing d c.self.invariant.2 p c.in-Some.is may
-      (ap (λ (z : Pass). z.is_committing) (sym c.seal_taken.ensures.next) ∙ commits)
+  room_then : IsSome d.head.roll → length c.add_replica.new.self.images < c.add_replica.new.self.room
+  room_then some =
+      subst (λ (v : ImagesValue). length v.images < v.room) (sym c.add_replica.ensures)
+      (subst (λ (n : ℕ). n < c.self.inside.closed.room) (sym (length-map d.closed _)) (c.self.invariant.0 some))
+
+  sizes_then : AreImagesOf d.config c.add_replica.new.self
+  sizes_then = (let own = c.self.invariant.1 in
+      subst (AreImagesOf d.config) (sym c.add_replica.ensures)
+      (record { segment = own.segment; seglet = own.seglet; seglets = own.seglets }))
+
+pub add_replica-requires : goal.add_replica-requires
+add_replica-requires c =
+    let d : MasterData = the_view c.self.inside in
+    let next = seals_next d c.in-Some.survivor c.in-Some.field-0-1
+    (ap next_seal c.self.view_is ∙ sym c.to_seal.ensures.next ∙ c.in-Some.is) in
+    few_before d c.self.invariant.2 next.pass next.opened c.in-Some.survivor c.in-Some.field-0-1 next.next
 
 pub invariant_of-self : goal.invariant_of-self
-invariant_of-self c = (c.self.invariant.0, c.self.invariant.1, valid_then c, λ commits. absurd (never c commits))
+invariant_of-self c = (λ some. room_then c some, sizes_then c, valid_then c, c.self.invariant.3)
 
 pub returns-clause-valid : goal.returns-clause-valid
 returns-clause-valid c = valid_then c

@@ -19,7 +19,7 @@ use Rattle.master_state.specs.Ledger.{posted}
 use Rattle.master_state.specs.Steps.{BeginsRoll, MayRollNow, listed_in, start_now}
 use Rattle.std.proofs.lemmas.Grind.{div_ceil_times}
 use Rattle.std.proofs.lemmas.Result.{err_from_is_err_and}
-use Rattle.master_state.proofs.Refusals.{sizes_of}
+use Rattle.master_state.proofs.Refusals.{may_begin, sizes_of}
 use Rattle.master_space.proofs.RollLaws.{roll_begins, may_roll_now}
 use Rattle.master_space.proofs.RollStarts.{new_ids, pass_now, start_now_is, start_parts, pass_marked, room_marked}
 use Rattle.master_space.proofs.SurvivorLens.{entering_listed}
@@ -68,6 +68,10 @@ module _ (c : After-as_slice) where
   ids_are : new_ids d
       ≡ (start_after d.head c.leaving_victims-victims.result.now c.as_slice.result.now d.next d.safe).others
   ids_are = ap (λ (n : Start). n.others) (sym (start_is ∙ start_now_is d))
+
+pub begin_roll-requires-clause-open : goal.begin_roll-requires-clause-open
+begin_roll-requires-clause-open c =
+    let a = (goal.at.begin_roll-requires-clause-open c).After-as_slice in (may_begin (d a) (passed a)).opened
 
 pub begin_roll-requires-clause-rise : goal.begin_roll-requires-clause-rise
 begin_roll-requires-clause-rise c =
@@ -120,37 +124,21 @@ module _ (c : After-mark) where
   marked = c.mark.ensures ∙ pass_marked k c.is_ready-is_commit.result ready'
 
   abbrev left : MasterData
-  left = record {
-    config = k.config;
+  left = record k {
     head = c.begin_roll.new.self;
     closed = c.take_spare.new.self.images;
     next = k.next + 1;
-    index = k.index;
-    safe = k.safe;
-    history = k.history;
     pass = c.mark.new.pass;
     waiting = c.reserve-2.new.self.items;
-    freed = k.freed;
-    is_halted = k.is_halted;
-    origin = k.origin;
-    ledger = k.ledger;
   }
 
   is : unposted k ≡ left
-  is = λ i. record {
-    config = k.config;
+  is = λ i. record k {
     head = sym begun i;
     closed = sym images' i;
     next = k.next + 1;
-    index = k.index;
-    safe = k.safe;
-    history = k.history;
     pass = sym marked i;
     waiting = sym c.reserve-2.ensures.items i;
-    freed = k.freed;
-    is_halted = k.is_halted;
-    origin = k.origin;
-    ledger = k.ledger;
   }
 
   room_then : IsSome c.begin_roll.new.self.roll → length c.take_spare.new.self.images < c.take_spare.new.self.room

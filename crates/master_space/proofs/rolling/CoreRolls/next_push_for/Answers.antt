@@ -8,5 +8,4 @@ pub returns-clause-durable : goal.returns-clause-durable
 returns-clause-durable c =
     let d : MasterData = the_view c.self.inside in
     let within = subst (λ (m : MasterData). c.args.place < length m.history) (sym c.self.view_is) c.requires in
-    rw (← c.self.view_is) (none_durable d c.args.place c.next_for.result within
-    c.next_for.ensures.lacks)
+    rw (← c.self.view_is) (none_durable d c.args.place c.next_for.result within c.next_for.ensures.lacks)

@@ -17,11 +17,11 @@ use Rattle.master_space.specs.Ends.{closed_left, waiting_left}
 use Rattle.images.specs.Image.{Image, closed_image}
 use Rattle.master_state.specs.Invariant.{IsCore, AreImagesOf}
 use Rattle.master_state.specs.Budget.{seglets_of}
-use Rattle.master_state.specs.Steps.{taken_data}
+use Rattle.master_state.specs.Steps.{closed_data, taken_data}
 use Rattle.master_state.proofs.LogIds.{absent, no_head}
 use Rattle.master_space.proofs.Taken.{taken_core, opened_core}
 use Rattle.master_space.proofs.Closing.{left_early, core_ended, ended_taken, ended_valid, early_taken, early_valid}
-use Rattle.master_space.proofs.Closing.{none_then, old_is, some_then}
+use Rattle.master_space.proofs.Closing.{none_then, old_is, closing_roll}
 use Rattle.master_space.proofs.PassIds.{numbers_of}
 use Rattle.master_space.proofs.Budgets.{closed_seglets, closing_fits, free_again}
 use Rattle.master_space.proofs.rolling.CoreRolls.took.Goals as goal
@@ -35,12 +35,15 @@ module _ (c : goal.After-open) where
   waits : IsNextPush d.head (Some (next.OpenFirst c.in-OpenFirst.field-0))
   waits =
       subst (λ (n : Next). IsNextPush d.head (Some n)) c.in-OpenFirst.is
-      (subst (λ (m : MasterData). IsNextPush m.head (Some c.args.next)) (sym c.self.view_is) c.requires)
+      (subst (λ (m : MasterData). IsNextPush m.head (Some c.args.next)) (sym c.self.view_is) c.requires.next)
+
+  calm : d.failover ≡ None
+  calm = ap (λ (m : MasterData). m.failover) c.self.view_is ∙ c.requires.calm
 
   opened : IsCore (record d { head = c.open.new.self })
   opened =
       subst (λ (h : HeadValue). IsCore (record d { head = h })) (sym c.open.ensures.opened)
-      (taken_core d c.self.invariant.2 (next.OpenFirst c.in-OpenFirst.field-0) waits
+      (taken_core d c.self.invariant.2 calm (next.OpenFirst c.in-OpenFirst.field-0) waits
       (subst IsHeadValue c.open.ensures.opened c.open.ensures.valid))
 
   room : c.open.new.self.roll ≡ d.head.roll
@@ -59,7 +62,7 @@ pub extend-requires : goal.extend-requires
 extend-requires c =
     let waits : IsNextPush (the_view c.self.inside).head (Some (next.Extend c.in-Extend.replica)) =
     subst (λ (n : Next). IsNextPush (the_view c.self.inside).head (Some n)) c.in-Extend.is
-    (subst (λ (m : MasterData). IsNextPush m.head (Some c.args.next)) (sym c.self.view_is) c.requires) in
+    (subst (λ (m : MasterData). IsNextPush m.head (Some c.args.next)) (sym c.self.view_is) c.requires.next) in
     slice_get_within _ c.in-Extend.replica waits.1.0 waits.1.1
 
 module _ (c : goal.After-extend) where
@@ -69,12 +72,15 @@ module _ (c : goal.After-extend) where
   lags : IsNextPush d'.head (Some (next.Extend c.in-Extend.replica))
   lags =
       subst (λ (n : Next). IsNextPush d'.head (Some n)) c.in-Extend.is
-      (subst (λ (m : MasterData). IsNextPush m.head (Some c.args.next)) (sym c.self.view_is) c.requires)
+      (subst (λ (m : MasterData). IsNextPush m.head (Some c.args.next)) (sym c.self.view_is) c.requires.next)
+
+  calm' : d'.failover ≡ None
+  calm' = ap (λ (m : MasterData). m.failover) c.self.view_is ∙ c.requires.calm
 
   extended : IsCore (record d' { head = c.extend.new.self })
   extended =
       subst (λ (h : HeadValue). IsCore (record d' { head = h })) (sym c.extend.ensures.extended)
-      (taken_core d' c.self.invariant.2 (next.Extend c.in-Extend.replica) lags
+      (taken_core d' c.self.invariant.2 calm' (next.Extend c.in-Extend.replica) lags
       (subst IsHeadValue c.extend.ensures.extended c.extend.ensures.valid))
 
   room' : c.extend.new.self.roll ≡ d'.head.roll
@@ -96,7 +102,10 @@ module _ (c : goal.After-open_new) where
   rolls : IsNextPush m.head (Some (next.OpenNew c.in-OpenNew.field-0))
   rolls =
       subst (λ (n : Next). IsNextPush m.head (Some n)) c.in-OpenNew.is
-      (subst (λ (x : MasterData). IsNextPush x.head (Some c.args.next)) (sym c.self.view_is) c.requires)
+      (subst (λ (x : MasterData). IsNextPush x.head (Some c.args.next)) (sym c.self.view_is) c.requires.next)
+
+  calm-m : m.failover ≡ None
+  calm-m = ap (λ (x : MasterData). x.failover) c.self.view_is ∙ c.requires.calm
 
   new_opened : c.open_new.new.self ≡ with_new_replica m.head rolls.1
   new_opened = subst (λ (o : Option Roll). IfSome o (λ r. c.open_new.new.self ≡ with_new_replica m.head r)) rolls.2
@@ -105,7 +114,7 @@ module _ (c : goal.After-open_new) where
   core_opened : IsCore (record m { head = c.open_new.new.self })
   core_opened =
       subst (λ (h : HeadValue). IsCore (record m { head = h })) (sym new_opened)
-      (opened_core m c.self.invariant.2 rolls.1 rolls.2 (subst IsHeadValue new_opened c.open_new.ensures.valid))
+      (opened_core m c.self.invariant.2 rolls.1 rolls.2 calm-m (subst IsHeadValue new_opened c.open_new.ensures.valid))
 
   some_roll : IsSome m.head.roll
   some_roll = subst IsSome (sym rolls.2) refl
@@ -123,13 +132,16 @@ module _ (c : goal.After-end_pass) where
   abbrev k : MasterData
   k = the_view c.self.inside
 
-  waits-k : IsNextPush k.head (Some c.args.next)
-  waits-k = subst (λ (x : MasterData). IsNextPush x.head (Some c.args.next)) (sym c.self.view_is) c.requires
+  ends : (r : Roll) × (k.head.roll ≡ Some r) × (taken_data k c.args.next ≡ closed_data k r)
+  ends =
+      closing_roll k c.args.next c.in-CloseOld.field-0 c.in-CloseOld.is
+      (subst (λ (x : MasterData). IsNextPush x.head (Some c.args.next)) (sym c.self.view_is) c.requires.next)
 
-  cs : c.add_closed.new.self.images ≡ added (closed_image k.head.id c.in-Some.image) k.closed
+  cs : c.add_closed.new.self.images
+      ≡ added (closed_image k.head.id c.in-Some.image k.config.replicas) k.closed
   cs =
       ap (λ (v : ImagesValue). v.images) c.add_closed.ensures
-      ∙ ap (λ (id : ℕ). added (closed_image id c.in-Some.image) k.closed) c.id-id.ensures.id
+      ∙ ap (λ (id : ℕ). added (closed_image id c.in-Some.image k.config.replicas) k.closed) c.id-id.ensures.id
 
   abbrev left : MasterData
   left = record k {
@@ -139,8 +151,7 @@ module _ (c : goal.After-end_pass) where
     waiting = c.end_pass.new.waiting.items;
   }
 
-  ended_left : core_ended k c.self.invariant.2 c.args.next c.in-CloseOld.field-0 c.in-CloseOld.is waits-k
-      c.close_old.new.self c.close_old.result
+  ended_left : core_ended k c.self.invariant.2 ends.0 ends.1 c.close_old.new.self c.close_old.result
       c.close_old.ensures.closed c.close_old.ensures.old c.close_old.ensures.valid c.in-Some.image c.in-Some.is ≡ left
   ended_left = λ i. record k {
     head = c.close_old.new.self;
@@ -152,22 +163,19 @@ module _ (c : goal.After-end_pass) where
 
   core_then : IsCore left
   core_then =
-      subst IsCore ended_left (ended_valid k c.self.invariant.2 c.args.next c.in-CloseOld.field-0 c.in-CloseOld.is
-      waits-k c.close_old.new.self
+      subst IsCore ended_left (ended_valid k c.self.invariant.2 ends.0 ends.1 c.close_old.new.self
       c.close_old.result c.close_old.ensures.closed c.close_old.ensures.old c.close_old.ensures.valid
-      c.in-Some.image c.in-Some.is)
+      c.in-Some.image c.in-Some.is (ap (λ (x : MasterData). x.failover) c.self.view_is ∙ c.requires.calm))
 
   taken_then : left ≡ taken_data k c.args.next
   taken_then =
-      sym (ended_taken k c.self.invariant.2 c.args.next c.in-CloseOld.field-0 c.in-CloseOld.is waits-k
-      c.close_old.new.self
+      sym (ends.2 ∙ ended_taken k c.self.invariant.2 ends.0 ends.1 c.close_old.new.self
       c.close_old.result c.close_old.ensures.closed c.close_old.ensures.old c.close_old.ensures.valid c.in-Some.image
       c.in-Some.is ∙ ended_left)
 
   no_roll : IsSome c.close_old.new.self.roll → ⊥
   no_roll some =
-      let none = none_then k c.self.invariant.2 c.args.next c.in-CloseOld.field-0 c.in-CloseOld.is waits-k
-      c.close_old.new.self c.close_old.result
+      let none = none_then k c.self.invariant.2 ends.0 ends.1 c.close_old.new.self c.close_old.result
       c.close_old.ensures.closed c.close_old.ensures.old c.close_old.ensures.valid c.in-Some.image c.in-Some.is in
       let never : IsSome {T = Roll} None = subst IsSome none some in cc
 
@@ -201,20 +209,18 @@ module _ (c : goal.After-add_closed-arg-1) where
   abbrev w : MasterData
   w = the_view c.self.inside
 
-  waits-w : IsNextPush w.head (Some c.args.next)
-  waits-w = subst (λ (x : MasterData). IsNextPush x.head (Some c.args.next)) (sym c.self.view_is) c.requires
+  ends-w : (r : Roll) × (w.head.roll ≡ Some r) × (taken_data w c.args.next ≡ closed_data w r)
+  ends-w =
+      closing_roll w c.args.next c.in-CloseOld.field-0 c.in-CloseOld.is
+      (subst (λ (x : MasterData). IsNextPush x.head (Some c.args.next)) (sym c.self.view_is) c.requires.next)
 
   image_is : c.in-Some.image ≡ w.head.image
   image_is =
-      old_is w c.self.invariant.2 c.args.next c.in-CloseOld.field-0 c.in-CloseOld.is waits-w c.close_old.new.self
-      c.close_old.result
+      old_is w c.self.invariant.2 ends-w.0 ends-w.1 c.close_old.new.self c.close_old.result
       c.close_old.ensures.closed c.close_old.ensures.old c.close_old.ensures.valid c.in-Some.image c.in-Some.is
 
   has_roll : IsSome w.head.roll
-  has_roll =
-      some_then w c.self.invariant.2 c.args.next c.in-CloseOld.field-0 c.in-CloseOld.is waits-w c.close_old.new.self
-      c.close_old.result
-      c.close_old.ensures.closed c.close_old.ensures.old c.close_old.ensures.valid
+  has_roll = subst IsSome (sym ends-w.1) refl
 
 pub add_closed-requires-clause-other : goal.add_closed-requires-clause-other
 add_closed-requires-clause-other c =
@@ -230,7 +236,8 @@ add_closed-requires-clause-room c = c.self.invariant.0 (has_roll c)
 
 pub add_closed-requires-clause-free : goal.add_closed-requires-clause-free
 add_closed-requires-clause-free c =
-    free_again c.self.inside.config c.self.inside.closed (closed_image c.id-id.result c.in-Some.image)
+    free_again c.self.inside.config c.self.inside.closed
+    (closed_image c.id-id.result c.in-Some.image c.self.inside.config.replicas)
     c.self.invariant.1
     (subst (λ (es : List Entry). seglets_of c.self.inside.config es
     ≤ c.self.inside.config.seglets - closed_seglets (w c)) (sym (image_is c))
@@ -240,26 +247,24 @@ module _ (c : goal.In_default) where
   abbrev k'' : MasterData
   k'' = the_view c.self.inside
 
-  waits'' : IsNextPush k''.head (Some c.args.next)
-  waits'' = subst (λ (x : MasterData). IsNextPush x.head (Some c.args.next)) (sym c.self.view_is) c.requires
+  ends'' : (r : Roll) × (k''.head.roll ≡ Some r) × (taken_data k'' c.args.next ≡ closed_data k'' r)
+  ends'' =
+      closing_roll k'' c.args.next c.in-CloseOld.field-0 c.in-CloseOld.is
+      (subst (λ (x : MasterData). IsNextPush x.head (Some c.args.next)) (sym c.self.view_is) c.requires.next)
 
   core_still : IsCore (record k'' { head = c.close_old.new.self })
   core_still =
-      early_valid k'' c.self.invariant.2 c.args.next c.in-CloseOld.field-0 c.in-CloseOld.is waits'' c.close_old.new.self
-      c.close_old.result
+      early_valid k'' c.self.invariant.2 ends''.0 ends''.1 c.close_old.new.self c.close_old.result
       c.close_old.ensures.closed c.close_old.ensures.old c.close_old.ensures.valid c.in_default.is
+      (ap (λ (x : MasterData). x.failover) c.self.view_is ∙ c.requires.calm)
 
   taken_still : record k'' { head = c.close_old.new.self } ≡ taken_data k'' c.args.next
   taken_still =
-      sym (early_taken k'' c.self.invariant.2 c.args.next c.in-CloseOld.field-0 c.in-CloseOld.is waits''
-      c.close_old.new.self c.close_old.result
+      sym (ends''.2 ∙ early_taken k'' c.self.invariant.2 ends''.0 ends''.1 c.close_old.new.self c.close_old.result
       c.close_old.ensures.closed c.close_old.ensures.old c.close_old.ensures.valid c.in_default.is)
 
   room_still : IsSome k''.head.roll
-  room_still =
-      some_then k'' c.self.invariant.2 c.args.next c.in-CloseOld.field-0 c.in-CloseOld.is waits'' c.close_old.new.self
-      c.close_old.result
-      c.close_old.ensures.closed c.close_old.ensures.old c.close_old.ensures.valid
+  room_still = subst IsSome (sym ends''.1) refl
 
 pub invariant_of-self-in_default : goal.invariant_of-self-in_default
 invariant_of-self-in_default c = (

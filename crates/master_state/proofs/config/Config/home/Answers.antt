@@ -1,13 +1,21 @@
-use Rattle.std.proofs.Common.{◌≡◌, ℕ, ◌+◌, ◌*◌, ◌%◌, sym, ap, ◌∙◌}
-use Rattle.std.proofs.lemmas.Nat.{mul-mod_first}
-use Rattle.std.proofs.Math.Nat.{add-mod}
+use Rattle.std.proofs.Common.{◌≡◌, ◌<◌, ℕ, [], List, length, sym, ap, subst, ◌∙◌, arith}
+use Rattle.master_state.specs.Log.{home, working}
+use Rattle.master_state.proofs.Homes.{working_few, home_first}
+use Rattle.master_state.proofs.Refusals.{has_homes}
 use Rattle.master_state.proofs.config.Config.home.Goals as goal
 
--- the first factor of a sum's first part may be cut to its remainder
-cut_first : (s step j b : ℕ) → ((s % b) * step + j) % b ≡ (s * step + j) % b
-cut_first s step j b =
-    add-mod ((s % b) * step) j b ∙ ap (λ (x : ℕ). (x + j % b) % b) (mul-mod_first s step b)
-    ∙ sym (add-mod (s * step) j b)
+pub backup_at-requires-clause-place : goal.backup_at-requires-clause-place
+backup_at-requires-clause-place c =
+    let homes = has_homes c.args.self.now c.requires.config in
+    let most = homes.few in
+    let few = working_few c.args.self.now c.args.failed.now c.args.segment in
+    let lt = c.requires.replica in
+    omega arith
 
-pub returns : goal.returns
-returns c = cut_first c.args.segment c.args.self.now.step c.args.replica c.args.self.now.backups
+pub returns-then-is_empty : goal.returns-then-is_empty
+returns-then-is_empty c =
+    let none : c.args.failed.now ≡ [] = c.is_empty.ensures c.if-is_empty.true in
+    let lt = subst (λ (bs : List ℕ). c.args.replica < length (working c.args.self.now bs c.args.segment)) none
+    c.requires.replica in
+    c.backup_at.ensures ∙ sym (home_first c.args.self.now c.args.segment c.args.replica lt)
+    ∙ ap (λ (bs : List ℕ). home c.args.self.now bs c.args.segment c.args.replica) (sym none)

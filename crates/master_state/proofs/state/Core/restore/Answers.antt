@@ -22,7 +22,7 @@ invariant_of-core c =
     let history : c.new.result.records ≡ [] = search rules in
     let waiting : c.new-2.result.items ≡ [] = search rules in
     let head : c.in_ok-head.head ≡ fresh_head c.args.config.master c.args.config.replicas
-    (lone_start c.args.config.format c.args.safe) = search rules in
+    (lone_start 1 c.args.config.format c.args.safe) = search rules in
     let made = c.new-closed.ensures in
     let sizes : AreImagesOf c.args.config c.new-closed.result = record {
       segment = ap (λ (v : ImagesValue). v.segment) made;
@@ -30,7 +30,9 @@ invariant_of-core c =
       seglets = ap (λ (v : ImagesValue). v.seglets) made;
     } in
     let closed : c.new-closed.result.images ≡ [] = ap (λ (v : ImagesValue). v.images) made in
-    rw (head, closed, index, history, waiting, nothing, ledger) (
+    let failed : c.none.result ≡ [] = c.none.ensures in
+    let abandoned : c.none-2.result.heads ≡ [] = c.none-2.ensures in
+    rw (head, closed, index, history, waiting, nothing, ledger, failed, abandoned) (
       (λ never. absurd (cc)),
       record { segment = sizes.segment; seglet = sizes.seglet; seglets = sizes.seglets },
       restored_core c.args.config c.args.safe (subst (λ (h : HeadValue). IsHeadValue h) head
@@ -44,7 +46,9 @@ returns-clause-log c =
     let ledger : c.empty.result.postings ≡ [] = search rules in
     let history : c.new.result.records ≡ [] = search rules in
     let head : c.in_ok-head.head ≡ fresh_head c.args.config.master c.args.config.replicas
-    (lone_start c.args.config.format c.args.safe) = search rules in
-    rw (head, history, nothing, ledger)
+    (lone_start 1 c.args.config.format c.args.safe) = search rules in
+    let failed : c.none.result ≡ [] = c.none.ensures in
+    let abandoned : c.none-2.result.heads ≡ [] = c.none-2.ensures in
+    rw (head, history, nothing, ledger, failed, abandoned)
     (restored_log c.args.config c.args.safe (subst (λ (h : HeadValue). IsHeadValue h) head c.in_ok-head.ensures.valid)
     c.requires)

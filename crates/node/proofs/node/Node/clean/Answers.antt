@@ -3,12 +3,13 @@ use Rattle.std.specs.Prelude.{Err, None}
 use Rattle.lines.specs.Grammar.{Clean}
 use Rattle.backup.specs.State.{fleet_state}
 use Rattle.master_state.specs.Data.{MasterData}
+use Rattle.master.specs.World.{world}
 use Rattle.node.specs.declared.node.Node.{Node}
 use Rattle.node.specs.declared.node.Node.TheVariants.{Up}
 use Rattle.driving.specs.Cleans.{IsCleaned, IsNotCleaned}
 use Rattle.driving.specs.Served.{LivesOn}
 use Rattle.node.specs.Served.{IsOf}
-use Rattle.node.proofs.Steps.{clean_at, cleaned_told, no_step_answered}
+use Rattle.node.proofs.Steps.{clean_at, cleaned_told, no_step_answered, refused_left}
 use Rattle.node.proofs.Standing.{down_clean, down_told, not_up}
 use Rattle.node.proofs.node.Node.clean.Goals as goal
 
@@ -45,6 +46,13 @@ returns-in-Err-clause-told c = λ config d at s.
     (Err r) refused in
     no_step_answered d m.knows c.args.self.now (Up m) c.refuse.new.self config at s was.0 (Clean ids) refl
     r c.refuse.result g of refl c.show_valid-2.ensures c.in-Err.ensures.spent (λ is. refl) on why c.refuse.ensures
+
+pub returns-in-Err-clause-cleaned : goal.returns-in-Err-clause-cleaned
+returns-in-Err-clause-cleaned c =
+    let m = c.clean_all-outcome.new.master in
+    let left = refused_left (Up m) c.refuse.new.self (world fleet_state m) c.in-Err.refusal c.refuse.result refl refl
+    c.refuse.ensures in
+    rw c.in-Up.is (Err c.in-Err.refusal, world fleet_state m, c.in-Err.ensures.cleaned, left.0, left.1)
 
 pub returns-in_default : goal.returns-in_default
 returns-in_default c =

@@ -1,7 +1,9 @@
-use Rattle.std.proofs.Common.{[], ◌≡◌, true, List, ◌++◌, length, refl, sym, ap, subst, ◌∙◌, arith}
+use Rattle.std.proofs.Common.{[], ◌≡◌, Bool, true, false, List, ◌++◌, length, refl, sym, ap, subst, ◌∙◌, arith}
+use Rattle.std.specs.Prelude.{is_none, ◌&&◌}
 use Rattle.backup.specs.State.{fleet_state}
 use Rattle.log_head.specs.Head.{is_open}
 use Rattle.master.specs.World.{World, world}
+use Rattle.master_state.specs.Budget.{is_working}
 use Rattle.master_state.specs.declared.step.Refusal.TheVariants.{Nothing}
 use Rattle.master_state.specs.Data.{MasterData, fresh_data}
 use Rattle.next_master.specs.Configuration.{config_of}
@@ -11,6 +13,11 @@ use Rattle.versioned_map.specs.declared.command.Record.{Record}
 use Rattle.script.proofs.Sessions.{ok_of_no_err}
 use Rattle.replica.specs.Picture.{FleetState}
 use Rattle.script.proofs.session.Session.start.Goals as goal
+
+-- a head that takes appends is open
+open_of : (opened calm : Bool) → opened && calm ≡ true → opened ≡ true
+open_of true calm is = refl
+open_of false calm is = is
 
 pub new-requires-2-clause-none : goal.new-requires-2-clause-none
 new-requires-2-clause-none c = λ b s. ap (λ (f : FleetState). f.picture b c.in_ok-config.config.master s)
@@ -25,8 +32,8 @@ returns c =
     let new = c.in-Ok.ensures.made.0 in
     let on = c.push_all.ensures.goes_on in
     let config = c.in_ok-config.ensures.config in
-    let open_now : is_open m.knows.head ≡ true =
-    ok_of_no_err c.push_all.result (is_open m.knows.head ≡ true)
+    let working : is_working m.knows ≡ true =
+    ok_of_no_err c.push_all.result (is_working m.knows ≡ true)
     (sym c.is_err.ensures.value ∙ c.if-is_err.false) c.push_all.ensures.open in
     let pushed : PushesUntil (world fleet_state c.in-Ok.master) Nothing (world fleet_state m) =
     ok_of_no_err c.push_all.result _ (sym c.is_err.ensures.value ∙ c.if-is_err.false) c.push_all.ensures.pushed in
@@ -43,7 +50,7 @@ returns c =
           made = ap (λ (h : List Record). length h) (sym (on.history ∙ ap (λ (d : MasterData). d.history ++ []) new));
           acknowledged = omega arith;
         },
-        open_now,
+        open_of (is_open m.knows.head) (is_none m.knows.failover) working,
         on.origin ∙ ap (λ (d : MasterData). d.origin) new,
       );
       begins = (

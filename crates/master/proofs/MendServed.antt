@@ -1,0 +1,325 @@
+-- A push of a failover keeps a master, and one that is loading, whatever the fleet answers; and what it tells.
+use Rattle.std.proofs.Common.{◌≡◌, ℕ, suc, ◌<◌, inl, inr, Bool, true, false, [], ◌∷◌, refl, sym}
+use Rattle.std.proofs.Common.{subst, ◌∙◌}
+use Rattle.std.specs.Prelude.{Option, Some, None, IsSome, is_none, ◌==◌, if◌then◌else◌}
+use Rattle.std.specs.Option.{option_map_or}
+use Rattle.cleaner.specs.declared.pass.Pass.{Pass}
+use Rattle.replica.specs.Picture.{FleetState}
+use Rattle.replica.specs.Registry.{RefusesRaise}
+use Rattle.replica.specs.Take.{Refuses}
+use Rattle.replica.specs.declared.op.TakeFault.{TakeFault}
+use Rattle.replica.specs.declared.op.TakeFault.TheVariants as take_fault
+use Rattle.images.specs.Sorted.{changed}
+use Rattle.images.specs.Steps.{more_replicas}
+use Rattle.log_head.specs.declared.head.Roll.{Roll}
+use Rattle.log_head.specs.Steps.{with_closed_replica, old_image}
+use Rattle.log_model.specs.Ids.{has}
+use Rattle.failover_model.specs.Data.{FailData, Repairs}
+use Rattle.failover_model.specs.Shown.{Op, On, Raise}
+use Rattle.failover_bytes.specs.Ops.{TakesOp}
+use Rattle.failover_clean.specs.Fleet.{HoldsAll, HoldsLoading}
+use Rattle.failover_clean.specs.Loading.{IsLoadingOp}
+use Rattle.failover_clean.specs.Ops.{IsOp}
+use Rattle.failover_clean.proofs.FleetSteps.{finish_holds_all}
+use Rattle.master_mending.specs.declared.mending.Mend.{Mend}
+use Rattle.master_mending.specs.declared.mending.Mend.TheVariants as mend
+use Rattle.master_mending.specs.Mending.{IsInPart, IsNextMend, IsLater, IsOnReplica, mended_data, backup_for}
+use Rattle.master_mending.specs.Mending.{segment_for, replica_for, was_headless, first_lost, repaired_data, with_part}
+use Rattle.master_mending.specs.Mending.{closed_more}
+use Rattle.master_state.specs.declared.failover.Part.{Part}
+use Rattle.master_state.specs.declared.failover.Part.TheVariants as part
+use Rattle.master_state.specs.declared.ledger.Posting.TheVariants as posting
+use Rattle.master_state.specs.declared.step.Refusal.TheVariants.{Halted, Nothing}
+use Rattle.master_state.specs.declared.step.Step.TheVariants.{Push}
+use Rattle.master_state.specs.Causes.{push_refusal}
+use Rattle.master_state.specs.Data.{MasterData}
+use Rattle.master_state.specs.Images.{with_closed}
+use Rattle.master_state.specs.Invariant.{IsCore}
+use Rattle.master_state.specs.Loading.{IsBare}
+use Rattle.master_state.specs.Log.{home, log_of, memory_of}
+use Rattle.master_state.specs.Steps.{refusal_of, failed_data, roll_ended, closed_data}
+use Rattle.master.specs.Invariant.{IsServed, StaysServed}
+use Rattle.master.specs.Mends.{IsMendOp, MendsOn, mend_answer}
+use Rattle.master.specs.Steps.{IsPushOp, Declines}
+use Rattle.master.specs.World.{world_of}
+use Rattle.master.proofs.Handed.{failed_tells, raise_tells, not_wrong, op_failed, loading_not_wrong, loading_failed}
+use Rattle.master.proofs.Handed.{raise_failed, raise_loading_failed, failing_lags}
+use Rattle.master.proofs.Lasting.{kept_as, well_kept, loaded_as, well_loaded}
+use Rattle.master.proofs.MendEnds.{IsLimited, MayMend, IsMendPush}
+use Rattle.master.proofs.MendKeeps.{all_on, loading_on, EndsPassOn, may_mend, mended_kept}
+use Rattle.master.proofs.MendOps.{mend_op, mend_act}
+use Rattle.master.proofs.MendPushes.{mend_push, few_for_mend, op_on, bytes_op}
+use Rattle.master.proofs.MendedRest.{mended_rest}
+use Rattle.master.proofs.Placing.{core_within, core_left}
+
+-- ---- a failover is open
+
+in_part_fails : (d : MasterData) (p : Part) → IsInPart d p → IsSome d.failover
+in_part_fails d p is = subst (λ (o : Option _). IsSome o) (sym is.1) refl
+
+pub mend_fails : (d : MasterData) (m : Mend) → IsNextMend d m → IsSome d.failover
+mend_fails d (mend.Extend j) next = in_part_fails d part.Mends next.0
+mend_fails d (mend.Replace j) next = in_part_fails d part.Mends next.0
+mend_fails d mend.Turn next = in_part_fails d part.Mends next.0
+mend_fails d (mend.Open j) next = in_part_fails d part.Opens next.0
+mend_fails d (mend.Raise id) next = in_part_fails d part.Opens next.0
+mend_fails d (mend.Close j) next = in_part_fails d part.Closes next.0
+mend_fails d (mend.Repair s j) next = in_part_fails d part.Repairs next.0
+
+-- no test refuses a push of it
+pub mend_passed : (d : MasterData) → d.is_halted ≡ false → IsSome d.failover → push_refusal d ≡ None
+mend_passed d running failing =
+    λ i. if running i then Some Halted else if failing_lags d failing i then Some Nothing else None
+
+-- ---- passes
+
+-- that of a master ends
+ends_on : (d : MasterData) (f : FleetState) → HoldsAll (log_of d) (memory_of d) f → EndsPassOn HoldsAll d
+ends_on d f holds = record {
+  finish = λ p opened l m g n then_holds ends commits. finish_holds_all l m g n Repairs then_holds ends commits;
+  gone = λ p opened w waits victim. holds.keeps.intact.waiting.out w waits
+      (holds.keeps.intact.passing.victims_count w.segment victim);
+}
+
+-- one that is loading has none
+none_ends_on : (d : MasterData) → IsBare d → EndsPassOn HoldsLoading d
+none_ends_on d bare = record {
+  finish = λ p opened. absurd (let both = sym opened ∙ bare.pass in cc);
+  gone = λ p opened. absurd (let both = sym opened ∙ bare.pass in cc);
+}
+
+-- and gets none
+abbrev HasNone : MasterData → Type 0
+HasNone d = (d.pass ≡ None) × (d.waiting ≡ [])
+
+repaired_none : (d : MasterData) → HasNone d → HasNone (repaired_data d)
+repaired_none d none = go (is_none (first_lost d)) where
+  gives : Bool → MasterData
+  gives t = if t then record d { failover = None } else d
+
+  go : (t : Bool) → HasNone (gives t)
+  go true = none
+  go false = none
+
+raised_none : (d : MasterData) (id : ℕ) → HasNone d → HasNone (mended_data d (mend.Raise id))
+raised_none d id none = go (was_headless d) where
+  gives : Bool → MasterData
+  gives t =
+      if t then record d { failover = None; abandoned = []; ledger = posting.Ended ∷ d.ledger }
+      else with_part d part.Closes
+
+  go : (t : Bool) → HasNone (gives t)
+  go true = none
+  go false = none
+
+ended_none : (o : Option Pass) → o ≡ None → (e : MasterData) → HasNone e → HasNone (roll_ended o e)
+ended_none o is e none = subst (λ (p : Option Pass). HasNone (roll_ended p e)) (sym is) none
+
+closed_none : (d : MasterData) (r : Roll) → HasNone d → HasNone (closed_data d r)
+closed_none d r none = go (suc r.closed == d.head.replicas) where
+  one : MasterData
+  one = record d {
+    head = with_closed_replica d.head r;
+    closed = with_closed d.closed d.head.id d.config.replicas (old_image d.head r);
+  }
+
+  gives : Bool → MasterData
+  gives t = if t then roll_ended d.pass one else one
+
+  go : (t : Bool) → HasNone (gives t)
+  go true = ended_none d.pass none.0 one none
+  go false = none
+
+closed_more_none : (d : MasterData) (j : ℕ) (r : Roll) → HasNone d → HasNone (closed_more d j r)
+closed_more_none d j r none = go (suc j == d.config.replicas) where
+  k : MasterData
+  k = record d { ledger = posting.Shut (home d.config d.failed d.head.id j) ∷ d.ledger }
+
+  e : MasterData
+  e = closed_data k r
+
+  last : MasterData
+  last = with_part (record e { abandoned = []; ledger = posting.Ended ∷ e.ledger }) part.Repairs
+
+  gives : Bool → MasterData
+  gives t = if t then repaired_data last else e
+
+  go : (t : Bool) → HasNone (gives t)
+  go true = repaired_none last (closed_none k r none)
+  go false = closed_none k r none
+
+mended_none : (d : MasterData) (m : Mend) → IsLater m → HasNone d → HasNone (mended_data d m)
+mended_none d (mend.Extend j) later none = none
+mended_none d (mend.Replace j) later none = none
+mended_none d mend.Turn later none = absurd later
+mended_none d (mend.Open j) later none = none
+mended_none d (mend.Raise id) later none = raised_none d id none
+mended_none d (mend.Close j) later none = go d.head.roll where
+  gives : Option Roll → MasterData
+  gives o = option_map_or (closed_more d j) o d
+
+  go : (o : Option Roll) → HasNone (gives o)
+  go None = none
+  go (Some r) = closed_more_none d j r none
+mended_none d (mend.Repair s j) later none = repaired_none (record d {
+  closed = changed d.closed s more_replicas;
+  ledger = posting.Took s (home d.config d.failed s j) ∷ d.ledger;
+}) none
+
+mended_bare : (d : MasterData) (m : Mend) → IsLater m → IsBare d → IsBare (mended_data d m)
+mended_bare d m later bare =
+    let none = mended_none d m later (bare.pass, bare.waiting) in
+    record { history = (mended_rest d m).1 ∙ bare.history; pass = none.0; waiting = none.1 }
+
+-- ---- a push
+
+-- a repair is an op of a master too
+pub op_of_master : (d e : FailData) (m : _) (o : Op) → IsLoadingOp d m o e → IsOp d m o e m
+op_of_master d e m o (inl head) = inl (head, refl)
+op_of_master d e m o (inr repair) = inr (inr (inl (repair, refl)))
+
+pub on_later : (m : Mend) → IsOnReplica m → IsLater m
+on_later (mend.Extend j) on = tt
+on_later (mend.Replace j) on = tt
+on_later mend.Turn on = absurd on
+on_later (mend.Open j) on = tt
+on_later (mend.Raise id) on = tt
+on_later (mend.Close j) on = tt
+on_later (mend.Repair s j) on = tt
+
+pub served_core : (d : MasterData) (f : FleetState) → IsServed d f → IsCore d
+served_core d f (inl kept) = kept.core
+served_core d f (inr loaded) = loaded.core
+
+not_turn : (m : Mend) → IsLater m → m ≡ mend.Turn → ⊥
+not_turn m later is = subst IsLater is later
+
+module _ (d : MasterData) (m : Mend) (f : FleetState) (running : d.is_halted ≡ false) (next : IsNextMend d m)
+    (limited : IsLimited d m) (later : IsLater m) where
+  pub served_may : IsServed d f → MayMend d m
+  served_may (inl kept) = may_mend all_on d f (kept_as d f kept running) m next limited
+  served_may (inr loaded) = may_mend loading_on d f (loaded_as d f loaded running) m next limited
+
+  pub served_push : IsServed d f → IsMendPush d m
+  served_push served = mend_push d m (served_may served) later
+
+  -- ---- taken
+
+  pub served_mends : IsServed d f → (g : FleetState) → TakesOp d.config.master f (mend_op d m) g
+      → MendsOn (world_of d f) (mend_answer d m) (world_of (mended_data d m) g)
+  served_mends served g takes = record {
+    op = mend_op d m;
+    running = running;
+    failing = mend_fails d m next;
+    mend = m;
+    next = next;
+    does = (served_push served).does;
+    told = refl;
+    rest = refl;
+    takes = takes;
+  }
+
+  pub served_mended : IsCore (mended_data d m) → (g : FleetState) → TakesOp d.config.master f (mend_op d m) g
+      → StaysServed d f (mended_data d m) g
+  served_mended core g takes = (
+    λ kept. well_kept (mended_data d m) g
+        (mended_kept all_on d f (kept_as d f kept running) m (served_may (inl kept)) later
+        (ends_on d f (kept.known running)) core g takes),
+    λ loaded. well_loaded (mended_data d m) g
+        (mended_kept loading_on d f (loaded_as d f loaded running) m (served_may (inr loaded)) later
+        (none_ends_on d loaded.bare) core g takes)
+        (mended_bare d m later loaded.bare) ((mended_rest d m).2 ∙ running),
+  )
+
+  -- ---- refused by a backup
+
+  module _ (on : IsOnReplica m) where
+    abbrev b : ℕ
+    b = backup_for d m
+
+    abbrev IsHandedOp : Op → Type 0
+    IsHandedOp o = (e : FailData) × IsLoadingOp (log_of d) (memory_of d) o e
+        × IsMendOp d m o (log_of (mended_data d m))
+
+    handed_op : IsServed d f → IsHandedOp (On (backup_for d m) (segment_for d m) (mend_act d m))
+    handed_op served =
+        let is = served_push served in
+        subst IsHandedOp (op_on d m on) (is.mid, is.op, is.does)
+
+    few : IsCore d → replica_for m < d.config.replicas
+    few core = few_for_mend d m core next on
+
+    within : IsCore d → b < d.config.backups
+    within core = core_within d core (segment_for d m) (replica_for m) (few core)
+
+    pub mend_works : IsCore d → has d.failed (backup_for d m) ≡ false
+    mend_works core = core_left d core (segment_for d m) (replica_for m) (few core)
+
+    pub mend_not_wrong : IsServed d f → (g : FleetState) (x : TakeFault)
+        → Refuses f (backup_for d m) (bytes_op d m) x g → x ≡ take_fault.Wrong → ⊥
+    mend_not_wrong (inl kept) =
+        let op = handed_op (inl kept) in
+        not_wrong d f kept running b (segment_for d m) (mend_act d m) op.0 (memory_of d)
+        (op_of_master (log_of d) op.0 (memory_of d) _ op.1) (within kept.core)
+    mend_not_wrong (inr loaded) =
+        let op = handed_op (inr loaded) in
+        loading_not_wrong d f loaded running b (segment_for d m) (mend_act d m) op.0 op.1 (within loaded.core)
+
+    pub mend_declines : IsServed d f → (g : FleetState) (x : TakeFault)
+        → Refuses f (backup_for d m) (bytes_op d m) x g
+        → Declines (world_of d f) Push (refusal_of d (backup_for d m) x) (world_of (failed_data d (backup_for d m) x) g)
+    mend_declines served g x refused =
+        let op = handed_op served in
+        inr (
+          mend_passed d running (mend_fails d m next),
+          inr (inr (failed_tells d f b (segment_for d m) (mend_act d m) (IsPushOp (world_of d f))
+              (inr (m, log_of (mended_data d m), next, not_turn m later, op.2)) g x refused
+              (mend_not_wrong served g x refused))),
+        )
+
+    pub mend_failed : (g : FleetState) (x : TakeFault) → Refuses f (backup_for d m) (bytes_op d m) x g
+        → StaysServed d f (failed_data d (backup_for d m) x) g
+    mend_failed g x refused = (
+      λ kept.
+          let op = handed_op (inl kept) in
+          op_failed d f kept running b (segment_for d m) (mend_act d m) op.0 (memory_of d)
+          (op_of_master (log_of d) op.0 (memory_of d) _ op.1) (within kept.core) (mend_works kept.core) g x refused,
+      λ loaded.
+          let op = handed_op (inr loaded) in
+          loading_failed d f loaded running b (segment_for d m) (mend_act d m) op.0 op.1 (within loaded.core)
+          (mend_works loaded.core) (failing_lags d (mend_fails d m next)) g x refused,
+    )
+
+-- ---- a raise is refused
+
+module _ (d : MasterData) (id : ℕ) (f : FleetState) (running : d.is_halted ≡ false)
+    (next : IsNextMend d (mend.Raise id)) where
+  raised_push : IsServed d f → IsMendPush d (mend.Raise id)
+  raised_push = served_push d (mend.Raise id) f running next tt tt
+
+  failing : IsSome d.failover
+  failing = mend_fails d (mend.Raise id) next
+
+  pub raise_declines : IsServed d f → (g : FleetState) (x : TakeFault) → RefusesRaise f d.config.master id x g → (b : ℕ)
+      → Declines (world_of d f) Push (refusal_of d b x) (world_of (failed_data d b x) g)
+  raise_declines served g x refused b = inr (
+    mend_passed d running failing,
+    inr (inr (raise_tells d f id (IsPushOp (world_of d f))
+        (inr (
+          mend.Raise id,
+          log_of (mended_data d (mend.Raise id)),
+          next,
+          not_turn (mend.Raise id) tt,
+          (raised_push served).does,
+        )) failing b g x refused)),
+  )
+
+  pub raise_keeps : (g : FleetState) (x : TakeFault) → RefusesRaise f d.config.master id x g → (b : ℕ)
+      → StaysServed d f (failed_data d b x) g
+  raise_keeps g x refused b = (
+    λ kept.
+        let is = raised_push (inl kept) in
+        raise_failed d f kept running id is.mid (memory_of d)
+        (op_of_master (log_of d) is.mid (memory_of d) (Raise id) is.op) failing g x refused b,
+    λ loaded. raise_loading_failed d f loaded id failing g x refused b,
+  )

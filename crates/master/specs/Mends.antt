@@ -1,0 +1,94 @@
+-- The op of a push while a failover is open.
+use Rattle.std.specs.Prelude.{◌≡◌, ◌⊎◌, ℕ, Bool, true, false, IsSome, Result, Ok, Err}
+use Rattle.entry.specs.Text.{text_of}
+use Rattle.replica.specs.declared.op.TakeFault.TheVariants as take_fault
+use Rattle.replica.specs.Op.{OpValue, Open}
+use Rattle.replica.specs.Picture.{FleetState}
+use Rattle.replica.specs.Take.{Takes, Refuses}
+use Rattle.log_head.specs.Head.{IsHeadValue}
+use Rattle.log_model.specs.Data.{Start}
+use Rattle.failover_model.specs.Data.{Mode, Opens, Repairs, FailData}
+use Rattle.failover_model.specs.Shown.{Op}
+use Rattle.failover_model.specs.Steps.{ended, EndsRoll, mended, rolling, with_taken, MayRepair, Extends, OpensNew}
+use Rattle.failover_model.specs.Steps.{Replaces, Raises, ClosesOld}
+use Rattle.failover_bytes.specs.Ops.{TakesOp}
+use Rattle.failover_clean.specs.Steps.{seal_op}
+use Rattle.master_mending.specs.declared.mending.Mend.{Mend}
+use Rattle.master_mending.specs.declared.mending.Mend.TheVariants as mend
+use Rattle.master_mending.specs.declared.turning.NewHead.{NewHead}
+use Rattle.master_mending.specs.declared.turning.NewHead.TheVariants as new_head
+use Rattle.master_mending.specs.Mending.{IsNextMend, mended_data, segment_for, backup_for, new_text}
+use Rattle.master_state.specs.declared.step.Refusal.{Refusal}
+use Rattle.master_state.specs.declared.step.Refusal.TheVariants as refusal
+use Rattle.master_state.specs.declared.step.StepAnswer.{StepAnswer}
+use Rattle.master_state.specs.declared.step.StepAnswer.TheVariants.{Opened, Extended, Closed, Raised, Repaired}
+use Rattle.master_state.specs.Data.{MasterData}
+use Rattle.master_state.specs.Log.{log_of, memory_of}
+use Rattle.master.specs.World.{World}
+
+-- no replica is lost any more, and the failover has ended, or it goes on
+abbrev pub IsMended : FailData → FailData → Type 0
+IsMended d e = (e ≡ d) ⊎ ((d.mode ≡ Repairs) × (e ≡ mended d))
+
+-- after the op the log is this one, or the new head is in force; with it the failover may have ended
+abbrev pub IsOnward : FailData → FailData → Type 0
+IsOnward mid e = IsMended mid e
+    ⊎ ((n : Start) × (mode : Mode) × EndsRoll mid n mode × IsMended (ended mid n mode) e)
+
+-- What each push of a failover makes of the log. Its parts: the head's replicas get all units, and its lost one is
+-- replaced; the new head is made, whose digest lists the log or is a commit's, and opened; the registry is raised; the
+-- old head is closed; a lost replica of another segment is sealed anew, from its image.
+abbrev pub IsMendOp : MasterData → Mend → Op → FailData → Type 0
+IsMendOp d (mend.Extend j) o e = Extends (log_of d) o e
+IsMendOp d (mend.Replace j) o e = Replaces (log_of d) o e
+IsMendOp d mend.Turn o e = (n : Start) × OpensNew (rolling (log_of d) n (Opens n)) o e
+IsMendOp d (mend.Open j) o e = OpensNew (log_of d) o e
+IsMendOp d (mend.Raise id) o e = (mid : FailData) × Raises (log_of d) o mid × IsOnward mid e
+IsMendOp d (mend.Close j) o e = (mid : FailData) × ClosesOld (log_of d) o mid × IsOnward mid e
+IsMendOp d (mend.Repair s j) o e = MayRepair (log_of d) s (backup_for d (mend.Repair s j))
+    × (o ≡ seal_op (memory_of d) s (backup_for d (mend.Repair s j)))
+    × IsMended (record (log_of d) { took = with_taken (log_of d).took s (backup_for d (mend.Repair s j)) }) e
+
+-- what takes the place of the first head is a head
+abbrev pub IsNewValid : NewHead → Type 0
+IsNewValid (new_head.First h) = IsHeadValue h
+IsNewValid (new_head.Next r) = Unit {0}
+
+-- the first Open of the new head, in bytes
+abbrev pub first_open : ℕ → ℕ → NewHead → OpValue
+first_open master segment new =
+    record { master = master; segment = segment; act = Open (text_of (new_text new)) }
+
+-- Whether it was taken: after a fault nobody knows. Or why it wasn't.
+abbrev pub OpensFirst : FleetState → ℕ → OpValue → Result Bool Refusal → FleetState → Type 0
+OpensFirst f b op (Ok true) g = Takes f b op g
+OpensFirst f b op (Ok false) g = Refuses f b op take_fault.Fault g
+OpensFirst f b op (Err refusal.NoMemory) g = Refuses f b op take_fault.NoMemory g
+OpensFirst f b op (Err refusal.Spent) g = Refuses f b op take_fault.Spent g
+OpensFirst f b op (Err _) g = ⊥
+
+-- what a push answers, by what it does to which replica
+abbrev pub answer_for : Mend → ℕ → ℕ → StepAnswer
+answer_for (mend.Extend j) backup segment = Extended backup segment
+answer_for (mend.Replace j) backup segment = Opened backup segment
+answer_for mend.Turn backup segment = Opened backup segment
+answer_for (mend.Open j) backup segment = Opened backup segment
+answer_for (mend.Raise id) backup segment = Raised id
+answer_for (mend.Close j) backup segment = Closed backup segment
+answer_for (mend.Repair s j) backup segment = Repaired backup segment
+
+-- what it answers
+abbrev pub mend_answer : MasterData → Mend → StepAnswer
+mend_answer d m = answer_for m (backup_for d m) (segment_for d m)
+
+-- A push of an open failover that is accepted: one op, which the fleet took.
+pub record MendsOn (old : World) (answer : StepAnswer) (new : World) : Type 0 where
+  pub op : Op
+  pub running : old.knows.is_halted ≡ false
+  pub failing : IsSome old.knows.failover
+  pub mend : Mend
+  pub next : IsNextMend old.knows mend
+  pub does : IsMendOp old.knows mend op (log_of new.knows)
+  pub told : answer ≡ mend_answer old.knows mend
+  pub rest : new.knows ≡ mended_data old.knows mend
+  pub takes : TakesOp old.knows.config.master old.fleet op new.fleet

@@ -1,0 +1,14 @@
+pub mod Losses
+pub mod Counts
+pub mod Changed
+pub mod Rolled
+pub mod Raised
+pub mod Sought
+pub mod Resealed
+pub mod Turned
+pub mod TurnedCore
+pub mod LostCounts
+pub mod LeftBounds
+pub mod LeftEnds
+pub mod LeftSteps
+pub mod OldClosed

@@ -1,0 +1,54 @@
+-- How many pushes an open failover still needs, at most.
+use Rattle.std.specs.Prelude.{ℕ, suc, ◌+◌, ◌-◌, List, [], ◌∷◌, length, ◌==◌, nat_lt, if◌then◌else◌}
+use Rattle.std.specs.Option.{option_map_or}
+use Rattle.images.specs.Image.{Image}
+use Rattle.images.specs.Sorted.{replicas_of}
+use Rattle.log_head.specs.declared.head.Roll.{Roll}
+use Rattle.log_head.specs.Log.{head_of, start_of}
+use Rattle.master_state.specs.declared.failover.Failover.{Failover}
+use Rattle.master_state.specs.declared.failover.Part.{Part}
+use Rattle.master_state.specs.declared.failover.Part.TheVariants as part
+use Rattle.master_state.specs.Data.{MasterData}
+use Rattle.master_mending.specs.Mending.{was_headless, opened_now}
+
+-- how many of these counts are below that many
+abbrev pub count_below : ℕ → List ℕ → ℕ
+count_below n [] = 0
+count_below n (m ∷ ms) = if nat_lt m n then suc (count_below n ms) else count_below n ms
+
+-- how many replicas of these segments are lost, the head's apart
+abbrev pub lost_of : ℕ → List Image → ℕ → List ℕ → ℕ
+lost_of replicas closed head [] = 0
+lost_of replicas closed head (s ∷ ids) =
+    if s == head then lost_of replicas closed head ids
+    else (replicas - replicas_of closed s) + lost_of replicas closed head ids
+
+-- the segments of the newest digest beside its head: that of the head that is being opened, or of the one in force
+abbrev pub others_now : MasterData → List ℕ
+others_now d = option_map_or (λ (r : Roll). (start_of r).others) d.head.roll (head_of d.head).start.others
+
+-- their lost replicas; the head in force has all of its own before a new one is opened
+abbrev pub lost_now : MasterData → ℕ
+lost_now d = lost_of d.config.replicas d.closed d.head.id (others_now d)
+
+-- the replicas of the head that lack some unit, and those that are lost
+abbrev pub unmended : MasterData → ℕ
+unmended d =
+    if was_headless d then d.config.replicas
+    else count_below (length d.head.units) d.head.taken + (d.config.replicas - length d.head.taken)
+
+-- the old head's replicas that are to be closed
+abbrev pub to_close : MasterData → ℕ
+to_close d = option_map_or (λ (r : Roll). d.config.replicas - r.closed) d.head.roll 0
+
+-- Parts 1 and 2 of a failover mend the head, 3 and 4 open the new one and raise the registry, 5 closes the old one, and
+-- 6 seals what is lost.
+abbrev pub left_in : MasterData → Part → ℕ
+left_in d part.Mends = unmended d + (d.config.replicas + 1) + d.config.replicas + lost_now d
+left_in d part.Opens = (d.config.replicas - opened_now d) + 1 + to_close d + lost_now d
+left_in d part.Closes = to_close d + lost_now d
+left_in d part.Repairs = lost_now d
+
+-- none, if no failover is open
+abbrev pub left_now : MasterData → ℕ
+left_now d = option_map_or (λ (f : Failover). left_in d f.part) d.failover 0

@@ -1,0 +1,3 @@
+pub mod Mending
+pub mod Left
+pub mod Laws
