@@ -4,22 +4,22 @@ use Rattle.std.specs.Prelude.{None as nothing}
 use Rattle.std.specs.List.{flat_map}
 use Rattle.std.specs.Fmt.{decimal, digit_glyph}
 use Rattle.std.specs.Int.{w64, to_be_bytes}
-use Rattle.cleaner.specs.declared.survivors.Survivors.{Survivors}
-use Rattle.cleaner.specs.Passes.{survivor_ids}
+use Rattle.recovery.specs.master.cleaner.declared.survivors.Survivors.{Survivors}
+use Rattle.recovery.specs.master.cleaner.Passes.{survivor_ids}
 use Rattle.entry.specs.declared.entry.Object.{Object}
 use Rattle.replica.specs.declared.label.Label.{Label}
 use Rattle.replica.specs.declared.op.TakeFault.{TakeFault}
 use Rattle.replica.specs.declared.op.TakeFault.TheVariants as take_fault
-use Rattle.claims.specs.declared.rebuilt.Rebuilt.{Rebuilt}
+use Rattle.recovery.specs.claims.declared.rebuilt.Rebuilt.{Rebuilt}
 use Rattle.recovery.specs.Texts.{recovery_fault_text}
 use Rattle.versioned_map.specs.declared.command.Reply.{Reply}
 use Rattle.versioned_map.specs.declared.command.Reply.TheVariants as reply
 use Rattle.lines.specs.Grammar.{fate_word}
 use Rattle.lines.specs.Texts.{reason_text}
-use Rattle.master_state.specs.declared.config.Config.{Config}
-use Rattle.master_state.specs.declared.config.ConfigFault.{ConfigFault}
-use Rattle.master_state.specs.declared.config.ConfigFault.TheVariants.{BadBackups, BadSegment, BadBudget}
-use Rattle.master_state.specs.Names.{refusal_text, config_fault_name}
+use Rattle.recovery.specs.master.master_state.declared.config.Config.{Config}
+use Rattle.recovery.specs.master.master_state.declared.config.ConfigFault.{ConfigFault}
+use Rattle.recovery.specs.master.master_state.declared.config.ConfigFault.TheVariants.{BadBackups, BadSegment, BadBudget}
+use Rattle.recovery.specs.master.master_state.Names.{refusal_text, config_fault_name}
 use Rattle.tablet_will.specs.declared.part.Part.{Part}
 use Rattle.tablet_will.specs.Parts.{partitions_of}
 use Rattle.answers.specs.declared.answer.Answer.{Answer}

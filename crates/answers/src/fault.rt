@@ -3,13 +3,13 @@
 ghost use Rattle.std.specs.Prelude.{◌≡◌, ◌++◌, Some};
 ghost use Rattle.answers.specs.Errors.{Writes};
 ghost use Rattle.lines.specs.Texts.{number_text};
-ghost use Rattle.master_state.specs.Config.{config_fault};
+ghost use Rattle.recovery.specs.master.master_state.Config.{config_fault};
 ghost use Rattle.answers.specs.Texts.{config_lines, config_why_line, error_line, exit_status, fault_lines};
 ghost use Rattle.answers.specs.Texts.{script_fault_text, why_line};
 
 use crate::errors::ErrorOutput;
 use lines::Reason;
-use master::{Config, ConfigFault};
+use recovery::master::{Config, ConfigFault};
 use std::error::Error;
 use std::fmt;
 use std::io::Write;

@@ -17,3 +17,5 @@ pub use answer::{Answer, write_answer, write_reply};
 pub use errors::ErrorOutput;
 pub use fault::{ScriptFault, report, report_config};
 pub use limits::Limits;
+pub use recovery;
+pub use recovery::{driving, replay};

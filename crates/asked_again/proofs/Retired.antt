@@ -3,8 +3,8 @@ use Rattle.std.proofs.Common.{◌≡◌, refl, List}
 use Rattle.std.specs.Prelude.{Result, Ok, Err}
 use Rattle.replica.specs.declared.op.TakeFault.{TakeFault}
 use Rattle.replica.specs.declared.op.TakeFault.TheVariants as take_fault
-use Rattle.master_state.specs.Data.{MasterData}
-use Rattle.master.specs.World.{retired_data}
+use Rattle.store_lines.specs.master.master_state.Data.{MasterData}
+use Rattle.store_lines.specs.master.World.{retired_data}
 
 pub same_config : (r : Result (Unit {0}) TakeFault) (d : MasterData) → (retired_data r d).config ≡ d.config
 same_config (Ok u) d = refl

@@ -2,11 +2,11 @@
 
 use backup::MemoryFleet;
 use lines::{Line, parse_line};
-use locked_log::{CallFault, Naming, Seat, Store};
-use master::{Look, Refusal, Shown};
-use script::Answer;
 use std::alloc::Global;
 use std::sync::Wait;
+use store_lines::locked_log::{CallFault, Naming, Seat, Store};
+use store_lines::master::{Look, Refusal, Shown};
+use store_lines::script::Answer;
 use store_lines::{Phase, command_of, look_line, take_all, turn_line};
 
 /// Runs a line, and answers what it prints.

@@ -1,23 +1,23 @@
 //! A life of a master, behind a store of one seat.
 
 ghost use Rattle.std.specs.Prelude.{◌≡◌, ◌≤◌, IfErr};
-ghost use Rattle.locked_log.specs.Ends.{IsFresh};
+ghost use Rattle.store_lines.specs.locked_log.Ends.{IsFresh};
 ghost use Rattle.backup.specs.State.{fleet_state};
-ghost use Rattle.locked_log.specs.Made.{IsMade};
-ghost use Rattle.master.specs.World.{world};
+ghost use Rattle.store_lines.specs.locked_log.Made.{IsMade};
+ghost use Rattle.store_lines.specs.master.World.{world};
 ghost use Rattle.store_lines.specs.Lives.{IsOpening};
 
 use crate::asking::{ask, push};
 use crate::printing::{print, print_history};
 use backup::MemoryFleet;
-use locked_log::{Blank, Naming, Seat, Store};
-use master::Master;
-use script::{Answer, Options};
 use std::alloc::Global;
 use std::io::Write;
 use std::marker::Brand;
 use std::sync::Wait;
 use store_lines::Phase;
+use store_lines::locked_log::{Blank, Naming, Seat, Store};
+use store_lines::master::Master;
+use store_lines::script::{Answer, Options};
 
 /// Runs these lines through a store over the master, prints their answers and the history, and drops the master.
 pub fn live<R: Wait, O: Write>(

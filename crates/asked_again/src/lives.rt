@@ -4,12 +4,12 @@ use crate::life::live;
 use crate::printing::print;
 use crate::scripts::{OPTIONS, Script};
 use crate::succession::{begin, succeed};
-use recovery::GroupOrder;
-use script::Answer;
 use std::alloc::Global;
 use std::io::Write;
 use std::sync::Wait;
 use store_lines::FIRST_MASTER;
+use store_lines::recovery::GroupOrder;
+use store_lines::script::Answer;
 
 /// Runs the lives of a script. Between two of them the master crashes, and the next one adopts its table.
 pub fn run_lives<R: Wait, O: Write>(rt: &R, alloc: Global, writer: &mut O, script: &Script) {

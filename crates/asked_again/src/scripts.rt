@@ -1,6 +1,6 @@
 //! The scripts: each life of a master is a list of lines. A recovery comes between two lives.
 
-use script::Options;
+use store_lines::script::Options;
 
 /// The lines of one life after another.
 type Lives = &'static [&'static [&'static [u8]]];

@@ -6,14 +6,14 @@ ghost use Rattle.store_lines.specs.Lives.{CanBegin, IsChecked, IsOpening};
 
 use crate::printing::print;
 use backup::MemoryFleet;
-use master::{Config, Master};
-use recovery::{GroupOrder, Rebuilt, make_will, recover};
-use replay::adopt_list;
 use replica::{Fleet, Inventory, TakeFault};
-use script::{Answer, Options, configuration};
 use std::alloc::Global;
 use std::io::Write;
 use std::sync::Wait;
+use store_lines::master::{Config, Master};
+use store_lines::recovery::{GroupOrder, Rebuilt, make_will, recover};
+use store_lines::replay::adopt_list;
+use store_lines::script::{Answer, Options, configuration};
 use store_lines::{FIRST_MASTER, first_master, next_config};
 
 /// The table of a crashed master, and what the one that is to adopt it begins with.

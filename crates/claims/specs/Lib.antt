@@ -7,3 +7,4 @@ pub mod Props
 pub mod Rebuilt
 pub mod Texts
 pub mod Settled
+pub use Rattle.division.specs as division

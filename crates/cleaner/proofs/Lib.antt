@@ -16,3 +16,4 @@ pub mod Batches
 pub mod Copying
 pub mod Steps
 pub mod Lacking
+pub use Rattle.compactor.proofs as compactor

@@ -5,3 +5,4 @@ pub mod Passes
 pub mod KeptLengths
 pub mod Walks
 pub mod Laws
+pub use Rattle.compactor.specs as compactor

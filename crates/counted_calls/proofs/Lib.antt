@@ -1,0 +1,2 @@
+pub use Rattle.locked_log.proofs.of_master
+pub use Rattle.locked_log.proofs as of_locked_log

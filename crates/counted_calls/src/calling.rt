@@ -2,8 +2,8 @@
 
 ghost use Rattle.std.specs.Prelude.{◌≡◌, ◌≤◌, ◌+◌, OnOk};
 
+use locked_log::master::Command;
 use locked_log::{CallFault, Naming, Seat, Store};
-use master::Command;
 use replica::Fleet;
 use std::sync::Wait;
 

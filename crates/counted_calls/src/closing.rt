@@ -4,11 +4,11 @@ ghost use Rattle.std.specs.Prelude.{IsTrue};
 ghost use Rattle.locked_log.specs.Ends.{AreServed};
 ghost use Rattle.locked_log.specs.Made.{IsMade};
 ghost use Rattle.locked_log.specs.Sharing.{AreOfSeats};
-ghost use Rattle.master.specs.Valid.{IsValid};
-ghost use Rattle.master.specs.World.{world};
+ghost use Rattle.locked_log.specs.master.Valid.{IsValid};
+ghost use Rattle.locked_log.specs.master.World.{world};
 
+use locked_log::master::Master;
 use locked_log::{Naming, Seat, Store};
-use master::Master;
 use replica::Fleet;
 
 /// Takes the master of a store back. Answers whether the book's numbers of all given seats are their own.

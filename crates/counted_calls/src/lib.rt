@@ -12,3 +12,5 @@ mod closing;
 
 pub use calling::call;
 pub use closing::take_back;
+pub use locked_log;
+pub use locked_log::master;

@@ -2,12 +2,12 @@
 use Rattle.std.proofs.Common.{◌≡◌, Bool, true, false, [], refl, sym, ◌∙◌}
 use Rattle.std.proofs.lemmas.List.{append-nil}
 use Rattle.std.specs.Prelude.{Result}
-use Rattle.master_state.specs.declared.step.Refusal.{Refusal}
-use Rattle.master_state.specs.declared.step.Refusal.TheVariants.{Spent}
-use Rattle.master_state.specs.declared.step.Step.{Step}
-use Rattle.master_state.specs.declared.step.Step.TheVariants.{Apply, Push, BeginRoll, Compact, BeginClean, Copy, Seal}
-use Rattle.master_state.specs.declared.step.Step.TheVariants.{Free}
-use Rattle.master_state.specs.declared.step.StepAnswer.{StepAnswer}
+use Rattle.master.specs.master_state.declared.step.Refusal.{Refusal}
+use Rattle.master.specs.master_state.declared.step.Refusal.TheVariants.{Spent}
+use Rattle.master.specs.master_state.declared.step.Step.{Step}
+use Rattle.master.specs.master_state.declared.step.Step.TheVariants.{Apply, Push, BeginRoll, Compact, BeginClean, Copy, Seal}
+use Rattle.master.specs.master_state.declared.step.Step.TheVariants.{Free}
+use Rattle.master.specs.master_state.declared.step.StepAnswer.{StepAnswer}
 use Rattle.master.specs.Keeps.{Keeps}
 use Rattle.master.specs.Steps.{Declines, Steps}
 use Rattle.master.specs.World.{World}

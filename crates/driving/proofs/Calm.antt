@@ -4,25 +4,25 @@ use Rattle.std.proofs.Common.{subst, inl, inr, ◌∙◌, arith}
 use Rattle.std.proofs.lemmas.Option.{same_Some}
 use Rattle.std.specs.Option.{option_map, option_map_or}
 use Rattle.std.specs.Prelude.{Option, Some, None, IsSome, ◌==◌, if◌then◌else◌}
-use Rattle.cleaner.specs.declared.pass.Pass.{Pass}
-use Rattle.cleaner.specs.Passes.{is_ready as is_ready_pass, survivor_ids}
-use Rattle.log_head.specs.declared.head.Roll.{Roll}
-use Rattle.log_head.specs.declared.next.Next.{Next}
-use Rattle.log_head.specs.declared.next.Next.TheVariants as next
-use Rattle.log_head.specs.Head.{HeadValue, digest_of, is_open}
-use Rattle.log_head.specs.Steps.{fresh_roll, in_force, with_closed_replica, with_new_replica}
-use Rattle.log_model.specs.Ids.{all_inserted, without}
+use Rattle.master.specs.cleaner.declared.pass.Pass.{Pass}
+use Rattle.master.specs.cleaner.Passes.{is_ready as is_ready_pass, survivor_ids}
+use Rattle.master.specs.log_head.declared.head.Roll.{Roll}
+use Rattle.master.specs.log_head.declared.next.Next.{Next}
+use Rattle.master.specs.log_head.declared.next.Next.TheVariants as next
+use Rattle.master.specs.log_head.Head.{HeadValue, digest_of, is_open}
+use Rattle.master.specs.log_head.Steps.{fresh_roll, in_force, with_closed_replica, with_new_replica}
+use Rattle.master.specs.log_model.Ids.{all_inserted, without}
 use Rattle.versioned_map.specs.declared.command.Record.{Record}
-use Rattle.master_space.specs.Ends.{pass_left}
-use Rattle.master_state.specs.declared.config.Config.{Config}
-use Rattle.master_state.specs.declared.failover.Failover.{Failover}
-use Rattle.master_state.specs.declared.step.Step.{Step}
-use Rattle.master_state.specs.declared.step.Step.TheVariants.{Apply, Push, BeginRoll, Compact, BeginClean, Copy, Seal}
-use Rattle.master_state.specs.declared.step.Step.TheVariants.{Free}
-use Rattle.master_state.specs.declared.step.StepAnswer.{StepAnswer}
-use Rattle.master_state.specs.Budget.{is_ready, newest_digest}
-use Rattle.master_state.specs.Data.{MasterData}
-use Rattle.master_state.specs.Steps.{start_now}
+use Rattle.master.specs.master_space.Ends.{pass_left}
+use Rattle.master.specs.master_state.declared.config.Config.{Config}
+use Rattle.master.specs.master_state.declared.failover.Failover.{Failover}
+use Rattle.master.specs.master_state.declared.step.Step.{Step}
+use Rattle.master.specs.master_state.declared.step.Step.TheVariants.{Apply, Push, BeginRoll, Compact, BeginClean, Copy, Seal}
+use Rattle.master.specs.master_state.declared.step.Step.TheVariants.{Free}
+use Rattle.master.specs.master_state.declared.step.StepAnswer.{StepAnswer}
+use Rattle.master.specs.master_state.Budget.{is_ready, newest_digest}
+use Rattle.master.specs.master_state.Data.{MasterData}
+use Rattle.master.specs.master_state.Steps.{start_now}
 use Rattle.master.specs.Steps.{Accepts}
 use Rattle.master.specs.World.{World}
 use Rattle.driving.specs.Rolls.{Advances}

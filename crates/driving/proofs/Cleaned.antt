@@ -6,28 +6,28 @@ use Rattle.std.proofs.lemmas.List.{append-nil}
 use Rattle.std.specs.List.{AllByRecursion}
 use Rattle.std.specs.Option.{option_map_or}
 use Rattle.std.specs.Prelude.{Option, Some, None, IfSome, is_some, not, if◌then◌else◌}
-use Rattle.cleaner.specs.declared.pass.Pass.{Pass}
-use Rattle.cleaner.specs.declared.survivors.Survivors.{Survivors}
-use Rattle.cleaner.specs.Passes.{survivor_ids}
+use Rattle.master.specs.cleaner.declared.pass.Pass.{Pass}
+use Rattle.master.specs.cleaner.declared.survivors.Survivors.{Survivors}
+use Rattle.master.specs.cleaner.Passes.{survivor_ids}
 use Rattle.entry.specs.Text.{Opening, opening_of}
-use Rattle.log_head.specs.declared.head.Roll.{Roll}
-use Rattle.log_head.specs.Head.{digest_of}
-use Rattle.log_head.specs.Log.{head_of, start_in, start_of}
-use Rattle.log_head.proofs.RollLog.{digest_is}
-use Rattle.log_model.specs.Data.{ids_of}
-use Rattle.log_model.specs.Ids.{has}
-use Rattle.log_model.proofs.Lengths.{ids_listed}
-use Rattle.master_state.specs.declared.step.Refusal.{Refusal}
-use Rattle.master_state.specs.declared.step.Refusal.TheVariants as refusal
-use Rattle.master_state.specs.declared.step.Step.TheVariants.{BeginClean}
-use Rattle.master_state.specs.declared.step.StepAnswer.{StepAnswer}
-use Rattle.master_state.specs.declared.step.StepAnswer.TheVariants.{Begun}
-use Rattle.master_state.specs.Budget.{is_committing, newest_digest, survivors_of, victims_of}
-use Rattle.master_state.specs.Causes.{clean_refusal}
-use Rattle.master_state.specs.Data.{MasterData}
-use Rattle.master_state.specs.Invariant.{AreVictims, IsCore, IsOpenPass, IsRollOf, listed_with}
-use Rattle.master_state.specs.Log.{is_headless, is_opened}
-use Rattle.master_state.specs.Steps.{fresh_pass, next_survivors}
+use Rattle.master.specs.log_head.declared.head.Roll.{Roll}
+use Rattle.master.specs.log_head.Head.{digest_of}
+use Rattle.master.specs.log_head.Log.{head_of, start_in, start_of}
+use Rattle.master.proofs.log_head.RollLog.{digest_is}
+use Rattle.master.specs.log_model.Data.{ids_of}
+use Rattle.master.specs.log_model.Ids.{has}
+use Rattle.master.proofs.log_model.Lengths.{ids_listed}
+use Rattle.master.specs.master_state.declared.step.Refusal.{Refusal}
+use Rattle.master.specs.master_state.declared.step.Refusal.TheVariants as refusal
+use Rattle.master.specs.master_state.declared.step.Step.TheVariants.{BeginClean}
+use Rattle.master.specs.master_state.declared.step.StepAnswer.{StepAnswer}
+use Rattle.master.specs.master_state.declared.step.StepAnswer.TheVariants.{Begun}
+use Rattle.master.specs.master_state.Budget.{is_committing, newest_digest, survivors_of, victims_of}
+use Rattle.master.specs.master_state.Causes.{clean_refusal}
+use Rattle.master.specs.master_state.Data.{MasterData}
+use Rattle.master.specs.master_state.Invariant.{AreVictims, IsCore, IsOpenPass, IsRollOf, listed_with}
+use Rattle.master.specs.master_state.Log.{is_headless, is_opened}
+use Rattle.master.specs.master_state.Steps.{fresh_pass, next_survivors}
 use Rattle.master.specs.Steps.{Accepts}
 use Rattle.master.specs.World.{World}
 use Rattle.driving.specs.Cleans.{AreMended, AreTurned, IsCleaned, IsMended, TurnsOut}
@@ -37,8 +37,8 @@ use Rattle.driving.proofs.Outlines.{outline}
 use Rattle.driving.proofs.MasterSteps.{accepted_fixed}
 use Rattle.driving.proofs.Turns.{next_turn, nothing_next}
 use Rattle.versioned_map.specs.declared.command.Record.{Record}
-use Rattle.master_state.specs.declared.config.Config.{Config}
-use Rattle.master_state.specs.declared.failover.Failover.{Failover}
+use Rattle.master.specs.master_state.declared.config.Config.{Config}
+use Rattle.master.specs.master_state.declared.failover.Failover.{Failover}
 
 -- ---- where a pass begins
 

@@ -6,36 +6,36 @@ use Rattle.std.proofs.lemmas.List.{length-append, length-set}
 use Rattle.std.proofs.lemmas.Option.{same_Some}
 use Rattle.std.specs.Option.{option_map, option_map_or}
 use Rattle.std.specs.Prelude.{Option, Some, None, IfSome, not, ◌==◌, if◌then◌else◌}
-use Rattle.cleaner.specs.declared.pass.Pass.{Pass}
-use Rattle.cleaner.specs.Passes.{is_ready as is_ready_pass, survivor_ids}
+use Rattle.master.specs.cleaner.declared.pass.Pass.{Pass}
+use Rattle.master.specs.cleaner.Passes.{is_ready as is_ready_pass, survivor_ids}
 use Rattle.entry.specs.declared.digest.Listed.{Listed}
 use Rattle.entry.specs.Limits.{ids_in}
-use Rattle.log_head.specs.declared.head.Roll.{Roll}
-use Rattle.log_head.specs.declared.next.Next.{Next}
-use Rattle.log_head.specs.declared.next.Next.TheVariants as next
-use Rattle.log_head.specs.Head.{HeadValue, IsLagging, digest_of}
-use Rattle.log_head.specs.Steps.{fresh_roll, in_force, lost, start_after, with_closed_replica, with_new_replica}
-use Rattle.log_head.specs.Steps.{with_all_taken, with_opened_replica, with_whole_replica}
-use Rattle.log_head.proofs.Digests.{without_none}
-use Rattle.log_head.proofs.Rolls.{zeros_length}
-use Rattle.log_model.specs.Data.{ids_of}
-use Rattle.log_model.specs.Ids.{all_inserted, without}
-use Rattle.log_model.proofs.Lengths.{ids_listed}
-use Rattle.master_mending.specs.declared.mending.Mend.{Mend}
-use Rattle.master_mending.specs.declared.mending.Mend.TheVariants as mend
-use Rattle.master_mending.specs.Mending.{IsInPart, IsNextMend, closed_more, mended_data, opening, turn_roll}
-use Rattle.master_mending.specs.Mending.{was_headless}
-use Rattle.master_space.specs.Ends.{pass_left}
-use Rattle.master_state.specs.declared.failover.Failover.{Failover}
-use Rattle.master_state.specs.declared.failover.Part.{Part}
-use Rattle.master_state.specs.declared.failover.Part.TheVariants as part
-use Rattle.master_state.specs.declared.step.Step.{Step}
-use Rattle.master_state.specs.declared.step.Step.TheVariants.{Apply, Push, BeginRoll, Compact, BeginClean, Copy, Seal}
-use Rattle.master_state.specs.declared.step.Step.TheVariants.{Free}
-use Rattle.master_state.specs.Budget.{is_ready, survivors_of, victims_of}
-use Rattle.master_state.specs.Data.{MasterData}
-use Rattle.master_state.specs.Log.{is_opened}
-use Rattle.master_state.specs.Steps.{listed_in, place_of, start_now}
+use Rattle.master.specs.log_head.declared.head.Roll.{Roll}
+use Rattle.master.specs.log_head.declared.next.Next.{Next}
+use Rattle.master.specs.log_head.declared.next.Next.TheVariants as next
+use Rattle.master.specs.log_head.Head.{HeadValue, IsLagging, digest_of}
+use Rattle.master.specs.log_head.Steps.{fresh_roll, in_force, lost, start_after, with_closed_replica, with_new_replica}
+use Rattle.master.specs.log_head.Steps.{with_all_taken, with_opened_replica, with_whole_replica}
+use Rattle.master.proofs.log_head.Digests.{without_none}
+use Rattle.master.proofs.log_head.Rolls.{zeros_length}
+use Rattle.master.specs.log_model.Data.{ids_of}
+use Rattle.master.specs.log_model.Ids.{all_inserted, without}
+use Rattle.master.proofs.log_model.Lengths.{ids_listed}
+use Rattle.master.specs.master_mending.declared.mending.Mend.{Mend}
+use Rattle.master.specs.master_mending.declared.mending.Mend.TheVariants as mend
+use Rattle.master.specs.master_mending.Mending.{IsInPart, IsNextMend, closed_more, mended_data, opening, turn_roll}
+use Rattle.master.specs.master_mending.Mending.{was_headless}
+use Rattle.master.specs.master_space.Ends.{pass_left}
+use Rattle.master.specs.master_state.declared.failover.Failover.{Failover}
+use Rattle.master.specs.master_state.declared.failover.Part.{Part}
+use Rattle.master.specs.master_state.declared.failover.Part.TheVariants as part
+use Rattle.master.specs.master_state.declared.step.Step.{Step}
+use Rattle.master.specs.master_state.declared.step.Step.TheVariants.{Apply, Push, BeginRoll, Compact, BeginClean, Copy, Seal}
+use Rattle.master.specs.master_state.declared.step.Step.TheVariants.{Free}
+use Rattle.master.specs.master_state.Budget.{is_ready, survivors_of, victims_of}
+use Rattle.master.specs.master_state.Data.{MasterData}
+use Rattle.master.specs.master_state.Log.{is_opened}
+use Rattle.master.specs.master_state.Steps.{listed_in, place_of, start_now}
 use Rattle.master.specs.World.{World}
 use Rattle.driving.specs.Rolls.{Advances}
 use Rattle.driving.proofs.Heads.{next_id, part_in}

@@ -6,29 +6,29 @@ use Rattle.std.proofs.lemmas.Option.{same_Some}
 use Rattle.std.specs.Prelude.{Option, Some, None, is_none, not, ◌==◌, ◌&&◌, if◌then◌else◌, unwrap_or, ◌⊎◌}
 use Rattle.std.specs.Prelude.{Result, Ok, Err, IfOk, IfErr, IfSome}
 use Rattle.std.specs.Option.{option_map, option_map_or}
-use Rattle.log_head.specs.declared.head.Roll.{Roll}
-use Rattle.log_head.specs.declared.next.Next.{Next}
-use Rattle.log_head.specs.declared.next.Next.TheVariants as next
-use Rattle.log_head.specs.Head.{HeadValue, is_open}
-use Rattle.log_head.specs.Steps.{fresh_roll, in_force, with_closed_replica, with_new_replica, with_opened_replica}
-use Rattle.log_model.specs.Data.{Start}
-use Rattle.master_mending.specs.declared.mending.Mend.{Mend}
-use Rattle.master_mending.specs.declared.mending.Mend.TheVariants as mend
-use Rattle.master_mending.specs.Mending.{IsInPart, IsNextMend, closed_more, mended_data, turn_roll}
-use Rattle.master_mending.specs.Mending.{was_headless}
+use Rattle.master.specs.log_head.declared.head.Roll.{Roll}
+use Rattle.master.specs.log_head.declared.next.Next.{Next}
+use Rattle.master.specs.log_head.declared.next.Next.TheVariants as next
+use Rattle.master.specs.log_head.Head.{HeadValue, is_open}
+use Rattle.master.specs.log_head.Steps.{fresh_roll, in_force, with_closed_replica, with_new_replica, with_opened_replica}
+use Rattle.master.specs.log_model.Data.{Start}
+use Rattle.master.specs.master_mending.declared.mending.Mend.{Mend}
+use Rattle.master.specs.master_mending.declared.mending.Mend.TheVariants as mend
+use Rattle.master.specs.master_mending.Mending.{IsInPart, IsNextMend, closed_more, mended_data, turn_roll}
+use Rattle.master.specs.master_mending.Mending.{was_headless}
 use Rattle.versioned_map.specs.declared.command.Record.{Record}
-use Rattle.master_state.specs.declared.config.Config.{Config}
-use Rattle.master_state.specs.declared.failover.Failover.{Failover}
-use Rattle.master_state.specs.declared.failover.Part.{Part}
-use Rattle.master_state.specs.declared.failover.Part.TheVariants as part
-use Rattle.master_state.specs.declared.step.Refusal.{Refusal}
-use Rattle.master_state.specs.declared.step.Refusal.TheVariants as refusal
-use Rattle.master_state.specs.declared.step.Step.TheVariants.{BeginRoll, Push}
-use Rattle.master_state.specs.declared.step.StepAnswer.{StepAnswer}
-use Rattle.master_state.specs.Data.{MasterData}
-use Rattle.master_state.specs.Budget.{is_ready, is_working}
-use Rattle.master_state.specs.Causes.{roll_refusal}
-use Rattle.master_state.specs.Steps.{start_now}
+use Rattle.master.specs.master_state.declared.config.Config.{Config}
+use Rattle.master.specs.master_state.declared.failover.Failover.{Failover}
+use Rattle.master.specs.master_state.declared.failover.Part.{Part}
+use Rattle.master.specs.master_state.declared.failover.Part.TheVariants as part
+use Rattle.master.specs.master_state.declared.step.Refusal.{Refusal}
+use Rattle.master.specs.master_state.declared.step.Refusal.TheVariants as refusal
+use Rattle.master.specs.master_state.declared.step.Step.TheVariants.{BeginRoll, Push}
+use Rattle.master.specs.master_state.declared.step.StepAnswer.{StepAnswer}
+use Rattle.master.specs.master_state.Data.{MasterData}
+use Rattle.master.specs.master_state.Budget.{is_ready, is_working}
+use Rattle.master.specs.master_state.Causes.{roll_refusal}
+use Rattle.master.specs.master_state.Steps.{start_now}
 use Rattle.master.specs.Steps.{Accepts, Declines, Steps}
 use Rattle.master.specs.World.{World}
 use Rattle.driving.specs.Rolls.{Advances, ArePushed, PushesUntil, GoesRolling, HasTurned, IsRolled, IsNotRolled}

@@ -1,21 +1,21 @@
 -- Whatever a master is driven to, no least head of another master is raised.
 use Rattle.std.proofs.Common.{◌≡◌, ℕ, zero, suc, List, inl, inr, ap, ◌∙◌}
 use Rattle.std.specs.Prelude.{Result, Ok, Err}
-use Rattle.cleaner.specs.declared.survivors.Survivors.{Survivors}
+use Rattle.master.specs.cleaner.declared.survivors.Survivors.{Survivors}
 use Rattle.versioned_map.specs.declared.command.Command.{Command}
 use Rattle.versioned_map.specs.declared.command.Record.{Record}
 use Rattle.versioned_map.specs.declared.command.Reply.{Reply}
-use Rattle.failover_model.specs.Shown.{Op}
-use Rattle.failover_bytes.specs.Ops.{TakesOp}
+use Rattle.master.specs.failover_model.Shown.{Op}
+use Rattle.master.specs.failover_bytes.Ops.{TakesOp}
 use Rattle.replica.specs.Picture.{FleetState}
-use Rattle.master_state.specs.declared.config.Config.{Config}
-use Rattle.master_state.specs.declared.step.Refusal.{Refusal}
-use Rattle.master_state.specs.declared.step.Refusal.TheVariants as refusal
-use Rattle.master_state.specs.declared.step.Step.{Step}
-use Rattle.master_state.specs.declared.step.Step.TheVariants.{Apply, Push, BeginRoll, Compact, BeginClean, Copy, Seal}
-use Rattle.master_state.specs.declared.step.Step.TheVariants.{Free}
-use Rattle.master_state.specs.declared.step.StepAnswer.{StepAnswer}
-use Rattle.master_state.specs.Data.{MasterData}
+use Rattle.master.specs.master_state.declared.config.Config.{Config}
+use Rattle.master.specs.master_state.declared.step.Refusal.{Refusal}
+use Rattle.master.specs.master_state.declared.step.Refusal.TheVariants as refusal
+use Rattle.master.specs.master_state.declared.step.Step.{Step}
+use Rattle.master.specs.master_state.declared.step.Step.TheVariants.{Apply, Push, BeginRoll, Compact, BeginClean, Copy, Seal}
+use Rattle.master.specs.master_state.declared.step.Step.TheVariants.{Free}
+use Rattle.master.specs.master_state.declared.step.StepAnswer.{StepAnswer}
+use Rattle.master.specs.master_state.Data.{MasterData}
 use Rattle.master.specs.Passes.{IsSealOp, IsFreeOp}
 use Rattle.master.specs.Steps.{Accepts, FailsTake, IsPushOp, Steps}
 use Rattle.master.specs.World.{World}

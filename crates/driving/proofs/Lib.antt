@@ -12,3 +12,4 @@ pub mod Turns
 pub mod Digests
 pub mod Calm
 pub mod Cleaned
+pub use Rattle.master.proofs as of_master

@@ -4,17 +4,17 @@ use Rattle.std.proofs.Common.{subst, inl, inr, arith}
 use Rattle.std.proofs.lemmas.Bool.{and_parts, ltb-true}
 use Rattle.std.specs.Prelude.{Option, Some, None, Result, Ok, is_none, is_some, ◌==◌, ◌&&◌, nat_lt}
 use Rattle.std.specs.Prelude.{if◌then◌else◌, ◌⊎◌}
-use Rattle.failover_model.specs.Shown.{Op}
+use Rattle.master.specs.failover_model.Shown.{Op}
 use Rattle.versioned_map.specs.declared.command.Record.{Record}
-use Rattle.master_state.specs.declared.config.Config.{Config}
-use Rattle.master_state.specs.declared.step.Refusal.{Refusal}
-use Rattle.master_state.specs.declared.step.Refusal.TheVariants as refusal
-use Rattle.master_state.specs.declared.step.Step.{Step}
-use Rattle.master_state.specs.declared.step.Step.TheVariants.{Push, Seal, Free, Copy, BeginRoll}
-use Rattle.master_state.specs.declared.step.StepAnswer.{StepAnswer}
-use Rattle.master_state.specs.Causes.{is_done, step_refusal}
-use Rattle.master_state.specs.Data.{MasterData}
-use Rattle.master_state.specs.Steps.{lost_data}
+use Rattle.master.specs.master_state.declared.config.Config.{Config}
+use Rattle.master.specs.master_state.declared.step.Refusal.{Refusal}
+use Rattle.master.specs.master_state.declared.step.Refusal.TheVariants as refusal
+use Rattle.master.specs.master_state.declared.step.Step.{Step}
+use Rattle.master.specs.master_state.declared.step.Step.TheVariants.{Push, Seal, Free, Copy, BeginRoll}
+use Rattle.master.specs.master_state.declared.step.StepAnswer.{StepAnswer}
+use Rattle.master.specs.master_state.Causes.{is_done, step_refusal}
+use Rattle.master.specs.master_state.Data.{MasterData}
+use Rattle.master.specs.master_state.Steps.{lost_data}
 use Rattle.master.specs.Passes.{IsFreeOp, IsSealOp}
 use Rattle.master.specs.Steps.{Accepts, Declines, FailsTake, IsPushOp, Steps}
 use Rattle.master.specs.World.{World}

@@ -5,24 +5,24 @@ use Rattle.std.proofs.lemmas.Bool.{and_parts}
 use Rattle.std.proofs.lemmas.List.{append-nil}
 use Rattle.std.specs.Prelude.{Option, Some, None, Result, Ok, Err, is_none, is_some, ◌&&◌, if◌then◌else◌}
 use Rattle.std.specs.Prelude.{unwrap_or, ◌⊎◌}
-use Rattle.cleaner.specs.declared.fault.PassFault.TheVariants.{IsHead, NotInLog, PassOpen}
+use Rattle.master.specs.cleaner.declared.fault.PassFault.TheVariants.{IsHead, NotInLog, PassOpen}
 use Rattle.replica.specs.Picture.{FleetState}
 use Rattle.versioned_map.specs.declared.command.Command.{Command}
 use Rattle.versioned_map.specs.declared.command.Record.{Record}
 use Rattle.versioned_map.specs.declared.command.Reply.{Reply}
-use Rattle.log_head.specs.Head.{is_open}
-use Rattle.failover_model.specs.Data.{FailData, durable_of}
-use Rattle.failover_model.specs.Shown.{Op}
-use Rattle.master_state.specs.declared.config.Config.{Config}
-use Rattle.master_state.specs.declared.step.Refusal.{Refusal}
-use Rattle.master_state.specs.declared.step.Refusal.TheVariants as refusal
-use Rattle.master_state.specs.declared.step.Step.TheVariants.{Apply, Push, BeginRoll, Compact}
-use Rattle.master_state.specs.declared.step.StepAnswer.{StepAnswer}
-use Rattle.master_state.specs.declared.step.StepAnswer.TheVariants.{Applied}
-use Rattle.master_state.specs.Budget.{is_working}
-use Rattle.master_state.specs.Causes.{is_done, is_pushed, command_refusal, early_refusal, late_refusal, step_refusal}
-use Rattle.master_state.specs.Data.{MasterData}
-use Rattle.master_state.specs.Log.{log_of}
+use Rattle.master.specs.log_head.Head.{is_open}
+use Rattle.master.specs.failover_model.Data.{FailData, durable_of}
+use Rattle.master.specs.failover_model.Shown.{Op}
+use Rattle.master.specs.master_state.declared.config.Config.{Config}
+use Rattle.master.specs.master_state.declared.step.Refusal.{Refusal}
+use Rattle.master.specs.master_state.declared.step.Refusal.TheVariants as refusal
+use Rattle.master.specs.master_state.declared.step.Step.TheVariants.{Apply, Push, BeginRoll, Compact}
+use Rattle.master.specs.master_state.declared.step.StepAnswer.{StepAnswer}
+use Rattle.master.specs.master_state.declared.step.StepAnswer.TheVariants.{Applied}
+use Rattle.master.specs.master_state.Budget.{is_working}
+use Rattle.master.specs.master_state.Causes.{is_done, is_pushed, command_refusal, early_refusal, late_refusal, step_refusal}
+use Rattle.master.specs.master_state.Data.{MasterData}
+use Rattle.master.specs.master_state.Log.{log_of}
 use Rattle.master.specs.Keeps.{Keeps}
 use Rattle.master.specs.Steps.{Accepts, Steps, Declines, FailsTake, IsPushOp}
 use Rattle.master.specs.Valid.{IsValid}

@@ -2,33 +2,33 @@
 use Rattle.std.proofs.Common.{◌≡◌, ℕ, suc, ◌+◌, Bool, true, false, List, [], ◌∷◌, refl, ap, ◌∙◌}
 use Rattle.std.specs.Prelude.{Option, Some, None, is_none, ◌==◌, if◌then◌else◌}
 use Rattle.std.specs.Option.{option_map, option_map_or}
-use Rattle.cleaner.specs.declared.pass.Pass.{Pass}
-use Rattle.cleaner.specs.Passes.{is_ready as is_ready_pass}
+use Rattle.master.specs.cleaner.declared.pass.Pass.{Pass}
+use Rattle.master.specs.cleaner.Passes.{is_ready as is_ready_pass}
 use Rattle.images.specs.Sorted.{changed}
 use Rattle.images.specs.Steps.{more_replicas}
-use Rattle.log_head.specs.declared.head.Roll.{Roll}
-use Rattle.log_head.specs.declared.next.Next.{Next}
-use Rattle.log_head.specs.declared.next.Next.TheVariants as next
-use Rattle.log_head.specs.Head.{HeadValue}
-use Rattle.log_head.specs.Steps.{fresh_head, lone_start}
-use Rattle.log_head.specs.Steps.{old_image, with_all_taken, with_closed_replica, with_new_replica, with_opened_replica}
-use Rattle.log_head.specs.Steps.{with_whole_replica}
+use Rattle.master.specs.log_head.declared.head.Roll.{Roll}
+use Rattle.master.specs.log_head.declared.next.Next.{Next}
+use Rattle.master.specs.log_head.declared.next.Next.TheVariants as next
+use Rattle.master.specs.log_head.Head.{HeadValue}
+use Rattle.master.specs.log_head.Steps.{fresh_head, lone_start}
+use Rattle.master.specs.log_head.Steps.{old_image, with_all_taken, with_closed_replica, with_new_replica, with_opened_replica}
+use Rattle.master.specs.log_head.Steps.{with_whole_replica}
 use Rattle.versioned_map.specs.declared.command.Record.{Record}
-use Rattle.master_mending.specs.declared.mending.Mend.{Mend}
-use Rattle.master_mending.specs.declared.mending.Mend.TheVariants as mend
-use Rattle.master_mending.specs.Mending.{closed_more, first_lost, mended_data, opening, raised_data, repaired_data}
-use Rattle.master_mending.specs.Mending.{sealed_anew, turn_roll, turned_data, was_headless, with_part}
-use Rattle.master_state.specs.declared.config.Config.{Config}
-use Rattle.master_state.specs.declared.failover.Failover.{Failover}
-use Rattle.master_state.specs.declared.failover.Part.TheVariants as part
-use Rattle.master_state.specs.declared.ledger.Posting.TheVariants as posting
-use Rattle.master_state.specs.Data.{MasterData}
-use Rattle.master_state.specs.Images.{with_closed}
-use Rattle.master_state.specs.Log.{home}
-use Rattle.master_state.specs.Steps.{closed_data, ledger_after, pass_ended, pushed_data, roll_ended, sealed_data}
-use Rattle.master_state.specs.Steps.{taken_data}
-use Rattle.master_state.specs.Waits.{next_seal}
-use Rattle.master_space.specs.Ends.{pass_left}
+use Rattle.master.specs.master_mending.declared.mending.Mend.{Mend}
+use Rattle.master.specs.master_mending.declared.mending.Mend.TheVariants as mend
+use Rattle.master.specs.master_mending.Mending.{closed_more, first_lost, mended_data, opening, raised_data, repaired_data}
+use Rattle.master.specs.master_mending.Mending.{sealed_anew, turn_roll, turned_data, was_headless, with_part}
+use Rattle.master.specs.master_state.declared.config.Config.{Config}
+use Rattle.master.specs.master_state.declared.failover.Failover.{Failover}
+use Rattle.master.specs.master_state.declared.failover.Part.TheVariants as part
+use Rattle.master.specs.master_state.declared.ledger.Posting.TheVariants as posting
+use Rattle.master.specs.master_state.Data.{MasterData}
+use Rattle.master.specs.master_state.Images.{with_closed}
+use Rattle.master.specs.master_state.Log.{home}
+use Rattle.master.specs.master_state.Steps.{closed_data, ledger_after, pass_ended, pushed_data, roll_ended, sealed_data}
+use Rattle.master.specs.master_state.Steps.{taken_data}
+use Rattle.master.specs.master_state.Waits.{next_seal}
+use Rattle.master.specs.master_space.Ends.{pass_left}
 
 pub record Outline : Type 0 where
   pub head : HeadValue

@@ -2,17 +2,17 @@
 use Rattle.std.proofs.Common.{◌≡◌, ℕ, Bool, true, false, List, ap, subst, inl, inr, ◌∙◌}
 use Rattle.std.specs.Option.{option_map_or}
 use Rattle.std.specs.Prelude.{Option, Some, None, Result, Ok, Err, if◌then◌else◌}
-use Rattle.cleaner.specs.declared.fault.PassFault.{PassFault}
-use Rattle.cleaner.specs.declared.fault.PassFault.TheVariants.{TooMuch}
-use Rattle.master_state.specs.declared.ledger.Posting.TheVariants as posting
-use Rattle.master_state.specs.declared.step.Refusal.{Refusal}
-use Rattle.master_state.specs.declared.step.Refusal.TheVariants as refusal
-use Rattle.master_state.specs.declared.step.Step.TheVariants.{BeginClean, Copy, Seal, Free}
-use Rattle.master_state.specs.declared.step.StepAnswer.{StepAnswer}
-use Rattle.master_state.specs.Causes.{space_refusal}
-use Rattle.master_state.specs.Data.{MasterData}
-use Rattle.master_state.specs.Ledger.{posted}
-use Rattle.master_state.specs.Log.{home}
+use Rattle.master.specs.cleaner.declared.fault.PassFault.{PassFault}
+use Rattle.master.specs.cleaner.declared.fault.PassFault.TheVariants.{TooMuch}
+use Rattle.master.specs.master_state.declared.ledger.Posting.TheVariants as posting
+use Rattle.master.specs.master_state.declared.step.Refusal.{Refusal}
+use Rattle.master.specs.master_state.declared.step.Refusal.TheVariants as refusal
+use Rattle.master.specs.master_state.declared.step.Step.TheVariants.{BeginClean, Copy, Seal, Free}
+use Rattle.master.specs.master_state.declared.step.StepAnswer.{StepAnswer}
+use Rattle.master.specs.master_state.Causes.{space_refusal}
+use Rattle.master.specs.master_state.Data.{MasterData}
+use Rattle.master.specs.master_state.Ledger.{posted}
+use Rattle.master.specs.master_state.Log.{home}
 use Rattle.master.specs.Passes.{IsSealOp, IsFreeOp, Seals}
 use Rattle.master.specs.Steps.{Steps, Declines}
 use Rattle.master.specs.World.{World}

@@ -1,9 +1,9 @@
 -- Pushes that are made for a record.
 use Rattle.std.proofs.Common.{◌≡◌, ℕ, zero, suc, Bool, true, false, subst}
 use Rattle.std.specs.Prelude.{Ok}
-use Rattle.master_state.specs.declared.step.Refusal.{Refusal}
-use Rattle.master_state.specs.declared.step.Step.TheVariants.{Push}
-use Rattle.master_state.specs.declared.step.StepAnswer.{StepAnswer}
+use Rattle.master.specs.master_state.declared.step.Refusal.{Refusal}
+use Rattle.master.specs.master_state.declared.step.Step.TheVariants.{Push}
+use Rattle.master.specs.master_state.declared.step.StepAnswer.{StepAnswer}
 use Rattle.master.specs.Steps.{Accepts, PushesFor}
 use Rattle.master.specs.World.{World}
 use Rattle.driving.specs.Commands.{ArePushedFor, IsAwaited, IsDurable, StopsShort}

@@ -4,11 +4,11 @@ use Rattle.std.specs.Prelude.{Err}
 use Rattle.std.proofs.lemmas.List.{append-nil}
 use Rattle.versioned_map.specs.declared.command.Command.{Command}
 use Rattle.versioned_map.specs.declared.command.Reply.{Reply}
-use Rattle.failover_model.specs.Data.{durable_of}
-use Rattle.master_state.specs.declared.step.Refusal.{Refusal}
-use Rattle.master_state.specs.declared.step.Step.TheVariants.{Apply}
-use Rattle.master_state.specs.declared.step.StepAnswer.TheVariants.{Applied}
-use Rattle.master_state.specs.Log.{log_of}
+use Rattle.master.specs.failover_model.Data.{durable_of}
+use Rattle.master.specs.master_state.declared.step.Refusal.{Refusal}
+use Rattle.master.specs.master_state.declared.step.Step.TheVariants.{Apply}
+use Rattle.master.specs.master_state.declared.step.StepAnswer.TheVariants.{Applied}
+use Rattle.master.specs.master_state.Log.{log_of}
 use Rattle.master.specs.Keeps.{Keeps}
 use Rattle.master.specs.Steps.{Accepts}
 use Rattle.master.specs.World.{World}

@@ -7,33 +7,33 @@ use Rattle.std.proofs.Math.Bool.{and-false}
 use Rattle.std.specs.Option.{option_map, option_map_or}
 use Rattle.std.specs.Prelude.{Option, Some, None, IsSome, Result, Ok, is_none, is_some, not, ◌==◌, ◌&&◌}
 use Rattle.std.specs.Prelude.{if◌then◌else◌, unwrap_or}
-use Rattle.cleaner.specs.declared.pass.Pass.{Pass}
-use Rattle.cleaner.specs.Passes.{images_in, is_at_end, is_ready as is_ready_pass, next_seal as next_seal_of, rest_of}
-use Rattle.cleaner.specs.Passes.{survivor_ids}
-use Rattle.cleaner.specs.Seals.{first_lacking}
-use Rattle.log_head.specs.declared.head.Roll.{Roll}
-use Rattle.log_head.specs.declared.next.Next.{Next}
-use Rattle.log_head.specs.declared.next.Next.TheVariants as next
-use Rattle.log_head.specs.Head.{HeadValue, is_open}
-use Rattle.master_mending.specs.declared.mending.Mend.{Mend}
-use Rattle.master_mending.specs.declared.mending.Mend.TheVariants as mend
-use Rattle.master_mending.specs.Mending.{closed_more, mended_data, was_headless}
-use Rattle.master_space.specs.Choosing.{pass_step, pending_step, pending_without}
-use Rattle.master_space.specs.Ends.{pass_left}
+use Rattle.master.specs.cleaner.declared.pass.Pass.{Pass}
+use Rattle.master.specs.cleaner.Passes.{images_in, is_at_end, is_ready as is_ready_pass, next_seal as next_seal_of, rest_of}
+use Rattle.master.specs.cleaner.Passes.{survivor_ids}
+use Rattle.master.specs.cleaner.Seals.{first_lacking}
+use Rattle.master.specs.log_head.declared.head.Roll.{Roll}
+use Rattle.master.specs.log_head.declared.next.Next.{Next}
+use Rattle.master.specs.log_head.declared.next.Next.TheVariants as next
+use Rattle.master.specs.log_head.Head.{HeadValue, is_open}
+use Rattle.master.specs.master_mending.declared.mending.Mend.{Mend}
+use Rattle.master.specs.master_mending.declared.mending.Mend.TheVariants as mend
+use Rattle.master.specs.master_mending.Mending.{closed_more, mended_data, was_headless}
+use Rattle.master.specs.master_space.Choosing.{pass_step, pending_step, pending_without}
+use Rattle.master.specs.master_space.Ends.{pass_left}
 use Rattle.versioned_map.specs.declared.command.Record.{Record}
 use Rattle.replica.specs.Picture.{FleetState}
-use Rattle.master_state.specs.declared.config.Config.{Config}
-use Rattle.master_state.specs.declared.failover.Failover.{Failover}
-use Rattle.master_state.specs.declared.step.Refusal.{Refusal}
-use Rattle.master_state.specs.declared.step.Refusal.TheVariants as refusal
-use Rattle.master_state.specs.declared.step.Step.{Step}
-use Rattle.master_state.specs.declared.step.Step.TheVariants.{Apply, Push, BeginRoll, Compact, BeginClean, Copy, Seal}
-use Rattle.master_state.specs.declared.step.Step.TheVariants.{Free}
-use Rattle.master_state.specs.declared.step.StepAnswer.{StepAnswer}
-use Rattle.master_state.specs.Causes.{copy_refusal}
-use Rattle.master_state.specs.Data.{MasterData}
-use Rattle.master_state.specs.Log.{rest_now}
-use Rattle.master_state.specs.Steps.{rolling_data}
+use Rattle.master.specs.master_state.declared.config.Config.{Config}
+use Rattle.master.specs.master_state.declared.failover.Failover.{Failover}
+use Rattle.master.specs.master_state.declared.step.Refusal.{Refusal}
+use Rattle.master.specs.master_state.declared.step.Refusal.TheVariants as refusal
+use Rattle.master.specs.master_state.declared.step.Step.{Step}
+use Rattle.master.specs.master_state.declared.step.Step.TheVariants.{Apply, Push, BeginRoll, Compact, BeginClean, Copy, Seal}
+use Rattle.master.specs.master_state.declared.step.Step.TheVariants.{Free}
+use Rattle.master.specs.master_state.declared.step.StepAnswer.{StepAnswer}
+use Rattle.master.specs.master_state.Causes.{copy_refusal}
+use Rattle.master.specs.master_state.Data.{MasterData}
+use Rattle.master.specs.master_state.Log.{rest_now}
+use Rattle.master.specs.master_state.Steps.{rolling_data}
 use Rattle.master.specs.Keeps.{Keeps}
 use Rattle.master.specs.Steps.{Accepts, Declines, Steps}
 use Rattle.master.specs.World.{World}

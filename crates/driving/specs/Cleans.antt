@@ -1,17 +1,17 @@
 -- What a whole cleaning makes of a master and its fleet, from the begin of its pass to the last free.
 use Rattle.std.specs.Prelude.{◌≡◌, ◌⊎◌, ℕ, zero, suc, List, [], ◌∷◌, ◌++◌, false, Result, Ok, Err}
 use Rattle.std.specs.Prelude.{Some, None, IsSome}
-use Rattle.cleaner.specs.declared.survivors.Survivors.{Survivors}
-use Rattle.cleaner.specs.Passes.{survivor_ids}
-use Rattle.log_head.specs.Head.{digest_of}
-use Rattle.log_model.specs.Ids.{all_inserted, without}
-use Rattle.master_space.specs.Choosing.{pending_step}
-use Rattle.master_state.specs.Budget.{newest_digest}
-use Rattle.master_state.specs.declared.step.Refusal.{Refusal}
-use Rattle.master_state.specs.declared.step.Step.{Step}
-use Rattle.master_state.specs.declared.step.Step.TheVariants.{BeginClean, Push}
-use Rattle.master_state.specs.declared.step.StepAnswer.{StepAnswer}
-use Rattle.master_state.specs.declared.step.StepAnswer.TheVariants.{Begun}
+use Rattle.master.specs.cleaner.declared.survivors.Survivors.{Survivors}
+use Rattle.master.specs.cleaner.Passes.{survivor_ids}
+use Rattle.master.specs.log_head.Head.{digest_of}
+use Rattle.master.specs.log_model.Ids.{all_inserted, without}
+use Rattle.master.specs.master_space.Choosing.{pending_step}
+use Rattle.master.specs.master_state.Budget.{newest_digest}
+use Rattle.master.specs.master_state.declared.step.Refusal.{Refusal}
+use Rattle.master.specs.master_state.declared.step.Step.{Step}
+use Rattle.master.specs.master_state.declared.step.Step.TheVariants.{BeginClean, Push}
+use Rattle.master.specs.master_state.declared.step.StepAnswer.{StepAnswer}
+use Rattle.master.specs.master_state.declared.step.StepAnswer.TheVariants.{Begun}
 use Rattle.master.specs.Steps.{Accepts, Declines}
 use Rattle.master.specs.World.{World}
 use Rattle.driving.specs.Rolls.{Advances, is_lost}

@@ -2,12 +2,12 @@
 use Rattle.std.specs.Prelude.{◌≡◌, ◌⊎◌, ◌<◌, ◌≤◌, ℕ, zero, suc, false, Result, Ok, Err}
 use Rattle.versioned_map.specs.declared.command.Command.{Command}
 use Rattle.versioned_map.specs.declared.command.Reply.{Reply}
-use Rattle.failover_model.specs.Data.{durable_of}
-use Rattle.master_state.specs.declared.step.Refusal.{Refusal}
-use Rattle.master_state.specs.declared.step.Refusal.TheVariants.{Rolling}
-use Rattle.master_state.specs.declared.step.Step.TheVariants.{Apply, Push}
-use Rattle.master_state.specs.declared.step.StepAnswer.TheVariants.{Applied}
-use Rattle.master_state.specs.Log.{log_of}
+use Rattle.master.specs.failover_model.Data.{durable_of}
+use Rattle.master.specs.master_state.declared.step.Refusal.{Refusal}
+use Rattle.master.specs.master_state.declared.step.Refusal.TheVariants.{Rolling}
+use Rattle.master.specs.master_state.declared.step.Step.TheVariants.{Apply, Push}
+use Rattle.master.specs.master_state.declared.step.StepAnswer.TheVariants.{Applied}
+use Rattle.master.specs.master_state.Log.{log_of}
 use Rattle.master.specs.Steps.{Accepts, Declines}
 use Rattle.master.specs.World.{World}
 use Rattle.driving.specs.Rolls.{Advances, Rolls, is_lost}

@@ -2,7 +2,7 @@
 use Rattle.std.proofs.Common.{[], refl, sym, ◌∙◌}
 use Rattle.std.proofs.Math.Nat.{le_refl, le_trans}
 use Rattle.std.proofs.lemmas.List.{append-nil}
-use Rattle.master_state.specs.Data.{MasterData}
+use Rattle.master.specs.master_state.Data.{MasterData}
 use Rattle.driving.specs.Served.{LivesOn, StaysLoaded}
 
 pub goes_nowhere : (d : MasterData) → LivesOn d d []

@@ -1,18 +1,18 @@
 -- What pushes and a roll make of a master and its fleet.
 use Rattle.std.specs.Prelude.{◌≡◌, ◌⊎◌, ℕ, zero, suc, ◌≤◌, Bool, true, false, Some, None, IfSome, Result, Ok}
 use Rattle.std.specs.Prelude.{Err}
-use Rattle.log_head.specs.declared.head.Roll.{Roll}
-use Rattle.log_head.specs.Head.{is_open}
-use Rattle.master_state.specs.declared.failover.Failover.{Failover}
-use Rattle.master_state.specs.declared.failover.Part.TheVariants as part
-use Rattle.master_state.specs.Budget.{is_working}
-use Rattle.master_state.specs.Data.{MasterData}
-use Rattle.master_state.specs.declared.step.Refusal.{Refusal}
-use Rattle.master_state.specs.declared.step.Refusal.TheVariants as refusal
-use Rattle.master_state.specs.declared.step.Refusal.TheVariants.{Rolling, Nothing}
-use Rattle.master_state.specs.declared.step.Step.{Step}
-use Rattle.master_state.specs.declared.step.Step.TheVariants.{Push, BeginRoll}
-use Rattle.master_state.specs.declared.step.StepAnswer.{StepAnswer}
+use Rattle.master.specs.log_head.declared.head.Roll.{Roll}
+use Rattle.master.specs.log_head.Head.{is_open}
+use Rattle.master.specs.master_state.declared.failover.Failover.{Failover}
+use Rattle.master.specs.master_state.declared.failover.Part.TheVariants as part
+use Rattle.master.specs.master_state.Budget.{is_working}
+use Rattle.master.specs.master_state.Data.{MasterData}
+use Rattle.master.specs.master_state.declared.step.Refusal.{Refusal}
+use Rattle.master.specs.master_state.declared.step.Refusal.TheVariants as refusal
+use Rattle.master.specs.master_state.declared.step.Refusal.TheVariants.{Rolling, Nothing}
+use Rattle.master.specs.master_state.declared.step.Step.{Step}
+use Rattle.master.specs.master_state.declared.step.Step.TheVariants.{Push, BeginRoll}
+use Rattle.master.specs.master_state.declared.step.StepAnswer.{StepAnswer}
 use Rattle.master.specs.Steps.{Accepts, Declines}
 use Rattle.master.specs.World.{World}
 

@@ -4,13 +4,13 @@ use Rattle.replica.specs.Picture.{FleetState}
 use Rattle.versioned_map.specs.declared.command.Command.{Command}
 use Rattle.versioned_map.specs.declared.command.Record.{Record}
 use Rattle.versioned_map.specs.declared.command.Reply.{Reply}
-use Rattle.failover_model.specs.Data.{durable_of}
-use Rattle.master_state.specs.declared.step.Refusal.{Refusal}
-use Rattle.master_state.specs.declared.step.Refusal.TheVariants as refusal
-use Rattle.master_state.specs.declared.step.Refusal.TheVariants.{NoMemory}
-use Rattle.master_state.specs.Causes.{command_refusal}
-use Rattle.master_state.specs.Data.{MasterData}
-use Rattle.master_state.specs.Log.{log_of}
+use Rattle.master.specs.failover_model.Data.{durable_of}
+use Rattle.master.specs.master_state.declared.step.Refusal.{Refusal}
+use Rattle.master.specs.master_state.declared.step.Refusal.TheVariants as refusal
+use Rattle.master.specs.master_state.declared.step.Refusal.TheVariants.{NoMemory}
+use Rattle.master.specs.master_state.Causes.{command_refusal}
+use Rattle.master.specs.master_state.Data.{MasterData}
+use Rattle.master.specs.master_state.Log.{log_of}
 use Rattle.master.specs.Valid.{IsValid}
 use Rattle.master.specs.World.{World}
 use Rattle.driving.specs.Commands.{StopsShort, Tries}

@@ -11,6 +11,8 @@ mod serving;
 mod whole_pass;
 
 pub use driven::Driven;
+pub use master;
+pub use master::master_core;
 pub use pushing::{push_all, push_until, roll_all};
 pub use serving::serve;
 pub use whole_pass::clean_all;

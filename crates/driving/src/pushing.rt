@@ -1,9 +1,9 @@
 //! Pushes, and the roll that they end.
 
 ghost use Rattle.std.specs.Prelude.{◌≡◌, ◌<◌, [], length, true, IfOk, IfErr};
-ghost use Rattle.failover_model.specs.Data.{durable_of};
-ghost use Rattle.master_state.specs.Budget.{is_working};
-ghost use Rattle.master_state.specs.Log.{log_of};
+ghost use Rattle.master.specs.failover_model.Data.{durable_of};
+ghost use Rattle.master.specs.master_state.Budget.{is_working};
+ghost use Rattle.master.specs.master_state.Log.{log_of};
 ghost use Rattle.master.specs.World.{world};
 ghost use Rattle.driving.specs.Commands.{PushesTo, StopsShort};
 ghost use Rattle.driving.specs.Rolls.{PushesUntil, IsRolled, IsNotRolled};

@@ -11,7 +11,7 @@ use Rattle.replica.specs.declared.holding.Holding.{Holding}
 use Rattle.replica.specs.Picture.{Replica, Shown, IsHeld, survivors}
 use Rattle.replica.specs.Choice.{Choice, IsChoice, IsUsableHeadOf, IsUsableOf, IsUsableReplica, bag_of}
 use Rattle.replica.specs.Survival.{HoldsHead}
-use Rattle.log_model.proofs.Lists.{some_given}
+use Rattle.failover_model.proofs.log_model.Lists.{some_given}
 use Rattle.failover_model.specs.Text.{IsUsable, Replica as ModelReplica}
 use Rattle.failover_model.specs.Shown.{Shown as ModelShown, HoldsHead as ModelHoldsHead}
 use Rattle.failover_model.specs.Shown.{survivors as model_survivors}

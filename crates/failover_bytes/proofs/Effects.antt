@@ -10,7 +10,7 @@ use Rattle.entry.specs.Text.{text_of}
 use Rattle.segment.proofs.RowLemmas.{text_of-append}
 use Rattle.replica.specs.Picture.{Replica, Picture, with_replica}
 use Rattle.replica.specs.Take.{effect}
-use Rattle.log_model.proofs.Pictures.{place_tells}
+use Rattle.failover_model.proofs.log_model.Pictures.{place_tells}
 use Rattle.failover_model.specs.Text.{Text, Replica as ModelReplica, length_of}
 use Rattle.failover_model.specs.Shown.{Act, Open, Extend, Close, Seal, Free, Holds, effect as model_effect}
 use Rattle.failover_model.specs.Shown.{with_replica as model_with_replica}

@@ -9,7 +9,7 @@ use Rattle.replica.specs.Op.{OpValue}
 use Rattle.replica.specs.Picture.{Replica, FleetState, shown_of, with_replica}
 use Rattle.replica.specs.Registry.{raised, with_least}
 use Rattle.replica.specs.Take.{effect, with_effect, taken as fleet_taken, faulted}
-use Rattle.log_model.specs.Ops.{op_of}
+use Rattle.failover_model.specs.log_model.Ops.{op_of}
 use Rattle.failover_model.specs.Text.{Replica as ModelReplica}
 use Rattle.failover_model.specs.Shown.{Shown as ModelShown, Act, Op, On, Raise, taken, effect as model_effect}
 use Rattle.failover_model.specs.Shown.{with_replica as model_with_replica}

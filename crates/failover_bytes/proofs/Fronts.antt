@@ -8,8 +8,8 @@ use Rattle.entry.specs.Format.{IsEntry}
 use Rattle.entry.specs.Text.{Opening, text_of, are_data, ends_with, listed_ids}
 use Rattle.entry.proofs.ListLemmas.{all_split}
 use Rattle.segment.proofs.RowLemmas.{text_of-append}
-use Rattle.log_model.specs.Data.{entries_of}
-use Rattle.log_model.proofs.Segments.{data_split, units_parts, units_all}
+use Rattle.failover_model.specs.log_model.Data.{entries_of}
+use Rattle.failover_model.proofs.log_model.Segments.{data_split, units_parts, units_all}
 use Rattle.failover_model.specs.Text.{Text}
 use Rattle.failover_model.specs.Data.{Head, opening_for, front, front_entries}
 use Rattle.failover_bytes.specs.Text.{entries_for, bytes_for, IsWholeText}

@@ -10,8 +10,8 @@ use Rattle.entry.proofs.BagLemmas.{among_left, among_right, among_either}
 use Rattle.entry.specs.Text.{opening_in}
 use Rattle.replica.specs.Picture.{Replica as RealReplica, Shown}
 use Rattle.replica.specs.Survival.{HoldsHead}
-use Rattle.log_model.specs.Data.{Start}
-use Rattle.log_model.proofs.Lists.{some_given, some_is}
+use Rattle.failover_model.specs.log_model.Data.{Start}
+use Rattle.failover_model.proofs.log_model.Lists.{some_given, some_is}
 use Rattle.failover_model.specs.Text.{Replica}
 use Rattle.failover_model.specs.Shown.{Shown as ModelShown}
 use Rattle.failover_model.specs.Choice.{IsNewestOpened}

@@ -3,7 +3,7 @@ use Rattle.std.proofs.Common.{append-nil, ◌≡◌, ℕ, ◌⊎◌, inl, inr, L
 use Rattle.std.specs.Prelude.{None}
 use Rattle.std.proofs.lemmas.Option.{same_Some}
 use Rattle.entry.specs.Bag.{IsAmong}
-use Rattle.log_model.specs.Data.{Start}
+use Rattle.failover_model.specs.log_model.Data.{Start}
 use Rattle.failover_model.specs.Shown.{Shown, Op}
 use Rattle.failover_model.specs.Data.{FailData, Mode, Calm, Rolls, Mends, Opens, Closes, Repairs, front, bare}
 use Rattle.failover_model.specs.Data.{IsNew, new_of}

@@ -5,8 +5,8 @@ use Rattle.std.specs.Prelude.{Option, None, ◌==◌, ◌&&◌}
 use Rattle.std.proofs.lemmas.Bool.Decides.{nat_tests}
 use Rattle.std.proofs.lemmas.Option.{same_Some}
 use Rattle.entry.specs.declared.entry.Entry.{Entry}
-use Rattle.log_model.specs.Data.{Start, entries_of}
-use Rattle.log_model.specs.Steps.{units_between}
+use Rattle.failover_model.specs.log_model.Data.{Start, entries_of}
+use Rattle.failover_model.specs.log_model.Steps.{units_between}
 use Rattle.failover_model.specs.Text.{Text, Replica, length_of}
 use Rattle.failover_model.specs.Shown.{Shown, Act, Open, Extend, Close, Seal, Free, Op, On, Raise, taken, effect}
 use Rattle.failover_model.specs.Data.{FailData, Rolls, Opens, front, bare, IsNew, new_of}

@@ -15,3 +15,6 @@ pub mod FleetRuns
 pub mod SoundRuns
 pub mod Keeping
 pub mod Held
+pub use Rattle.failover_model.proofs.log_model
+pub use Rattle.failover_model.proofs.clean_model
+pub use Rattle.failover_model.proofs as failover_model

@@ -5,8 +5,8 @@ use Rattle.std.specs.Prelude.{Option, IsSome, IsSomeAnd, ◌==◌}
 use Rattle.std.proofs.lemmas.Bool.Decides.{nat_tests}
 use Rattle.replica.specs.Picture.{Shown}
 use Rattle.replica.specs.Survival.{HoldsHead}
-use Rattle.log_model.specs.Ids.{has}
-use Rattle.log_model.proofs.Lists.{some_given, some_is}
+use Rattle.failover_model.specs.log_model.Ids.{has}
+use Rattle.failover_model.proofs.log_model.Lists.{some_given, some_is}
 use Rattle.failover_model.specs.Text.{Text, Replica}
 use Rattle.failover_model.specs.Shown.{Shown as ModelShown, HoldsHead as ModelHoldsHead}
 use Rattle.failover_model.specs.Choice.{IsNewestOpened}

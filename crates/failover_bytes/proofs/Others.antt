@@ -7,8 +7,8 @@ use Rattle.replica.specs.declared.op.TakeFault.TheVariants as take_fault
 use Rattle.replica.specs.Picture.{Replica, FleetState, with_replica}
 use Rattle.replica.specs.Registry.{raised, with_least}
 use Rattle.replica.specs.Take.{faulted}
-use Rattle.log_model.specs.Ops.{op_of}
-use Rattle.log_model.proofs.Pictures.{place_tells}
+use Rattle.failover_model.specs.log_model.Ops.{op_of}
+use Rattle.failover_model.proofs.log_model.Pictures.{place_tells}
 use Rattle.failover_model.specs.Shown.{Op, On, Raise}
 use Rattle.failover_bytes.specs.Ops.{log_op_for, TakesOp, RefusesOp}
 use Rattle.failover_bytes.specs.Laws.{OthersStay}

@@ -13,8 +13,8 @@ use Rattle.entry.specs.Text.{text_of, is_data, are_data, is_whole, is_head_rest,
 use Rattle.entry.specs.Text.{entries_in}
 use Rattle.entry.specs.Text.{header_of, opening_of, Opening, IsSegment}
 use Rattle.replica.specs.Picture.{Replica, Shown}
-use Rattle.log_model.specs.Sound.{IsTextOfSegment}
-use Rattle.log_model.proofs.Segments.{data_alone}
+use Rattle.failover_model.specs.log_model.Sound.{IsTextOfSegment}
+use Rattle.failover_model.proofs.log_model.Segments.{data_alone}
 use Rattle.failover_model.specs.Text.{Text, Replica as ModelReplica}
 use Rattle.failover_model.specs.Shown.{Shown as ModelShown}
 use Rattle.failover_bytes.specs.Text.{entries_for, bytes_for, IsWholeText}

@@ -13,8 +13,8 @@ use Rattle.entry.specs.Text.{text_of, is_data, are_data, is_whole, ends_with, li
 use Rattle.entry.specs.Text.{header_of, opening_in, opening_of, Opening, IsSegment}
 use Rattle.entry.proofs.SpellingLemmas.{length-header, length-digest, length-lengths, length-safe}
 use Rattle.entry.proofs.TextLemmas.{entries_in-text, length_first}
-use Rattle.log_model.specs.Sound.{IsTextOfSegment}
-use Rattle.log_model.proofs.Segments.{data_alone}
+use Rattle.failover_model.specs.log_model.Sound.{IsTextOfSegment}
+use Rattle.failover_model.proofs.log_model.Segments.{data_alone}
 use Rattle.failover_model.specs.Text.{Text, opening_length}
 use Rattle.failover_bytes.specs.Text.{role_for, opening_entries, entries_for, bytes_for, IsWholeText}
 use Rattle.failover_bytes.specs.Laws.{LengthIsSame, HeadIsWritten}

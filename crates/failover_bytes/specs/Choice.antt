@@ -6,7 +6,7 @@ use Rattle.replica.specs.Choice.{Choice}
 use Rattle.replica.specs.Picture.{Shown}
 use Rattle.replica.specs.Survival.{HoldsHead}
 use Rattle.failover_model.specs.Choice.{Choice as ModelChoice, Holding as ModelHolding, IsNewestOpened}
-use Rattle.log_model.specs.Data.{Start}
+use Rattle.failover_model.specs.log_model.Data.{Start}
 use Rattle.failover_model.specs.Data.{FailData, HasTaken, new_of}
 use Rattle.failover_bytes.specs.Text.{bytes_for}
 

@@ -4,7 +4,7 @@ use Rattle.entry.specs.declared.entry.Entry.{Entry}
 use Rattle.entry.specs.Meaning.{among}
 use Rattle.entry.specs.Text.{data_in}
 use Rattle.replica.specs.Picture.{Replica, Shown, FleetState}
-use Rattle.log_model.specs.Data.{LogUnit}
+use Rattle.failover_model.specs.log_model.Data.{LogUnit}
 use Rattle.failover_model.specs.Shown.{Shown as ModelShown, Op}
 use Rattle.failover_model.specs.Data.{FailData, HasTaken, IsHome, front, durable_of}
 use Rattle.failover_model.specs.Log.{Texts, IsVariant, IsOther, IsLogHeld, IsKept}

@@ -6,7 +6,7 @@ use Rattle.entry.specs.Text.{Opening}
 use Rattle.replica.specs.Choice.{Choice, IsShownChoice, IsUsableHead, IsUsableReplica, bag_of}
 use Rattle.replica.specs.Picture.{Replica, Shown, FleetState, shown_of, survivors}
 use Rattle.replica.specs.Survival.{HoldsHead, BothSurvive}
-use Rattle.log_model.specs.Sound.{IsTextOfSegment}
+use Rattle.failover_model.specs.log_model.Sound.{IsTextOfSegment}
 use Rattle.failover_model.specs.Text.{Text, length_of, IsUsable}
 use Rattle.failover_model.specs.Shown.{Shown as ModelShown, HoldsHead as ModelHoldsHead, Op, taken}
 use Rattle.failover_model.specs.Shown.{survivors as model_survivors}
@@ -14,7 +14,7 @@ use Rattle.failover_model.specs.Choice.{Choice as ModelChoice, Holding as ModelH
 use Rattle.failover_model.specs.Choice.{BothSurvive as ModelBothSurvive, bag_of as model_bag}
 use Rattle.failover_model.specs.Data.{Head, FailData, IsHome, front, front_entries}
 use Rattle.failover_model.specs.Log.{Texts, IsLogHeld}
-use Rattle.log_model.specs.Data.{start_entries}
+use Rattle.failover_model.specs.log_model.Data.{start_entries}
 use Rattle.failover_model.specs.Runs.{IsFaulted}
 use Rattle.failover_model.specs.Sound.{IsSound, WasOpened}
 use Rattle.failover_bytes.specs.Text.{entries_for, bytes_for}

@@ -8,3 +8,6 @@ pub mod Segments
 pub mod Runs
 pub mod Keeping
 pub mod Held
+pub use Rattle.failover_model.specs.log_model
+pub use Rattle.failover_model.specs.clean_model
+pub use Rattle.failover_model.specs as failover_model

@@ -7,7 +7,7 @@ use Rattle.replica.specs.Op.{Free as FreeIt}
 use Rattle.replica.specs.Picture.{FleetState}
 use Rattle.replica.specs.Registry.{Raises, RefusesRaise}
 use Rattle.replica.specs.Take.{Takes, Refuses}
-use Rattle.log_model.specs.Ops.{LogOp, op_of}
+use Rattle.failover_model.specs.log_model.Ops.{LogOp, op_of}
 use Rattle.failover_model.specs.Shown.{Act, Open, Extend, Close, Seal, Free, Op, On, Raise}
 use Rattle.failover_bytes.specs.Text.{bytes_for}
 

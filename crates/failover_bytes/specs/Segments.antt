@@ -1,7 +1,7 @@
 -- What a log writes are whole segments.
 use Rattle.std.specs.Prelude.{◌≡◌, ◌⊎◌, ℕ, length, Some, None}
 use Rattle.versioned_map.specs.Versioned.{State}
-use Rattle.log_model.specs.Data.{Start}
+use Rattle.failover_model.specs.log_model.Data.{Start}
 use Rattle.failover_model.specs.Shown.{Open, Extend, Close, Seal, Free, Op, On, Raise, Shown as ModelShown, taken}
 use Rattle.failover_model.specs.Data.{front, bare, Mode, FailData, new_of, IsNew}
 use Rattle.failover_model.specs.Log.{Texts, IsLogHeld}

@@ -6,7 +6,7 @@ use Rattle.replica.specs.Picture.{Replica, Shown, survivors}
 use Rattle.replica.specs.Survival.{BothSurvive}
 use Rattle.versioned_map.specs.History.{commands_of}
 use Rattle.versioned_map.specs.Versioned.{IsSafeAfter}
-use Rattle.log_model.specs.Sound.{IsTextOfSegment, BearOneDigest}
+use Rattle.failover_model.specs.log_model.Sound.{IsTextOfSegment, BearOneDigest}
 use Rattle.failover_model.specs.Data.{FailData, IsHome, state_after, durable_of}
 use Rattle.failover_model.specs.Log.{AreOfTablets}
 use Rattle.failover_bytes.specs.Choice.{Counts, IsNewestCounted}

@@ -16,19 +16,19 @@ use Rattle.versioned_map.specs.Represents.{unit_of}
 use Rattle.versioned_map.specs.Units.{put_unit, delete_unit}
 use Rattle.versioned_map.specs.Versioned.{State, is_met, after_put, after_delete, after_command}
 use Rattle.versioned_map.proofs.Units.{units_data}
-use Rattle.log_model.specs.Data.{entries_of}
-use Rattle.log_model.proofs.Fronts.{unit_entries}
-use Rattle.clean_model.specs.Memory.{Images, grown}
-use Rattle.clean_model.specs.Steps.{images_with}
-use Rattle.clean_model.specs.Tracked.{AreTexted}
-use Rattle.clean_model.proofs.AppendedUnits.{images_there, images_last, images_out}
-use Rattle.clean_model.proofs.Lists.{image_here}
-use Rattle.failover_model.specs.Text.{Text}
-use Rattle.failover_model.specs.Data.{FailData, front}
-use Rattle.failover_model.specs.Log.{Texts, IsLogged}
-use Rattle.failover_model.specs.Steps.{with_appended, texts_appended}
-use Rattle.failover_model.proofs.States.{whole_front, own_entries}
-use Rattle.failover_model.proofs.Texts.{text_there, text_other}
+use Rattle.failover_bytes.specs.log_model.Data.{entries_of}
+use Rattle.failover_bytes.proofs.log_model.Fronts.{unit_entries}
+use Rattle.failover_bytes.specs.clean_model.Memory.{Images, grown}
+use Rattle.failover_bytes.specs.clean_model.Steps.{images_with}
+use Rattle.failover_bytes.specs.clean_model.Tracked.{AreTexted}
+use Rattle.failover_bytes.proofs.clean_model.AppendedUnits.{images_there, images_last, images_out}
+use Rattle.failover_bytes.proofs.clean_model.Lists.{image_here}
+use Rattle.failover_bytes.specs.failover_model.Text.{Text}
+use Rattle.failover_bytes.specs.failover_model.Data.{FailData, front}
+use Rattle.failover_bytes.specs.failover_model.Log.{Texts, IsLogged}
+use Rattle.failover_bytes.specs.failover_model.Steps.{with_appended, texts_appended}
+use Rattle.failover_bytes.proofs.failover_model.States.{whole_front, own_entries}
+use Rattle.failover_bytes.proofs.failover_model.Texts.{text_there, text_other}
 use Rattle.failover_clean.specs.Memory.{FailMemory, entries_in, log_ids, log_set_of, AreImages}
 use Rattle.failover_clean.proofs.Openings.{IsData, IsImage, image_still, image_longer}
 

@@ -6,21 +6,21 @@ use Rattle.entry.specs.Bag.{IsAmong}
 use Rattle.entry.specs.Text.{is_data}
 use Rattle.versioned_map.specs.declared.command.Record.{Record}
 use Rattle.versioned_map.specs.Versioned.{State, after_command}
-use Rattle.log_model.specs.Data.{Start}
-use Rattle.log_model.proofs.Fronts.{state_next}
-use Rattle.log_model.proofs.Lists.{below_at}
-use Rattle.clean_model.specs.Memory.{LogSet}
-use Rattle.clean_model.specs.Steps.{images_with, index_with}
-use Rattle.clean_model.specs.Tracked.{IsTracked, AreTexted, IsAround}
-use Rattle.clean_model.proofs.AppendedUnits.{IsStage, command_then, images_there, images_out}
-use Rattle.clean_model.proofs.LogSetChanges.{told_in, texts_changed}
-use Rattle.failover_model.specs.Text.{Text}
-use Rattle.failover_model.specs.Shown.{Shown}
-use Rattle.failover_model.specs.Data.{Calm, Repairs, FailData, new_of, state_of}
-use Rattle.failover_model.specs.Log.{Texts, IsKept}
-use Rattle.failover_model.specs.Steps.{unit_now, applied, MayApply, texts_appended}
-use Rattle.failover_model.proofs.Appending.{appended_is_held}
-use Rattle.failover_model.proofs.Applying.{may_append, applied_is_standing}
+use Rattle.failover_bytes.specs.log_model.Data.{Start}
+use Rattle.failover_bytes.proofs.log_model.Fronts.{state_next}
+use Rattle.failover_bytes.proofs.log_model.Lists.{below_at}
+use Rattle.failover_bytes.specs.clean_model.Memory.{LogSet}
+use Rattle.failover_bytes.specs.clean_model.Steps.{images_with, index_with}
+use Rattle.failover_bytes.specs.clean_model.Tracked.{IsTracked, AreTexted, IsAround}
+use Rattle.failover_bytes.proofs.clean_model.AppendedUnits.{IsStage, command_then, images_there, images_out}
+use Rattle.failover_bytes.proofs.clean_model.LogSetChanges.{told_in, texts_changed}
+use Rattle.failover_bytes.specs.failover_model.Text.{Text}
+use Rattle.failover_bytes.specs.failover_model.Shown.{Shown}
+use Rattle.failover_bytes.specs.failover_model.Data.{Calm, Repairs, FailData, new_of, state_of}
+use Rattle.failover_bytes.specs.failover_model.Log.{Texts, IsKept}
+use Rattle.failover_bytes.specs.failover_model.Steps.{unit_now, applied, MayApply, texts_appended}
+use Rattle.failover_bytes.proofs.failover_model.Appending.{appended_is_held}
+use Rattle.failover_bytes.proofs.failover_model.Applying.{may_append, applied_is_standing}
 use Rattle.failover_clean.specs.Intact.{AreRepaired, IsIntact}
 use Rattle.failover_clean.specs.Laws.{ApplyKeeps}
 use Rattle.failover_clean.specs.Memory.{FailMemory, entries_in, log_ids, log_set_of, AreImages}

@@ -12,23 +12,23 @@ use Rattle.entry.specs.Bag.{IsAmong}
 use Rattle.entry.specs.Meaning.{IsOfKey, object_at}
 use Rattle.entry.specs.Text.{is_data}
 use Rattle.entry.proofs.BagLemmas.{among_left, among_push}
-use Rattle.log_model.specs.Ids.{has}
-use Rattle.log_model.proofs.Lists.{below_at}
-use Rattle.clean_model.specs.Intact.{survivor_entries, IsPassOf}
-use Rattle.clean_model.specs.Memory.{Images, LogSet, Pass, no_pass}
-use Rattle.clean_model.specs.Tracked.{IsCopied, IsTracked, IsPassing, IsAround}
-use Rattle.clean_model.proofs.KeptEntries.{places_all}
-use Rattle.clean_model.proofs.Lists.{among_at, image_here, image_there}
-use Rattle.clean_model.proofs.LogSetChanges.{IsMore, more_tracked, more_passing, more_around, begun_tracked}
-use Rattle.clean_model.proofs.TrackedBags.{buried_again, found_at}
-use Rattle.failover_model.specs.Text.{Text, Replica}
-use Rattle.failover_model.specs.Shown.{Shown}
-use Rattle.failover_model.specs.Data.{FailData, HasTaken, new_of, state_of}
-use Rattle.failover_model.specs.Log.{Texts}
-use Rattle.failover_model.specs.Steps.{id_taken, empty_survivor, texts_taken}
-use Rattle.failover_model.proofs.NewIds.{id_taken_is_held, id_taken_is_standing}
-use Rattle.failover_model.proofs.Replicas.{next_of}
-use Rattle.failover_model.proofs.Texts.{new_there, new_none, new_other, new_images}
+use Rattle.failover_bytes.specs.log_model.Ids.{has}
+use Rattle.failover_bytes.proofs.log_model.Lists.{below_at}
+use Rattle.failover_bytes.specs.clean_model.Intact.{survivor_entries, IsPassOf}
+use Rattle.failover_bytes.specs.clean_model.Memory.{Images, LogSet, Pass, no_pass}
+use Rattle.failover_bytes.specs.clean_model.Tracked.{IsCopied, IsTracked, IsPassing, IsAround}
+use Rattle.failover_bytes.proofs.clean_model.KeptEntries.{places_all}
+use Rattle.failover_bytes.proofs.clean_model.Lists.{among_at, image_here, image_there}
+use Rattle.failover_bytes.proofs.clean_model.LogSetChanges.{IsMore, more_tracked, more_passing, more_around, begun_tracked}
+use Rattle.failover_bytes.proofs.clean_model.TrackedBags.{buried_again, found_at}
+use Rattle.failover_bytes.specs.failover_model.Text.{Text, Replica}
+use Rattle.failover_bytes.specs.failover_model.Shown.{Shown}
+use Rattle.failover_bytes.specs.failover_model.Data.{FailData, HasTaken, new_of, state_of}
+use Rattle.failover_bytes.specs.failover_model.Log.{Texts}
+use Rattle.failover_bytes.specs.failover_model.Steps.{id_taken, empty_survivor, texts_taken}
+use Rattle.failover_bytes.proofs.failover_model.NewIds.{id_taken_is_held, id_taken_is_standing}
+use Rattle.failover_bytes.proofs.failover_model.Replicas.{next_of}
+use Rattle.failover_bytes.proofs.failover_model.Texts.{new_there, new_none, new_other, new_images}
 use Rattle.failover_clean.specs.Covered.{map_of}
 use Rattle.failover_clean.specs.Intact.{IsSealed, AreSealed, AreRepaired, IsIntact}
 use Rattle.failover_clean.specs.Laws.{BeginKeeps}

@@ -1,11 +1,11 @@
 -- A pass that has begun: its survivors have the next ids, and each its header alone.
 use Rattle.std.proofs.Common.{◌≡◌, ℕ, zero, suc, ◌+◌, List, [], ◌∷◌, ◌++◌, refl, sym, ap, ◌∙◌, arith}
 use Rattle.std.specs.List.{range_with_len}
-use Rattle.clean_model.specs.Intact.{survivor_entries}
-use Rattle.clean_model.specs.Memory.{with_image}
-use Rattle.clean_model.specs.Steps.{survivors_begun}
-use Rattle.clean_model.proofs.BegunImages.{range_more, image_more}
-use Rattle.failover_model.specs.Data.{FailConfig, FailData}
+use Rattle.failover_bytes.specs.clean_model.Intact.{survivor_entries}
+use Rattle.failover_bytes.specs.clean_model.Memory.{with_image}
+use Rattle.failover_bytes.specs.clean_model.Steps.{survivors_begun}
+use Rattle.failover_bytes.proofs.clean_model.BegunImages.{range_more, image_more}
+use Rattle.failover_bytes.specs.failover_model.Data.{FailConfig, FailData}
 use Rattle.failover_clean.specs.Laws.{BegunSurvivors}
 use Rattle.failover_clean.specs.Memory.{FailMemory}
 use Rattle.failover_clean.specs.Steps.{ids_taken, pass_begun}

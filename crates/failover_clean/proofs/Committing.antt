@@ -8,28 +8,28 @@ use Rattle.entry.specs.Bag.{IsAmong}
 use Rattle.entry.specs.Meaning.{IsOfKey}
 use Rattle.entry.specs.Text.{text_of}
 use Rattle.entry.proofs.BagLemmas.{among_push, among_either, among_left}
-use Rattle.log_model.specs.Data.{Start, ids_of}
-use Rattle.log_model.specs.Ids.{has, without}
-use Rattle.log_model.specs.Log.{AreBelow}
-use Rattle.log_model.proofs.Lists.{all_below, below_at}
-use Rattle.clean_model.specs.Intact.{Stays, IsCommit}
-use Rattle.clean_model.specs.Memory.{LogSet, no_pass, new_ids, counting}
-use Rattle.clean_model.specs.Tracked.{IsPassing, IsAround}
-use Rattle.clean_model.proofs.CommitDigest.{without_stays, without_from, all_out, all_in}
-use Rattle.clean_model.proofs.CommittedPass.{committed}
-use Rattle.clean_model.proofs.KeptEntries.{has_is, is_has}
-use Rattle.clean_model.proofs.Lists.{among_tells}
-use Rattle.clean_model.proofs.NoPass.{none_passing, none_chosen}
-use Rattle.clean_model.proofs.Premises.{IsLess}
-use Rattle.failover_model.specs.Text.{Text, length_of}
-use Rattle.failover_model.specs.Shown.{Shown}
-use Rattle.failover_model.specs.Data.{front, Mode, FailData, IsHome, homes, new_of, state_of}
-use Rattle.failover_model.specs.Log.{Texts, BasesStand, HoldsCopy}
-use Rattle.failover_model.specs.Steps.{ids_now, IsRoll, ended, EndsRoll, IsKnown, len_now}
-use Rattle.failover_model.proofs.Ending.{ending_is_held, ending_is_standing}
-use Rattle.failover_model.proofs.Images.{between_stands}
-use Rattle.failover_model.proofs.Lengths.{lens_known, len_known}
-use Rattle.failover_model.proofs.Lists.{some_is, some_member, without_has}
+use Rattle.failover_bytes.specs.log_model.Data.{Start, ids_of}
+use Rattle.failover_bytes.specs.log_model.Ids.{has, without}
+use Rattle.failover_bytes.specs.log_model.Log.{AreBelow}
+use Rattle.failover_bytes.proofs.log_model.Lists.{all_below, below_at}
+use Rattle.failover_bytes.specs.clean_model.Intact.{Stays, IsCommit}
+use Rattle.failover_bytes.specs.clean_model.Memory.{LogSet, no_pass, new_ids, counting}
+use Rattle.failover_bytes.specs.clean_model.Tracked.{IsPassing, IsAround}
+use Rattle.failover_bytes.proofs.clean_model.CommitDigest.{without_stays, without_from, all_out, all_in}
+use Rattle.failover_bytes.proofs.clean_model.CommittedPass.{committed}
+use Rattle.failover_bytes.proofs.clean_model.KeptEntries.{has_is, is_has}
+use Rattle.failover_bytes.proofs.clean_model.Lists.{among_tells}
+use Rattle.failover_bytes.proofs.clean_model.NoPass.{none_passing, none_chosen}
+use Rattle.failover_bytes.proofs.clean_model.Premises.{IsLess}
+use Rattle.failover_bytes.specs.failover_model.Text.{Text, length_of}
+use Rattle.failover_bytes.specs.failover_model.Shown.{Shown}
+use Rattle.failover_bytes.specs.failover_model.Data.{front, Mode, FailData, IsHome, homes, new_of, state_of}
+use Rattle.failover_bytes.specs.failover_model.Log.{Texts, BasesStand, HoldsCopy}
+use Rattle.failover_bytes.specs.failover_model.Steps.{ids_now, IsRoll, ended, EndsRoll, IsKnown, len_now}
+use Rattle.failover_bytes.proofs.failover_model.Ending.{ending_is_held, ending_is_standing}
+use Rattle.failover_bytes.proofs.failover_model.Images.{between_stands}
+use Rattle.failover_bytes.proofs.failover_model.Lengths.{lens_known, len_known}
+use Rattle.failover_bytes.proofs.failover_model.Lists.{some_is, some_member, without_has}
 use Rattle.failover_clean.specs.Covered.{map_of}
 use Rattle.failover_clean.specs.Intact.{IsIntact}
 use Rattle.failover_clean.specs.Laws.{CommitKeeps, CommitDigest, FinishKeeps}

@@ -6,14 +6,14 @@ use Rattle.entry.specs.declared.entry.Entry.TheVariants.{Tombstone}
 use Rattle.entry.specs.Bag.{IsAmong}
 use Rattle.entry.specs.Meaning.{Contents}
 use Rattle.entry.specs.Text.{is_data}
-use Rattle.clean_model.specs.Compaction.{kept_from, moved_index}
-use Rattle.clean_model.specs.Memory.{Images, Index, LogSet, Pass, with_image}
-use Rattle.clean_model.specs.Tracked.{IsAround}
-use Rattle.clean_model.proofs.CompactedImages.{compacted_tracked, compacted_passing}
-use Rattle.clean_model.proofs.KeptEntries.{kept_out, kept_is}
-use Rattle.clean_model.proofs.Lists.{with_out, image_there}
-use Rattle.failover_model.specs.Shown.{Shown}
-use Rattle.failover_model.specs.Data.{FailData, state_of}
+use Rattle.failover_bytes.specs.clean_model.Compaction.{kept_from, moved_index}
+use Rattle.failover_bytes.specs.clean_model.Memory.{Images, Index, LogSet, Pass, with_image}
+use Rattle.failover_bytes.specs.clean_model.Tracked.{IsAround}
+use Rattle.failover_bytes.proofs.clean_model.CompactedImages.{compacted_tracked, compacted_passing}
+use Rattle.failover_bytes.proofs.clean_model.KeptEntries.{kept_out, kept_is}
+use Rattle.failover_bytes.proofs.clean_model.Lists.{with_out, image_there}
+use Rattle.failover_bytes.specs.failover_model.Shown.{Shown}
+use Rattle.failover_bytes.specs.failover_model.Data.{FailData, state_of}
 use Rattle.failover_clean.specs.Covered.{map_of}
 use Rattle.failover_clean.specs.Intact.{IsIntact}
 use Rattle.failover_clean.specs.Laws.{CompactKeeps}

@@ -9,16 +9,16 @@ use Rattle.entry.specs.declared.entry.Entry.TheVariants.{Header, Digest, Safe, O
 use Rattle.entry.specs.Bag.{IsAmong}
 use Rattle.entry.specs.Meaning.{IsOfKey, version_of, object_at}
 use Rattle.entry.specs.Text.{is_data}
-use Rattle.log_model.specs.Data.{Start}
-use Rattle.clean_model.specs.Memory.{Place, Index, Images, LogSet, grown, copied, StandsAt}
-use Rattle.clean_model.specs.Steps.{with_place, next_place, is_copied}
-use Rattle.clean_model.specs.Tracked.{IsTracked, IsPassing, IsAround}
-use Rattle.clean_model.proofs.IndexPlaces.{place_set, place_true, place_false, has_false}
-use Rattle.clean_model.proofs.CopiedEntries.{live_copied, live_passing, grave_copied, grave_passing, dropped_passing}
-use Rattle.clean_model.proofs.Lists.{among_at, at_one, grown_out}
-use Rattle.clean_model.proofs.TrackedBags.{found_at, one_object}
-use Rattle.failover_model.specs.Shown.{Shown}
-use Rattle.failover_model.specs.Data.{FailData, new_of, state_of}
+use Rattle.failover_bytes.specs.log_model.Data.{Start}
+use Rattle.failover_bytes.specs.clean_model.Memory.{Place, Index, Images, LogSet, grown, copied, StandsAt}
+use Rattle.failover_bytes.specs.clean_model.Steps.{with_place, next_place, is_copied}
+use Rattle.failover_bytes.specs.clean_model.Tracked.{IsTracked, IsPassing, IsAround}
+use Rattle.failover_bytes.proofs.clean_model.IndexPlaces.{place_set, place_true, place_false, has_false}
+use Rattle.failover_bytes.proofs.clean_model.CopiedEntries.{live_copied, live_passing, grave_copied, grave_passing, dropped_passing}
+use Rattle.failover_bytes.proofs.clean_model.Lists.{among_at, at_one, grown_out}
+use Rattle.failover_bytes.proofs.clean_model.TrackedBags.{found_at, one_object}
+use Rattle.failover_bytes.specs.failover_model.Shown.{Shown}
+use Rattle.failover_bytes.specs.failover_model.Data.{FailData, new_of, state_of}
 use Rattle.failover_clean.specs.Covered.{map_of}
 use Rattle.failover_clean.specs.Intact.{AreSealed, AreRepaired, IsRollOf, IsIntact}
 use Rattle.failover_clean.specs.Laws.{CopyKeeps}

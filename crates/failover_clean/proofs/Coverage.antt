@@ -5,13 +5,13 @@ use Rattle.entry.specs.declared.entry.Object.{Object as ObjectValue}
 use Rattle.entry.specs.declared.entry.Entry.{Entry}
 use Rattle.entry.specs.declared.entry.Entry.TheVariants.{Object}
 use Rattle.entry.specs.Meaning.{IsOfKey}
-use Rattle.clean_model.specs.Memory.{LogSet, ImagesHave, SegmentHas, LogHas}
-use Rattle.clean_model.specs.Tracked.{IsBuried}
-use Rattle.clean_model.proofs.TrackedBags.{in_segment, between_clean, between_means}
-use Rattle.failover_model.specs.Shown.{Shown}
-use Rattle.failover_model.specs.Data.{FailData}
-use Rattle.failover_model.proofs.Holding.{replicas_are_texts}
-use Rattle.failover_model.proofs.Soundness.{kept_is_sound}
+use Rattle.failover_bytes.specs.clean_model.Memory.{LogSet, ImagesHave, SegmentHas, LogHas}
+use Rattle.failover_bytes.specs.clean_model.Tracked.{IsBuried}
+use Rattle.failover_bytes.proofs.clean_model.TrackedBags.{in_segment, between_clean, between_means}
+use Rattle.failover_bytes.specs.failover_model.Shown.{Shown}
+use Rattle.failover_bytes.specs.failover_model.Data.{FailData}
+use Rattle.failover_bytes.proofs.failover_model.Holding.{replicas_are_texts}
+use Rattle.failover_bytes.proofs.failover_model.Soundness.{kept_is_sound}
 use Rattle.failover_clean.specs.Covered.{map_of, IsInLogBag, image_bag, log_bag, HasGrave, MayName, IsCovered}
 use Rattle.failover_clean.specs.Intact.{IsIntact}
 use Rattle.failover_clean.specs.Laws.{IntactIsCovered, IntactIsSound}

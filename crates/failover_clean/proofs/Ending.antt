@@ -3,14 +3,14 @@ use Rattle.std.proofs.Common.{◌≡◌, ℕ, ◌⊎◌, inl, inr, true, false, 
 use Rattle.std.specs.Prelude.{Option, None}
 use Rattle.entry.specs.Bag.{IsAmong}
 use Rattle.entry.proofs.BagLemmas.{among_push}
-use Rattle.log_model.specs.Data.{Start}
-use Rattle.clean_model.specs.Memory.{new_ids, LogSet}
-use Rattle.clean_model.proofs.LogSetChanges.{IsMore, more_tracked, more_passing, more_around}
-use Rattle.failover_model.specs.Shown.{Shown}
-use Rattle.failover_model.specs.Data.{Mode, FailData, new_of, is_failing, state_of}
-use Rattle.failover_model.specs.Log.{IsKept}
-use Rattle.failover_model.specs.Steps.{ids_now, ended, EndsRoll, IsKnown}
-use Rattle.failover_model.proofs.Ending.{ending_is_held, ending_is_standing}
+use Rattle.failover_bytes.specs.log_model.Data.{Start}
+use Rattle.failover_bytes.specs.clean_model.Memory.{new_ids, LogSet}
+use Rattle.failover_bytes.proofs.clean_model.LogSetChanges.{IsMore, more_tracked, more_passing, more_around}
+use Rattle.failover_bytes.specs.failover_model.Shown.{Shown}
+use Rattle.failover_bytes.specs.failover_model.Data.{Mode, FailData, new_of, is_failing, state_of}
+use Rattle.failover_bytes.specs.failover_model.Log.{IsKept}
+use Rattle.failover_bytes.specs.failover_model.Steps.{ids_now, ended, EndsRoll, IsKnown}
+use Rattle.failover_bytes.proofs.failover_model.Ending.{ending_is_held, ending_is_standing}
 use Rattle.failover_clean.specs.Covered.{map_of}
 use Rattle.failover_clean.specs.Intact.{IsIntact}
 use Rattle.failover_clean.specs.Laws.{EndKeeps}

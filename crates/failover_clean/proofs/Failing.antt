@@ -5,15 +5,15 @@ use Rattle.entry.specs.declared.entry.Entry.{Entry}
 use Rattle.entry.specs.declared.entry.Entry.TheVariants.{Object, Tombstone}
 use Rattle.entry.specs.Bag.{IsAmong}
 use Rattle.entry.specs.Meaning.{Contents, IsOfKey, object_at}
-use Rattle.clean_model.specs.Memory.{Index, Pass, LogSet, SegmentHas, counting}
-use Rattle.clean_model.specs.Tracked.{IsTracked, IsAround}
-use Rattle.clean_model.proofs.Lists.{among_at}
-use Rattle.clean_model.proofs.TrackedBags.{buried_again}
-use Rattle.failover_model.specs.Text.{Text}
-use Rattle.failover_model.specs.Shown.{Shown}
-use Rattle.failover_model.specs.Data.{Calm, FailData, new_of, state_of}
-use Rattle.failover_model.specs.Steps.{failing, MayFail}
-use Rattle.failover_model.proofs.Failing.{failing_is_held, failing_is_standing, mended_is_held, mended_is_standing}
+use Rattle.failover_bytes.specs.clean_model.Memory.{Index, Pass, LogSet, SegmentHas, counting}
+use Rattle.failover_bytes.specs.clean_model.Tracked.{IsTracked, IsAround}
+use Rattle.failover_bytes.proofs.clean_model.Lists.{among_at}
+use Rattle.failover_bytes.proofs.clean_model.TrackedBags.{buried_again}
+use Rattle.failover_bytes.specs.failover_model.Text.{Text}
+use Rattle.failover_bytes.specs.failover_model.Shown.{Shown}
+use Rattle.failover_bytes.specs.failover_model.Data.{Calm, FailData, new_of, state_of}
+use Rattle.failover_bytes.specs.failover_model.Steps.{failing, MayFail}
+use Rattle.failover_bytes.proofs.failover_model.Failing.{failing_is_held, failing_is_standing, mended_is_held, mended_is_standing}
 use Rattle.failover_clean.specs.Covered.{map_of}
 use Rattle.failover_clean.specs.Intact.{IsIntact}
 use Rattle.failover_clean.specs.Laws.{FailKeeps, MendKeeps}

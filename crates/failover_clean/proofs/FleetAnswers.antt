@@ -2,12 +2,12 @@
 use Rattle.std.proofs.Common.{◌≡◌, ℕ, inl, inr, sym, ap, subst, ◌∙◌}
 use Rattle.std.proofs.lemmas.Option.{same_Some}
 use Rattle.replica.specs.Picture.{FleetState, shown_of}
-use Rattle.failover_model.specs.Shown.{Shown, Op}
-use Rattle.failover_model.specs.Data.{FailConfig, FailData}
-use Rattle.failover_model.specs.Log.{Texts}
-use Rattle.failover_model.specs.Runs.{IsThere, IsFaulted}
-use Rattle.failover_model.specs.Steps.{with_taken, Reseals, Seals}
-use Rattle.failover_model.proofs.Runs.{elsewhere}
+use Rattle.failover_bytes.specs.failover_model.Shown.{Shown, Op}
+use Rattle.failover_bytes.specs.failover_model.Data.{FailConfig, FailData}
+use Rattle.failover_bytes.specs.failover_model.Log.{Texts}
+use Rattle.failover_bytes.specs.failover_model.Runs.{IsThere, IsFaulted}
+use Rattle.failover_bytes.specs.failover_model.Steps.{with_taken, Reseals, Seals}
+use Rattle.failover_bytes.proofs.failover_model.Runs.{elsewhere}
 use Rattle.failover_bytes.specs.Keeping.{IsFreedThere, IsAsked}
 use Rattle.failover_bytes.specs.Runs.{read_fleet}
 use Rattle.failover_bytes.specs.Segments.{SealsSegment, IsHeldOp}

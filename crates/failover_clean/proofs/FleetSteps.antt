@@ -3,11 +3,11 @@ use Rattle.std.proofs.Common.{◌≡◌, ℕ, zero, suc, ◌⊎◌, inl, inr, Bo
 use Rattle.std.specs.Prelude.{None}
 use Rattle.entry.specs.declared.entry.Entry.{Entry}
 use Rattle.replica.specs.Picture.{FleetState}
-use Rattle.log_model.specs.Data.{Start}
-use Rattle.clean_model.specs.Memory.{Place}
-use Rattle.clean_model.specs.Steps.{is_copied}
-use Rattle.failover_model.specs.Data.{Mode, Calm, Rolls, Mends, Opens, Closes, Repairs, FailConfig, FailData, new_of}
-use Rattle.failover_model.specs.Steps.{next_start}
+use Rattle.failover_bytes.specs.log_model.Data.{Start}
+use Rattle.failover_bytes.specs.clean_model.Memory.{Place}
+use Rattle.failover_bytes.specs.clean_model.Steps.{is_copied}
+use Rattle.failover_bytes.specs.failover_model.Data.{Mode, Calm, Rolls, Mends, Opens, Closes, Repairs, FailConfig, FailData, new_of}
+use Rattle.failover_bytes.specs.failover_model.Steps.{next_start}
 use Rattle.failover_bytes.specs.Segments.{HeadsAreSegments}
 use Rattle.failover_bytes.proofs.Heads.{rolling_has_segments, ended_has_segments, others_have_segments}
 use Rattle.failover_bytes.proofs.Keeping.{new_holds_log}

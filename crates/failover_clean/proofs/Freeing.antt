@@ -4,16 +4,16 @@ use Rattle.std.proofs.Common.{subst, ◌∙◌}
 use Rattle.std.specs.Prelude.{Option, not, filter, IsSome}
 use Rattle.std.proofs.lemmas.Bool.{cases_Bool}
 use Rattle.entry.specs.Bag.{IsAmong}
-use Rattle.log_model.specs.Data.{Start}
-use Rattle.clean_model.specs.Intact.{Stays}
-use Rattle.failover_model.specs.Text.{Replica}
-use Rattle.failover_model.specs.Shown.{Shown, Free, taken}
-use Rattle.failover_model.specs.Data.{FailData, IsNew}
-use Rattle.failover_model.specs.Log.{IsLogHeld, IsOther}
-use Rattle.failover_model.specs.Steps.{IsFree, Frees}
-use Rattle.failover_model.proofs.Pictures.{is_taken, unchanged}
-use Rattle.failover_model.proofs.Spares.{frees_held}
-use Rattle.failover_model.proofs.States.{settled_if}
+use Rattle.failover_bytes.specs.log_model.Data.{Start}
+use Rattle.failover_bytes.specs.clean_model.Intact.{Stays}
+use Rattle.failover_bytes.specs.failover_model.Text.{Replica}
+use Rattle.failover_bytes.specs.failover_model.Shown.{Shown, Free, taken}
+use Rattle.failover_bytes.specs.failover_model.Data.{FailData, IsNew}
+use Rattle.failover_bytes.specs.failover_model.Log.{IsLogHeld, IsOther}
+use Rattle.failover_bytes.specs.failover_model.Steps.{IsFree, Frees}
+use Rattle.failover_bytes.proofs.failover_model.Pictures.{is_taken, unchanged}
+use Rattle.failover_bytes.proofs.failover_model.Spares.{frees_held}
+use Rattle.failover_bytes.proofs.failover_model.States.{settled_if}
 use Rattle.failover_clean.specs.Intact.{IsIntact}
 use Rattle.failover_clean.specs.Laws.{FreeKeeps}
 use Rattle.failover_clean.specs.Memory.{Spot, FailMemory, log_ids}

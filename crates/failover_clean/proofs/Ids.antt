@@ -5,12 +5,12 @@ use Rattle.std.proofs.lemmas.Bool.{cases_eq}
 use Rattle.std.proofs.lemmas.Bool.Decides.{nat_tests}
 use Rattle.entry.specs.Bag.{IsAmong}
 use Rattle.entry.proofs.BagLemmas.{among_left, among_right, among_either, among_last}
-use Rattle.log_model.specs.Data.{Start, ids_of}
-use Rattle.log_model.specs.Log.{AreBelow}
-use Rattle.log_model.proofs.Lists.{below_at}
-use Rattle.clean_model.specs.Memory.{new_ids}
-use Rattle.failover_model.specs.Data.{FailData, new_of}
-use Rattle.failover_model.specs.Steps.{ids_now}
+use Rattle.failover_bytes.specs.log_model.Data.{Start, ids_of}
+use Rattle.failover_bytes.specs.log_model.Log.{AreBelow}
+use Rattle.failover_bytes.proofs.log_model.Lists.{below_at}
+use Rattle.failover_bytes.specs.clean_model.Memory.{new_ids}
+use Rattle.failover_bytes.specs.failover_model.Data.{FailData, new_of}
+use Rattle.failover_bytes.specs.failover_model.Steps.{ids_now}
 use Rattle.failover_clean.specs.Memory.{FailMemory, log_ids}
 
 -- ---- the digest in force

@@ -5,12 +5,12 @@ use Rattle.entry.specs.Bag.{IsAmong}
 use Rattle.entry.specs.Meaning.{among}
 use Rattle.entry.specs.Text.{data_in}
 use Rattle.replica.specs.Picture.{FleetState, shown_of}
-use Rattle.failover_model.specs.Text.{Text}
-use Rattle.failover_model.specs.Data.{front, front_entries, FailData, IsHome}
-use Rattle.failover_model.specs.Durable.{TakenHead}
-use Rattle.failover_model.specs.Log.{Texts, IsOther, HoldsCopy}
-use Rattle.failover_model.proofs.Durable.{past_is_durable}
-use Rattle.failover_model.proofs.Holding.{homes_hold_copies}
+use Rattle.failover_bytes.specs.failover_model.Text.{Text}
+use Rattle.failover_bytes.specs.failover_model.Data.{front, front_entries, FailData, IsHome}
+use Rattle.failover_bytes.specs.failover_model.Durable.{TakenHead}
+use Rattle.failover_bytes.specs.failover_model.Log.{Texts, IsOther, HoldsCopy}
+use Rattle.failover_bytes.proofs.failover_model.Durable.{past_is_durable}
+use Rattle.failover_bytes.proofs.failover_model.Holding.{homes_hold_copies}
 use Rattle.failover_bytes.specs.Keeping.{KeepsLog}
 use Rattle.failover_bytes.specs.Runs.{read_fleet}
 use Rattle.failover_bytes.specs.Segments.{HeadsAreSegments}

@@ -3,17 +3,17 @@ use Rattle.std.proofs.Common.{◌≡◌, ℕ, zero, suc, inl, inr, List, [], ◌
 use Rattle.std.specs.Prelude.{Option, IsSome}
 use Rattle.entry.specs.Bag.{IsAmong}
 use Rattle.entry.proofs.BagLemmas.{among_either}
-use Rattle.log_model.specs.Ids.{has}
-use Rattle.failover_model.specs.Text.{Replica}
-use Rattle.failover_model.specs.Shown.{Shown}
-use Rattle.failover_model.specs.Data.{FailData}
-use Rattle.failover_model.specs.Log.{Texts, IsLogHeld}
-use Rattle.failover_model.specs.Steps.{texts_taken, unit_now, next_start, IsKnown}
-use Rattle.failover_model.proofs.Knowing.{failing_known}
-use Rattle.failover_model.proofs.KnownSteps.{appended_known, turned_known, ending_known, mended_known, id_taken_known}
-use Rattle.failover_model.proofs.Lists.{both_ways, has_here, has_fewer}
-use Rattle.failover_model.proofs.NewIds.{id_taken_is_held}
-use Rattle.failover_model.proofs.NewMaster.{fresh_is_kept}
+use Rattle.failover_bytes.specs.log_model.Ids.{has}
+use Rattle.failover_bytes.specs.failover_model.Text.{Replica}
+use Rattle.failover_bytes.specs.failover_model.Shown.{Shown}
+use Rattle.failover_bytes.specs.failover_model.Data.{FailData}
+use Rattle.failover_bytes.specs.failover_model.Log.{Texts, IsLogHeld}
+use Rattle.failover_bytes.specs.failover_model.Steps.{texts_taken, unit_now, next_start, IsKnown}
+use Rattle.failover_bytes.proofs.failover_model.Knowing.{failing_known}
+use Rattle.failover_bytes.proofs.failover_model.KnownSteps.{appended_known, turned_known, ending_known, mended_known, id_taken_known}
+use Rattle.failover_bytes.proofs.failover_model.Lists.{both_ways, has_here, has_fewer}
+use Rattle.failover_bytes.proofs.failover_model.NewIds.{id_taken_is_held}
+use Rattle.failover_bytes.proofs.failover_model.NewMaster.{fresh_is_kept}
 use Rattle.failover_clean.specs.Knowing.{FreshKnows, ApplyKnows, WaitingKnows, BeginKnows, RollKnows, CommitKnows}
 use Rattle.failover_clean.specs.Knowing.{EndKnows, FinishKnows, FailKnows, MendKnows}
 use Rattle.failover_clean.specs.Memory.{Spot, FailMemory}

@@ -34,3 +34,6 @@ pub mod LoadingRepairs
 pub mod LoadingFails
 pub mod Loading
 pub mod LoadingFleets
+pub use Rattle.failover_bytes.proofs.clean_model
+pub use Rattle.failover_bytes.proofs.failover_model
+pub use Rattle.failover_bytes.proofs as failover_bytes

@@ -13,32 +13,32 @@ use Rattle.entry.proofs.BagLemmas.{among_either, among_push}
 use Rattle.versioned_map.specs.Represents.{Represents}
 use Rattle.versioned_map.specs.Versioned.{with_contents}
 use Rattle.versioned_map.proofs.Keys.{at_key, at_other}
-use Rattle.log_model.specs.Adopt.{with_loaded}
-use Rattle.log_model.specs.Data.{Start, LogUnit, entries_of}
-use Rattle.log_model.proofs.Fronts.{unit_entries}
-use Rattle.log_model.proofs.Lists.{below_at}
-use Rattle.log_model.proofs.LoadedObjects.{loaded_is_represented}
-use Rattle.clean_model.specs.Loading.{HasOnly}
-use Rattle.clean_model.specs.Memory.{Index, LogSet, copied}
-use Rattle.clean_model.specs.Steps.{with_place, next_place}
-use Rattle.clean_model.specs.Tracked.{IsTracked, IsAround}
-use Rattle.clean_model.proofs.AddedEntries.{added_copied, object_added}
-use Rattle.clean_model.proofs.IndexPlaces.{place_set}
-use Rattle.clean_model.proofs.Lists.{grown_out}
-use Rattle.clean_model.proofs.LogSetChanges.{told_in, texts_changed}
-use Rattle.clean_model.proofs.Premises.{IsAdded, IsSet}
-use Rattle.clean_model.proofs.TrackedBags.{of_same}
-use Rattle.failover_model.specs.Text.{Text}
-use Rattle.failover_model.specs.Shown.{Shown}
-use Rattle.failover_model.specs.Data.{front_entries, Calm, Repairs, FailData, new_of}
-use Rattle.failover_model.specs.Log.{Texts, IsBase, AreOfTablets, IsLogHeld}
-use Rattle.failover_model.specs.Steps.{texts_appended, IsKnown}
-use Rattle.failover_model.proofs.Adopting.{opening_held, opening_is_apart}
-use Rattle.failover_model.proofs.Appending.{appended_is_held}
-use Rattle.failover_model.proofs.Images.{base_out}
-use Rattle.failover_model.proofs.KnownSteps.{appended_known}
-use Rattle.failover_model.proofs.States.{whole_front}
-use Rattle.failover_model.proofs.Texts.{base_moves, at_text, variant_back}
+use Rattle.failover_bytes.specs.log_model.Adopt.{with_loaded}
+use Rattle.failover_bytes.specs.log_model.Data.{Start, LogUnit, entries_of}
+use Rattle.failover_bytes.proofs.log_model.Fronts.{unit_entries}
+use Rattle.failover_bytes.proofs.log_model.Lists.{below_at}
+use Rattle.failover_bytes.proofs.log_model.LoadedObjects.{loaded_is_represented}
+use Rattle.failover_bytes.specs.clean_model.Loading.{HasOnly}
+use Rattle.failover_bytes.specs.clean_model.Memory.{Index, LogSet, copied}
+use Rattle.failover_bytes.specs.clean_model.Steps.{with_place, next_place}
+use Rattle.failover_bytes.specs.clean_model.Tracked.{IsTracked, IsAround}
+use Rattle.failover_bytes.proofs.clean_model.AddedEntries.{added_copied, object_added}
+use Rattle.failover_bytes.proofs.clean_model.IndexPlaces.{place_set}
+use Rattle.failover_bytes.proofs.clean_model.Lists.{grown_out}
+use Rattle.failover_bytes.proofs.clean_model.LogSetChanges.{told_in, texts_changed}
+use Rattle.failover_bytes.proofs.clean_model.Premises.{IsAdded, IsSet}
+use Rattle.failover_bytes.proofs.clean_model.TrackedBags.{of_same}
+use Rattle.failover_bytes.specs.failover_model.Text.{Text}
+use Rattle.failover_bytes.specs.failover_model.Shown.{Shown}
+use Rattle.failover_bytes.specs.failover_model.Data.{front_entries, Calm, Repairs, FailData, new_of}
+use Rattle.failover_bytes.specs.failover_model.Log.{Texts, IsBase, AreOfTablets, IsLogHeld}
+use Rattle.failover_bytes.specs.failover_model.Steps.{texts_appended, IsKnown}
+use Rattle.failover_bytes.proofs.failover_model.Adopting.{opening_held, opening_is_apart}
+use Rattle.failover_bytes.proofs.failover_model.Appending.{appended_is_held}
+use Rattle.failover_bytes.proofs.failover_model.Images.{base_out}
+use Rattle.failover_bytes.proofs.failover_model.KnownSteps.{appended_known}
+use Rattle.failover_bytes.proofs.failover_model.States.{whole_front}
+use Rattle.failover_bytes.proofs.failover_model.Texts.{base_moves, at_text, variant_back}
 use Rattle.failover_clean.specs.Intact.{AreRepaired}
 use Rattle.failover_clean.specs.Loading.{with_object, object_loaded, MayLoad, IsLoading, LoadKeeps}
 use Rattle.failover_clean.specs.Memory.{FailMemory, entries_in, log_set_of, AreImages}

@@ -3,16 +3,16 @@ use Rattle.std.proofs.Common.{◌≡◌, ℕ, inl, true, false, List, [], ◌∷
 use Rattle.std.specs.Prelude.{Some, None}
 use Rattle.entry.specs.Bag.{IsAmong}
 use Rattle.versioned_map.specs.Versioned.{State}
-use Rattle.log_model.specs.Data.{Start}
-use Rattle.clean_model.specs.Intact.{IsPassOf}
-use Rattle.clean_model.specs.Memory.{Pass, LogSet}
-use Rattle.clean_model.specs.Tracked.{IsTracked, IsPassing}
-use Rattle.clean_model.proofs.LogSetChanges.{IsMore, was_in}
-use Rattle.clean_model.proofs.NoPass.{none_passing, none_chosen}
-use Rattle.failover_model.specs.Shown.{Shown}
-use Rattle.failover_model.specs.Data.{Calm, Repairs, FailData, HasTaken, new_of, state_of}
-use Rattle.failover_model.specs.Steps.{IsLoaded, adopted}
-use Rattle.failover_model.proofs.Adopting.{adopted_logged, adopted_mirrored, adopted_standing, adopted_known}
+use Rattle.failover_bytes.specs.log_model.Data.{Start}
+use Rattle.failover_bytes.specs.clean_model.Intact.{IsPassOf}
+use Rattle.failover_bytes.specs.clean_model.Memory.{Pass, LogSet}
+use Rattle.failover_bytes.specs.clean_model.Tracked.{IsTracked, IsPassing}
+use Rattle.failover_bytes.proofs.clean_model.LogSetChanges.{IsMore, was_in}
+use Rattle.failover_bytes.proofs.clean_model.NoPass.{none_passing, none_chosen}
+use Rattle.failover_bytes.specs.failover_model.Shown.{Shown}
+use Rattle.failover_bytes.specs.failover_model.Data.{Calm, Repairs, FailData, HasTaken, new_of, state_of}
+use Rattle.failover_bytes.specs.failover_model.Steps.{IsLoaded, adopted}
+use Rattle.failover_bytes.proofs.failover_model.Adopting.{adopted_logged, adopted_mirrored, adopted_standing, adopted_known}
 use Rattle.failover_clean.specs.Intact.{AreSealed, IsIntact}
 use Rattle.failover_clean.specs.Loading.{IsLoading, SameIsLoading, FinishIsIntact}
 use Rattle.failover_clean.specs.Memory.{Spot, FailMemory, log_ids, log_set_of}

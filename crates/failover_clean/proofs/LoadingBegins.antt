@@ -8,15 +8,15 @@ use Rattle.entry.specs.declared.entry.Entry.TheVariants.{Object, Tombstone}
 use Rattle.entry.specs.Bag.{IsAmong}
 use Rattle.entry.specs.Meaning.{IsOfKey}
 use Rattle.versioned_map.specs.Represents.{Represents}
-use Rattle.log_model.specs.Data.{Start}
-use Rattle.log_model.proofs.Segments.{no_keys}
-use Rattle.clean_model.specs.Memory.{SegmentHas}
-use Rattle.failover_model.specs.Text.{Text}
-use Rattle.failover_model.specs.Shown.{Shown}
-use Rattle.failover_model.specs.Data.{bare, FailConfig, FailData, new_of}
-use Rattle.failover_model.specs.Log.{Texts, BasesStand, IsLogHeld}
-use Rattle.failover_model.specs.Steps.{restored_start, restored, MayBegin, IsKnown}
-use Rattle.failover_model.proofs.NewMaster.{texts_of, first_held, first_known}
+use Rattle.failover_bytes.specs.log_model.Data.{Start}
+use Rattle.failover_bytes.proofs.log_model.Segments.{no_keys}
+use Rattle.failover_bytes.specs.clean_model.Memory.{SegmentHas}
+use Rattle.failover_bytes.specs.failover_model.Text.{Text}
+use Rattle.failover_bytes.specs.failover_model.Shown.{Shown}
+use Rattle.failover_bytes.specs.failover_model.Data.{bare, FailConfig, FailData, new_of}
+use Rattle.failover_bytes.specs.failover_model.Log.{Texts, BasesStand, IsLogHeld}
+use Rattle.failover_bytes.specs.failover_model.Steps.{restored_start, restored, MayBegin, IsKnown}
+use Rattle.failover_bytes.proofs.failover_model.NewMaster.{texts_of, first_held, first_known}
 use Rattle.failover_bytes.specs.Text.{entries_for}
 use Rattle.failover_clean.specs.Loading.{IsLoading, RestoredIsLoading}
 use Rattle.failover_clean.specs.Memory.{FailMemory, entries_in, log_ids, log_set_of, data_of, AreImages}

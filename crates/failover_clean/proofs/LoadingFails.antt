@@ -4,12 +4,12 @@ use Rattle.entry.specs.declared.key.Key.{Key}
 use Rattle.entry.specs.declared.entry.Entry.{Entry}
 use Rattle.entry.specs.Bag.{IsAmong}
 use Rattle.entry.specs.Meaning.{IsOfKey}
-use Rattle.clean_model.specs.Memory.{LogSet, Pass}
-use Rattle.failover_model.specs.Text.{Text}
-use Rattle.failover_model.specs.Shown.{Shown}
-use Rattle.failover_model.specs.Data.{Calm, FailData, new_of}
-use Rattle.failover_model.specs.Steps.{failing, MayFail}
-use Rattle.failover_model.proofs.Failing.{failing_is_held, mended_is_held}
+use Rattle.failover_bytes.specs.clean_model.Memory.{LogSet, Pass}
+use Rattle.failover_bytes.specs.failover_model.Text.{Text}
+use Rattle.failover_bytes.specs.failover_model.Shown.{Shown}
+use Rattle.failover_bytes.specs.failover_model.Data.{Calm, FailData, new_of}
+use Rattle.failover_bytes.specs.failover_model.Steps.{failing, MayFail}
+use Rattle.failover_bytes.proofs.failover_model.Failing.{failing_is_held, mended_is_held}
 use Rattle.failover_clean.specs.Loading.{IsLoading, LoadingFails, LoadingMends}
 use Rattle.failover_clean.specs.Memory.{FailMemory, entries_in, log_ids, log_set_of}
 use Rattle.failover_clean.specs.Steps.{stopped}

@@ -2,22 +2,22 @@
 use Rattle.std.proofs.Common.{◌≡◌, ℕ, ◌⊎◌, inl, inr, true, List, ◌++◌, refl, sym, ap, subst, ◌∙◌}
 use Rattle.std.specs.Prelude.{Option, Some}
 use Rattle.entry.specs.Bag.{IsAmong}
-use Rattle.log_model.specs.Data.{Start}
-use Rattle.clean_model.specs.Loading.{HasOnly}
-use Rattle.clean_model.specs.Memory.{LogSet, new_ids}
-use Rattle.clean_model.specs.Tracked.{IsTracked, IsAround}
-use Rattle.failover_model.specs.Shown.{Shown, Op, taken}
-use Rattle.failover_model.specs.Data.{Mode, Calm, Repairs, FailData, new_of, is_failing}
-use Rattle.failover_model.specs.Laws.{BothHeld, Fits}
-use Rattle.failover_model.specs.Log.{Texts, IsLogHeld}
-use Rattle.failover_model.specs.Runs.{GoesOn, IsNext, IsThere}
-use Rattle.failover_model.specs.Steps.{ids_now, IsKnown}
-use Rattle.failover_model.proofs.Closing.{closes_held}
-use Rattle.failover_model.proofs.HeadOps.{extends_held}
-use Rattle.failover_model.proofs.Knowing.{extends_fits, opens_fits, replaces_fits, raises_fits, closes_fits}
-use Rattle.failover_model.proofs.Opening.{opens_held, raises_held}
-use Rattle.failover_model.proofs.Replacing.{replaces_held}
-use Rattle.failover_model.proofs.Runs.{next_goes_on, there}
+use Rattle.failover_bytes.specs.log_model.Data.{Start}
+use Rattle.failover_bytes.specs.clean_model.Loading.{HasOnly}
+use Rattle.failover_bytes.specs.clean_model.Memory.{LogSet, new_ids}
+use Rattle.failover_bytes.specs.clean_model.Tracked.{IsTracked, IsAround}
+use Rattle.failover_bytes.specs.failover_model.Shown.{Shown, Op, taken}
+use Rattle.failover_bytes.specs.failover_model.Data.{Mode, Calm, Repairs, FailData, new_of, is_failing}
+use Rattle.failover_bytes.specs.failover_model.Laws.{BothHeld, Fits}
+use Rattle.failover_bytes.specs.failover_model.Log.{Texts, IsLogHeld}
+use Rattle.failover_bytes.specs.failover_model.Runs.{GoesOn, IsNext, IsThere}
+use Rattle.failover_bytes.specs.failover_model.Steps.{ids_now, IsKnown}
+use Rattle.failover_bytes.proofs.failover_model.Closing.{closes_held}
+use Rattle.failover_bytes.proofs.failover_model.HeadOps.{extends_held}
+use Rattle.failover_bytes.proofs.failover_model.Knowing.{extends_fits, opens_fits, replaces_fits, raises_fits, closes_fits}
+use Rattle.failover_bytes.proofs.failover_model.Opening.{opens_held, raises_held}
+use Rattle.failover_bytes.proofs.failover_model.Replacing.{replaces_held}
+use Rattle.failover_bytes.proofs.failover_model.Runs.{next_goes_on, there}
 use Rattle.failover_clean.specs.Intact.{Knows}
 use Rattle.failover_clean.specs.Loading.{IsLoading, LoadingOpKeeps, LoadingOpFits}
 use Rattle.failover_clean.specs.Memory.{Spot, FailMemory, entries_in}

@@ -5,19 +5,19 @@ use Rattle.std.proofs.lemmas.List.{append-nil}
 use Rattle.entry.specs.declared.entry.Entry.{Entry}
 use Rattle.versioned_map.specs.Represents.{Represents}
 use Rattle.versioned_map.specs.Versioned.{State}
-use Rattle.log_model.specs.Data.{Start, entries_of}
-use Rattle.clean_model.specs.Intact.{IsPassOf}
-use Rattle.clean_model.specs.Memory.{Pass}
-use Rattle.clean_model.specs.Tracked.{IsTracked, IsPassing, IsAround}
-use Rattle.clean_model.proofs.NoPass.{none_passing, none_chosen}
-use Rattle.failover_model.specs.Shown.{Shown, Op, taken}
-use Rattle.failover_model.specs.Data.{front_entries, FailData, new_of, is_failing, state_of}
-use Rattle.failover_model.specs.Laws.{Fits}
-use Rattle.failover_model.specs.Log.{Texts, IsBase, IsLogHeld}
-use Rattle.failover_model.specs.Steps.{with_taken, Reseals, texts_resealed}
-use Rattle.failover_model.proofs.Knowing.{reseals_fits}
-use Rattle.failover_model.proofs.Runs.{there}
-use Rattle.failover_model.proofs.States.{whole_front}
+use Rattle.failover_bytes.specs.log_model.Data.{Start, entries_of}
+use Rattle.failover_bytes.specs.clean_model.Intact.{IsPassOf}
+use Rattle.failover_bytes.specs.clean_model.Memory.{Pass}
+use Rattle.failover_bytes.specs.clean_model.Tracked.{IsTracked, IsPassing, IsAround}
+use Rattle.failover_bytes.proofs.clean_model.NoPass.{none_passing, none_chosen}
+use Rattle.failover_bytes.specs.failover_model.Shown.{Shown, Op, taken}
+use Rattle.failover_bytes.specs.failover_model.Data.{front_entries, FailData, new_of, is_failing, state_of}
+use Rattle.failover_bytes.specs.failover_model.Laws.{Fits}
+use Rattle.failover_bytes.specs.failover_model.Log.{Texts, IsBase, IsLogHeld}
+use Rattle.failover_bytes.specs.failover_model.Steps.{with_taken, Reseals, texts_resealed}
+use Rattle.failover_bytes.proofs.failover_model.Knowing.{reseals_fits}
+use Rattle.failover_bytes.proofs.failover_model.Runs.{there}
+use Rattle.failover_bytes.proofs.failover_model.States.{whole_front}
 use Rattle.failover_clean.specs.Loading.{IsLoading, LoadingRepairKeeps, LoadingRepairFits}
 use Rattle.failover_clean.specs.Memory.{FailMemory, log_ids, log_set_of, data_of}
 use Rattle.failover_clean.specs.Ops.{RepairsImage}

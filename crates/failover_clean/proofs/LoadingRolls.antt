@@ -14,23 +14,23 @@ use Rattle.versioned_map.specs.declared.command.Record.{Record}
 use Rattle.versioned_map.specs.History.{commands_of}
 use Rattle.versioned_map.specs.Represents.{Represents}
 use Rattle.versioned_map.specs.Versioned.{State, after}
-use Rattle.log_model.specs.Data.{Start}
-use Rattle.log_model.proofs.Lists.{below_at}
-use Rattle.log_model.proofs.Rolling.{recorded_anew}
-use Rattle.clean_model.specs.Loading.{HasOnly}
-use Rattle.clean_model.specs.Memory.{LogSet, Pass, new_ids}
-use Rattle.clean_model.proofs.Lists.{image_here, image_there}
-use Rattle.clean_model.proofs.LogSetChanges.{IsMore, more_tracked, more_around, was_in}
-use Rattle.failover_model.specs.Text.{Text}
-use Rattle.failover_model.specs.Shown.{Shown}
-use Rattle.failover_model.specs.Data.{bare, front_entries, Mode, Calm, Repairs, FailData, new_of, is_failing, state_of}
-use Rattle.failover_model.specs.Log.{Texts, IsBase, BasesStand}
-use Rattle.failover_model.specs.Steps.{rolling, texts_rolling, ids_now, next_start, MayTurn, IsRoll, ended, EndsRoll}
-use Rattle.failover_model.proofs.Ending.{ending_is_held}
-use Rattle.failover_model.proofs.KnownSteps.{rolling_known, ending_known}
-use Rattle.failover_model.proofs.Rolling.{rolling_is_held}
-use Rattle.failover_model.proofs.Texts.{base_moves, variant_back, at_new, new_there, new_other, new_images, new_none}
-use Rattle.failover_model.proofs.Turning.{base_push, ordinary_is_roll}
+use Rattle.failover_bytes.specs.log_model.Data.{Start}
+use Rattle.failover_bytes.proofs.log_model.Lists.{below_at}
+use Rattle.failover_bytes.proofs.log_model.Rolling.{recorded_anew}
+use Rattle.failover_bytes.specs.clean_model.Loading.{HasOnly}
+use Rattle.failover_bytes.specs.clean_model.Memory.{LogSet, Pass, new_ids}
+use Rattle.failover_bytes.proofs.clean_model.Lists.{image_here, image_there}
+use Rattle.failover_bytes.proofs.clean_model.LogSetChanges.{IsMore, more_tracked, more_around, was_in}
+use Rattle.failover_bytes.specs.failover_model.Text.{Text}
+use Rattle.failover_bytes.specs.failover_model.Shown.{Shown}
+use Rattle.failover_bytes.specs.failover_model.Data.{bare, front_entries, Mode, Calm, Repairs, FailData, new_of, is_failing, state_of}
+use Rattle.failover_bytes.specs.failover_model.Log.{Texts, IsBase, BasesStand}
+use Rattle.failover_bytes.specs.failover_model.Steps.{rolling, texts_rolling, ids_now, next_start, MayTurn, IsRoll, ended, EndsRoll}
+use Rattle.failover_bytes.proofs.failover_model.Ending.{ending_is_held}
+use Rattle.failover_bytes.proofs.failover_model.KnownSteps.{rolling_known, ending_known}
+use Rattle.failover_bytes.proofs.failover_model.Rolling.{rolling_is_held}
+use Rattle.failover_bytes.proofs.failover_model.Texts.{base_moves, variant_back, at_new, new_there, new_other, new_images, new_none}
+use Rattle.failover_bytes.proofs.failover_model.Turning.{base_push, ordinary_is_roll}
 use Rattle.failover_clean.specs.Intact.{AreRepaired, Knows}
 use Rattle.failover_clean.specs.Loading.{IsLoading, LoadingRollKeeps, LoadingEndKeeps}
 use Rattle.failover_clean.specs.Memory.{FailMemory, entries_in, log_ids, log_set_of, AreImages}

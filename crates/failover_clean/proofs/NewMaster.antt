@@ -6,15 +6,15 @@ use Rattle.entry.specs.declared.entry.Entry.{Entry}
 use Rattle.entry.specs.declared.entry.Entry.TheVariants.{Object, Tombstone}
 use Rattle.entry.specs.Bag.{IsAmong}
 use Rattle.entry.specs.Meaning.{IsOfKey}
-use Rattle.log_model.specs.Data.{Start}
-use Rattle.clean_model.specs.Memory.{SegmentHas}
-use Rattle.clean_model.proofs.NoPass.{none_passing, none_chosen}
-use Rattle.failover_model.specs.Text.{Text}
-use Rattle.failover_model.specs.Shown.{Shown}
-use Rattle.failover_model.specs.Data.{opening_for, bare, FailConfig}
-use Rattle.failover_model.specs.Log.{IsKept}
-use Rattle.failover_model.specs.Steps.{restored_start, fresh, MayBegin}
-use Rattle.failover_model.proofs.NewMaster.{texts_of, first_held, fresh_standing}
+use Rattle.failover_bytes.specs.log_model.Data.{Start}
+use Rattle.failover_bytes.specs.clean_model.Memory.{SegmentHas}
+use Rattle.failover_bytes.proofs.clean_model.NoPass.{none_passing, none_chosen}
+use Rattle.failover_bytes.specs.failover_model.Text.{Text}
+use Rattle.failover_bytes.specs.failover_model.Shown.{Shown}
+use Rattle.failover_bytes.specs.failover_model.Data.{opening_for, bare, FailConfig}
+use Rattle.failover_bytes.specs.failover_model.Log.{IsKept}
+use Rattle.failover_bytes.specs.failover_model.Steps.{restored_start, fresh, MayBegin}
+use Rattle.failover_bytes.proofs.failover_model.NewMaster.{texts_of, first_held, fresh_standing}
 use Rattle.failover_clean.specs.Laws.{FreshIsIntact}
 use Rattle.failover_clean.specs.Memory.{FailMemory, entries_in, log_ids, log_set_of}
 use Rattle.failover_clean.specs.Steps.{first_memory}

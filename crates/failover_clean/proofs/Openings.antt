@@ -12,13 +12,13 @@ use Rattle.entry.specs.declared.entry.Entry.TheVariants.{Header, Digest, Safe, O
 use Rattle.entry.specs.Bag.{IsAmong}
 use Rattle.entry.specs.Meaning.{IsOfKey}
 use Rattle.entry.specs.Text.{is_data, Opening, opening_of}
-use Rattle.clean_model.specs.Compaction.{kept, kept_from}
-use Rattle.clean_model.specs.Memory.{Index, with_image}
-use Rattle.clean_model.proofs.Bases.{key_data, data_among}
-use Rattle.clean_model.proofs.Lists.{image_here, image_there}
-use Rattle.failover_model.specs.Text.{Text}
-use Rattle.failover_model.specs.Data.{FailData}
-use Rattle.failover_model.specs.Log.{Texts}
+use Rattle.failover_bytes.specs.clean_model.Compaction.{kept, kept_from}
+use Rattle.failover_bytes.specs.clean_model.Memory.{Index, with_image}
+use Rattle.failover_bytes.proofs.clean_model.Bases.{key_data, data_among}
+use Rattle.failover_bytes.proofs.clean_model.Lists.{image_here, image_there}
+use Rattle.failover_bytes.specs.failover_model.Text.{Text}
+use Rattle.failover_bytes.specs.failover_model.Data.{FailData}
+use Rattle.failover_bytes.specs.failover_model.Log.{Texts}
 use Rattle.failover_bytes.specs.Text.{entries_for}
 use Rattle.failover_clean.specs.Memory.{FailMemory, log_ids, AreImages}
 

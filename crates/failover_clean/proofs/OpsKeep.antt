@@ -6,17 +6,17 @@ use Rattle.std.proofs.lemmas.Bool.Decides.{nat_tests}
 use Rattle.std.proofs.lemmas.Option.{same_Some}
 use Rattle.entry.specs.declared.entry.Entry.{Entry}
 use Rattle.entry.specs.Bag.{IsAmong}
-use Rattle.log_model.specs.Ids.{has}
-use Rattle.failover_model.specs.Text.{Replica}
-use Rattle.failover_model.specs.Shown.{Holds, Shown, Act, Open, Extend, Close, Seal, Free, Op, On, Raise, effect, taken}
-use Rattle.failover_model.specs.Data.{FailConfig, FailData}
-use Rattle.failover_model.specs.Laws.{Fits}
-use Rattle.failover_model.specs.Log.{Texts}
-use Rattle.failover_model.specs.Runs.{IsThere}
-use Rattle.failover_model.specs.Steps.{with_taken, Reseals, Frees}
-use Rattle.failover_model.proofs.Knowing.{extends_fits, opens_fits, replaces_fits, raises_fits, closes_fits}
-use Rattle.failover_model.proofs.Knowing.{reseals_fits, seals_fits, frees_fits}
-use Rattle.failover_model.proofs.Pictures.{is_taken, unchanged, opened, sealed, closed, extended}
+use Rattle.failover_bytes.specs.log_model.Ids.{has}
+use Rattle.failover_bytes.specs.failover_model.Text.{Replica}
+use Rattle.failover_bytes.specs.failover_model.Shown.{Holds, Shown, Act, Open, Extend, Close, Seal, Free, Op, On, Raise, effect, taken}
+use Rattle.failover_bytes.specs.failover_model.Data.{FailConfig, FailData}
+use Rattle.failover_bytes.specs.failover_model.Laws.{Fits}
+use Rattle.failover_bytes.specs.failover_model.Log.{Texts}
+use Rattle.failover_bytes.specs.failover_model.Runs.{IsThere}
+use Rattle.failover_bytes.specs.failover_model.Steps.{with_taken, Reseals, Frees}
+use Rattle.failover_bytes.proofs.failover_model.Knowing.{extends_fits, opens_fits, replaces_fits, raises_fits, closes_fits}
+use Rattle.failover_bytes.proofs.failover_model.Knowing.{reseals_fits, seals_fits, frees_fits}
+use Rattle.failover_bytes.proofs.failover_model.Pictures.{is_taken, unchanged, opened, sealed, closed, extended}
 use Rattle.failover_clean.specs.Intact.{IsIntact, Knows}
 use Rattle.failover_clean.specs.Laws.{BothIntact}
 use Rattle.failover_clean.specs.Memory.{Spot, FailMemory, data_of}

@@ -12,20 +12,20 @@ use Rattle.entry.specs.Bag.{IsAmong}
 use Rattle.entry.proofs.BagLemmas.{among_push}
 use Rattle.versioned_map.specs.declared.command.Record.{Record}
 use Rattle.versioned_map.specs.Versioned.{State}
-use Rattle.log_model.specs.Data.{Start}
-use Rattle.log_model.proofs.PastHeads.{rises_none}
-use Rattle.failover_model.specs.Text.{Text}
-use Rattle.failover_model.specs.Shown.{Shown, Op}
-use Rattle.failover_model.specs.Data.{front, bare, Mode, Repairs, FailConfig, FailData, new_of}
-use Rattle.failover_model.specs.Durable.{TakenHead, head_now, heads_of, IsPast}
-use Rattle.failover_model.specs.Log.{Texts, IsKept}
-use Rattle.failover_model.specs.Steps.{fresh, applied, MayApply, unit_now, texts_appended, IsLoaded, adopted, rolling}
-use Rattle.failover_model.specs.Steps.{texts_rolling, IsRoll, id_taken, empty_survivor, texts_taken, ended, EndsRoll}
-use Rattle.failover_model.specs.Steps.{failing, mended, Extends, OpensNew, Replaces, Raises, ClosesOld, Reseals}
-use Rattle.failover_model.specs.Steps.{texts_resealed, IsFree, with_new, with_taken}
-use Rattle.failover_model.proofs.PastHeads as heads
-use Rattle.failover_model.proofs.PastHeads.{fresh_is_past, adopted_is_past}
-use Rattle.failover_model.proofs.Texts.{text_other, new_other}
+use Rattle.failover_bytes.specs.log_model.Data.{Start}
+use Rattle.failover_bytes.proofs.log_model.PastHeads.{rises_none}
+use Rattle.failover_bytes.specs.failover_model.Text.{Text}
+use Rattle.failover_bytes.specs.failover_model.Shown.{Shown, Op}
+use Rattle.failover_bytes.specs.failover_model.Data.{front, bare, Mode, Repairs, FailConfig, FailData, new_of}
+use Rattle.failover_bytes.specs.failover_model.Durable.{TakenHead, head_now, heads_of, IsPast}
+use Rattle.failover_bytes.specs.failover_model.Log.{Texts, IsKept}
+use Rattle.failover_bytes.specs.failover_model.Steps.{fresh, applied, MayApply, unit_now, texts_appended, IsLoaded, adopted, rolling}
+use Rattle.failover_bytes.specs.failover_model.Steps.{texts_rolling, IsRoll, id_taken, empty_survivor, texts_taken, ended, EndsRoll}
+use Rattle.failover_bytes.specs.failover_model.Steps.{failing, mended, Extends, OpensNew, Replaces, Raises, ClosesOld, Reseals}
+use Rattle.failover_bytes.specs.failover_model.Steps.{texts_resealed, IsFree, with_new, with_taken}
+use Rattle.failover_bytes.proofs.failover_model.PastHeads as heads
+use Rattle.failover_bytes.proofs.failover_model.PastHeads.{fresh_is_past, adopted_is_past}
+use Rattle.failover_bytes.proofs.failover_model.Texts.{text_other, new_other}
 use Rattle.failover_clean.specs.Past.{past_ids, ArePast, past_after}
 
 -- ---- texts of older heads

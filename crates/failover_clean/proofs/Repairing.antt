@@ -9,20 +9,20 @@ use Rattle.entry.specs.declared.entry.Entry.{Entry}
 use Rattle.entry.specs.Bag.{IsAmong}
 use Rattle.entry.specs.Meaning.{IsOfKey}
 use Rattle.entry.proofs.BagLemmas.{among_push, among_left}
-use Rattle.log_model.specs.Data.{Start, entries_of}
-use Rattle.log_model.specs.Ids.{has}
-use Rattle.clean_model.specs.Intact.{IsPassOf}
-use Rattle.clean_model.specs.Memory.{LogSet, new_ids}
-use Rattle.clean_model.specs.Tracked.{IsTracked, IsPassing, IsAround}
-use Rattle.failover_model.specs.Text.{Text}
-use Rattle.failover_model.specs.Shown.{Shown, Seal, Op, On, taken}
-use Rattle.failover_model.specs.Data.{Repairs, FailData, new_of, is_failing, state_of}
-use Rattle.failover_model.specs.Log.{Texts, BasesStand, IsLogHeld, IsStanding}
-use Rattle.failover_model.specs.Steps.{with_taken, MayRepair, Reseals, texts_resealed}
-use Rattle.failover_model.proofs.Images.{between_stands}
-use Rattle.failover_model.proofs.Lists.{taken_either}
-use Rattle.failover_model.proofs.Resealing.{reseals_held, reseals_standing}
-use Rattle.failover_model.proofs.States.{own_entries}
+use Rattle.failover_bytes.specs.log_model.Data.{Start, entries_of}
+use Rattle.failover_bytes.specs.log_model.Ids.{has}
+use Rattle.failover_bytes.specs.clean_model.Intact.{IsPassOf}
+use Rattle.failover_bytes.specs.clean_model.Memory.{LogSet, new_ids}
+use Rattle.failover_bytes.specs.clean_model.Tracked.{IsTracked, IsPassing, IsAround}
+use Rattle.failover_bytes.specs.failover_model.Text.{Text}
+use Rattle.failover_bytes.specs.failover_model.Shown.{Shown, Seal, Op, On, taken}
+use Rattle.failover_bytes.specs.failover_model.Data.{Repairs, FailData, new_of, is_failing, state_of}
+use Rattle.failover_bytes.specs.failover_model.Log.{Texts, BasesStand, IsLogHeld, IsStanding}
+use Rattle.failover_bytes.specs.failover_model.Steps.{with_taken, MayRepair, Reseals, texts_resealed}
+use Rattle.failover_bytes.proofs.failover_model.Images.{between_stands}
+use Rattle.failover_bytes.proofs.failover_model.Lists.{taken_either}
+use Rattle.failover_bytes.proofs.failover_model.Resealing.{reseals_held, reseals_standing}
+use Rattle.failover_bytes.proofs.failover_model.States.{own_entries}
 use Rattle.failover_clean.specs.Covered.{map_of}
 use Rattle.failover_clean.specs.Intact.{AreRepaired, IsIntact}
 use Rattle.failover_clean.specs.Laws.{ImageIsRepair, RepairKeeps}

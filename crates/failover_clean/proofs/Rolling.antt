@@ -9,22 +9,22 @@ use Rattle.entry.specs.declared.entry.Entry.{Entry}
 use Rattle.entry.specs.Bag.{IsAmong}
 use Rattle.entry.specs.Meaning.{IsOfKey}
 use Rattle.entry.specs.Text.{is_data}
-use Rattle.log_model.specs.Data.{Start, start_entries}
-use Rattle.log_model.specs.Ids.{has}
-use Rattle.log_model.proofs.Segments.{no_keys}
-use Rattle.clean_model.specs.Memory.{new_ids, LogSet}
-use Rattle.clean_model.proofs.Lists.{among_at, image_here, image_there}
-use Rattle.clean_model.proofs.LogSetChanges.{IsMore, more_tracked, more_passing, more_around}
-use Rattle.failover_model.specs.Text.{Text}
-use Rattle.failover_model.specs.Shown.{Shown}
-use Rattle.failover_model.specs.Data.{bare, Mode, Calm, Rolls, Opens, Repairs, FailData, HasTaken, new_of, is_failing}
-use Rattle.failover_model.specs.Data.{state_of}
-use Rattle.failover_model.specs.Log.{Texts, BasesStand, IsKept}
-use Rattle.failover_model.specs.Steps.{rolling, texts_rolling, IsRoll, next_start}
-use Rattle.failover_model.proofs.Rolling.{rolling_is_held, rolling_is_standing, mode_new}
-use Rattle.failover_model.proofs.Rolling as rolls
-use Rattle.failover_model.proofs.Texts.{new_there, new_none, new_other, new_images}
-use Rattle.failover_model.proofs.Turning.{ordinary_is_roll, ordinary_stands}
+use Rattle.failover_bytes.specs.log_model.Data.{Start, start_entries}
+use Rattle.failover_bytes.specs.log_model.Ids.{has}
+use Rattle.failover_bytes.proofs.log_model.Segments.{no_keys}
+use Rattle.failover_bytes.specs.clean_model.Memory.{new_ids, LogSet}
+use Rattle.failover_bytes.proofs.clean_model.Lists.{among_at, image_here, image_there}
+use Rattle.failover_bytes.proofs.clean_model.LogSetChanges.{IsMore, more_tracked, more_passing, more_around}
+use Rattle.failover_bytes.specs.failover_model.Text.{Text}
+use Rattle.failover_bytes.specs.failover_model.Shown.{Shown}
+use Rattle.failover_bytes.specs.failover_model.Data.{bare, Mode, Calm, Rolls, Opens, Repairs, FailData, HasTaken, new_of, is_failing}
+use Rattle.failover_bytes.specs.failover_model.Data.{state_of}
+use Rattle.failover_bytes.specs.failover_model.Log.{Texts, BasesStand, IsKept}
+use Rattle.failover_bytes.specs.failover_model.Steps.{rolling, texts_rolling, IsRoll, next_start}
+use Rattle.failover_bytes.proofs.failover_model.Rolling.{rolling_is_held, rolling_is_standing, mode_new}
+use Rattle.failover_bytes.proofs.failover_model.Rolling as rolls
+use Rattle.failover_bytes.proofs.failover_model.Texts.{new_there, new_none, new_other, new_images}
+use Rattle.failover_bytes.proofs.failover_model.Turning.{ordinary_is_roll, ordinary_stands}
 use Rattle.failover_clean.specs.Covered.{map_of}
 use Rattle.failover_clean.specs.Intact.{IsCommitting, AreRepaired, AreUnrepaired, IsRollOf, IsIntact}
 use Rattle.failover_clean.specs.Laws.{RollKeeps}

@@ -9,13 +9,13 @@ use Rattle.entry.specs.declared.entry.Entry.TheVariants.{Object, Tombstone}
 use Rattle.entry.specs.Bag.{IsAmong}
 use Rattle.entry.specs.Meaning.{Versioned, Contents, object_at}
 use Rattle.entry.specs.Text.{is_data}
-use Rattle.log_model.specs.Data.{Start}
-use Rattle.clean_model.specs.Memory.{Place, Pass, LogSet, IsAt, SegmentHas}
-use Rattle.clean_model.specs.Tracked.{IsCopied, IsFound, IsTracked, IsPassing, IsAround}
-use Rattle.clean_model.proofs.LogSetChanges.{IsMore, more_tracked, more_passing, more_around}
-use Rattle.failover_model.specs.Shown.{Shown}
-use Rattle.failover_model.specs.Data.{FailData, new_of, state_of}
-use Rattle.failover_model.specs.Log.{Texts}
+use Rattle.failover_bytes.specs.log_model.Data.{Start}
+use Rattle.failover_bytes.specs.clean_model.Memory.{Place, Pass, LogSet, IsAt, SegmentHas}
+use Rattle.failover_bytes.specs.clean_model.Tracked.{IsCopied, IsFound, IsTracked, IsPassing, IsAround}
+use Rattle.failover_bytes.proofs.clean_model.LogSetChanges.{IsMore, more_tracked, more_passing, more_around}
+use Rattle.failover_bytes.specs.failover_model.Shown.{Shown}
+use Rattle.failover_bytes.specs.failover_model.Data.{FailData, new_of, state_of}
+use Rattle.failover_bytes.specs.failover_model.Log.{Texts}
 use Rattle.failover_bytes.specs.Text.{entries_for}
 use Rattle.failover_clean.specs.Covered.{map_of}
 use Rattle.failover_clean.specs.Intact.{IsCommitting, AreSealed, IsRollOf, AreGone, AreRepaired, IsIntact}

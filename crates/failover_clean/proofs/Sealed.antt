@@ -3,11 +3,11 @@ use Rattle.std.proofs.Common.{◌≡◌, ℕ, Bool, sym, ap, subst, ◌∙◌}
 use Rattle.std.specs.Prelude.{Option, IsSome, filter}
 use Rattle.entry.specs.Bag.{IsAmong}
 use Rattle.entry.specs.Text.{is_data}
-use Rattle.clean_model.specs.Memory.{Images, Index}
-use Rattle.failover_model.specs.Text.{Text, Replica}
-use Rattle.failover_model.specs.Shown.{Shown}
-use Rattle.failover_model.specs.Data.{FailData, HasTaken}
-use Rattle.failover_model.specs.Log.{Texts}
+use Rattle.failover_bytes.specs.clean_model.Memory.{Images, Index}
+use Rattle.failover_bytes.specs.failover_model.Text.{Text, Replica}
+use Rattle.failover_bytes.specs.failover_model.Shown.{Shown}
+use Rattle.failover_bytes.specs.failover_model.Data.{FailData, HasTaken}
+use Rattle.failover_bytes.specs.failover_model.Log.{Texts}
 use Rattle.failover_clean.specs.Intact.{AreSealed}
 use Rattle.failover_clean.specs.Memory.{FailMemory}
 

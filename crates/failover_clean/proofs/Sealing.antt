@@ -6,20 +6,20 @@ use Rattle.std.proofs.lemmas.Option.{same_Some}
 use Rattle.entry.specs.declared.entry.Entry.{Entry}
 use Rattle.entry.specs.Bag.{IsAmong}
 use Rattle.entry.proofs.BagLemmas.{among_left, among_last}
-use Rattle.log_model.specs.Data.{Start, ids_of}
-use Rattle.log_model.specs.Ids.{has}
-use Rattle.clean_model.specs.Memory.{LogSet}
-use Rattle.clean_model.proofs.LogSetChanges.{told_in, texts_changed}
-use Rattle.failover_model.specs.Text.{Text, Replica}
-use Rattle.failover_model.specs.Shown.{Shown, Seal, Op, On, taken}
-use Rattle.failover_model.specs.Data.{FailData}
-use Rattle.failover_model.specs.Log.{Texts, AreOfTablets, IsLogHeld, IsStanding}
-use Rattle.failover_model.specs.Steps.{with_taken, IsFree, Seals, survivor_text, with_new}
-use Rattle.failover_model.proofs.Lists.{taken_either, is_some}
-use Rattle.failover_model.proofs.Pictures.{is_taken, changed, either, sealed}
-use Rattle.failover_model.proofs.Spares.{seals_held, seals_standing}
-use Rattle.failover_model.proofs.States.{settled_if}
-use Rattle.failover_model.proofs.Texts.{new_there, new_none, new_other, new_images}
+use Rattle.failover_bytes.specs.log_model.Data.{Start, ids_of}
+use Rattle.failover_bytes.specs.log_model.Ids.{has}
+use Rattle.failover_bytes.specs.clean_model.Memory.{LogSet}
+use Rattle.failover_bytes.proofs.clean_model.LogSetChanges.{told_in, texts_changed}
+use Rattle.failover_bytes.specs.failover_model.Text.{Text, Replica}
+use Rattle.failover_bytes.specs.failover_model.Shown.{Shown, Seal, Op, On, taken}
+use Rattle.failover_bytes.specs.failover_model.Data.{FailData}
+use Rattle.failover_bytes.specs.failover_model.Log.{Texts, AreOfTablets, IsLogHeld, IsStanding}
+use Rattle.failover_bytes.specs.failover_model.Steps.{with_taken, IsFree, Seals, survivor_text, with_new}
+use Rattle.failover_bytes.proofs.failover_model.Lists.{taken_either, is_some}
+use Rattle.failover_bytes.proofs.failover_model.Pictures.{is_taken, changed, either, sealed}
+use Rattle.failover_bytes.proofs.failover_model.Spares.{seals_held, seals_standing}
+use Rattle.failover_bytes.proofs.failover_model.States.{settled_if}
+use Rattle.failover_bytes.proofs.failover_model.Texts.{new_there, new_none, new_other, new_images}
 use Rattle.failover_clean.specs.Covered.{map_of}
 use Rattle.failover_clean.specs.Intact.{IsSealed, AreRepaired, IsIntact}
 use Rattle.failover_clean.specs.Laws.{SealKeeps}

@@ -3,12 +3,12 @@ use Rattle.std.proofs.Common.{◌≡◌, ℕ, inl, inr, List, [], ◌∷◌, ap,
 use Rattle.std.specs.Prelude.{map, IsSome}
 use Rattle.entry.specs.Bag.{IsAmong}
 use Rattle.entry.proofs.BagLemmas.{among_either, among_images}
-use Rattle.clean_model.proofs.KeptEntries.{has_is}
-use Rattle.failover_model.specs.Shown.{Shown}
-use Rattle.failover_model.specs.Data.{FailData, IsHome, homes}
-use Rattle.failover_model.specs.Log.{Texts, IsLogHeld}
-use Rattle.failover_model.proofs.Holding.{homes_hold_copies}
-use Rattle.failover_model.proofs.Lists.{is_some, without_has}
+use Rattle.failover_bytes.proofs.clean_model.KeptEntries.{has_is}
+use Rattle.failover_bytes.specs.failover_model.Shown.{Shown}
+use Rattle.failover_bytes.specs.failover_model.Data.{FailData, IsHome, homes}
+use Rattle.failover_bytes.specs.failover_model.Log.{Texts, IsLogHeld}
+use Rattle.failover_bytes.proofs.failover_model.Holding.{homes_hold_copies}
+use Rattle.failover_bytes.proofs.failover_model.Lists.{is_some, without_has}
 use Rattle.failover_clean.specs.Memory.{Spot}
 use Rattle.failover_clean.specs.Steps.{spots_of}
 

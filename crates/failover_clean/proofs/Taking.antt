@@ -3,22 +3,22 @@ use Rattle.std.proofs.Common.{◌≡◌, ℕ, ◌⊎◌, inl, inr, true, List, [
 use Rattle.std.specs.Prelude.{Option, IsSome}
 use Rattle.std.proofs.lemmas.Option.{same_Some}
 use Rattle.entry.specs.Bag.{IsAmong}
-use Rattle.log_model.specs.Data.{Start}
-use Rattle.log_model.specs.Ids.{has}
-use Rattle.clean_model.specs.Intact.{IsPassOf}
-use Rattle.clean_model.specs.Memory.{new_ids, LogSet}
-use Rattle.clean_model.specs.Tracked.{IsTracked, IsPassing, IsAround}
-use Rattle.failover_model.specs.Text.{Replica}
-use Rattle.failover_model.specs.Shown.{Holds, Shown, Act, Op, On, effect, with_replica, taken}
-use Rattle.failover_model.specs.Data.{Mode, Calm, Closes, Repairs, FailData, new_of, is_failing, state_of}
-use Rattle.failover_model.specs.Log.{IsLogHeld, IsStanding}
-use Rattle.failover_model.specs.Steps.{with_taken, with_count, ids_now}
-use Rattle.failover_model.proofs.Closing.{closes_held, closes_standing}
-use Rattle.failover_model.proofs.HeadOps.{extends_held, extends_standing}
-use Rattle.failover_model.proofs.Lists.{taken_either}
-use Rattle.failover_model.proofs.Opening.{opens_held, opens_standing, raises_held, raises_standing}
-use Rattle.failover_model.proofs.Pictures.{is_taken, unchanged, still_held}
-use Rattle.failover_model.proofs.Replacing.{replaces_held, replaces_standing}
+use Rattle.failover_bytes.specs.log_model.Data.{Start}
+use Rattle.failover_bytes.specs.log_model.Ids.{has}
+use Rattle.failover_bytes.specs.clean_model.Intact.{IsPassOf}
+use Rattle.failover_bytes.specs.clean_model.Memory.{new_ids, LogSet}
+use Rattle.failover_bytes.specs.clean_model.Tracked.{IsTracked, IsPassing, IsAround}
+use Rattle.failover_bytes.specs.failover_model.Text.{Replica}
+use Rattle.failover_bytes.specs.failover_model.Shown.{Holds, Shown, Act, Op, On, effect, with_replica, taken}
+use Rattle.failover_bytes.specs.failover_model.Data.{Mode, Calm, Closes, Repairs, FailData, new_of, is_failing, state_of}
+use Rattle.failover_bytes.specs.failover_model.Log.{IsLogHeld, IsStanding}
+use Rattle.failover_bytes.specs.failover_model.Steps.{with_taken, with_count, ids_now}
+use Rattle.failover_bytes.proofs.failover_model.Closing.{closes_held, closes_standing}
+use Rattle.failover_bytes.proofs.failover_model.HeadOps.{extends_held, extends_standing}
+use Rattle.failover_bytes.proofs.failover_model.Lists.{taken_either}
+use Rattle.failover_bytes.proofs.failover_model.Opening.{opens_held, opens_standing, raises_held, raises_standing}
+use Rattle.failover_bytes.proofs.failover_model.Pictures.{is_taken, unchanged, still_held}
+use Rattle.failover_bytes.proofs.failover_model.Replacing.{replaces_held, replaces_standing}
 use Rattle.failover_bytes.specs.Text.{entries_for}
 use Rattle.failover_clean.specs.Covered.{map_of}
 use Rattle.failover_clean.specs.Intact.{IsIntact}

@@ -8,8 +8,8 @@ use Rattle.entry.specs.declared.entry.Entry.TheVariants as entry
 use Rattle.entry.specs.Bag.{IsAmong}
 use Rattle.entry.specs.Meaning.{IsOfKey}
 use Rattle.entry.specs.Text.{text_of, is_data, opening_of}
-use Rattle.failover_model.specs.Text.{Text, length_of}
-use Rattle.failover_model.specs.Steps.{survivor_text}
+use Rattle.failover_bytes.specs.failover_model.Text.{Text, length_of}
+use Rattle.failover_bytes.specs.failover_model.Steps.{survivor_text}
 use Rattle.failover_bytes.proofs.Texts.{length_is}
 use Rattle.failover_clean.proofs.Openings.{IsImage, image_opening}
 

@@ -6,11 +6,11 @@ use Rattle.entry.specs.declared.entry.Entry.{Entry}
 use Rattle.entry.specs.declared.entry.Entry.TheVariants as entry
 use Rattle.entry.specs.Bag.{IsAmong}
 use Rattle.entry.specs.Meaning.{Contents, IsMeaning, IsClean, among}
-use Rattle.clean_model.specs.Covered.{IsDead}
-use Rattle.clean_model.specs.Memory.{ImagesHave}
-use Rattle.failover_model.specs.Text.{Replica}
-use Rattle.failover_model.specs.Shown.{Shown}
-use Rattle.failover_model.specs.Data.{FailData, state_of}
+use Rattle.failover_bytes.specs.clean_model.Covered.{IsDead}
+use Rattle.failover_bytes.specs.clean_model.Memory.{ImagesHave}
+use Rattle.failover_bytes.specs.failover_model.Text.{Replica}
+use Rattle.failover_bytes.specs.failover_model.Shown.{Shown}
+use Rattle.failover_bytes.specs.failover_model.Data.{FailData, state_of}
 use Rattle.failover_clean.specs.Memory.{FailMemory, log_ids}
 
 -- the map after the history

@@ -10,17 +10,17 @@ use Rattle.entry.specs.Text.{data_in}
 use Rattle.replica.specs.declared.op.TakeFault.TheVariants as take_fault
 use Rattle.replica.specs.Picture.{Replica, Shown, FleetState, shown_of}
 use Rattle.versioned_map.specs.declared.command.Record.{Record}
-use Rattle.log_model.specs.Data.{Start, LogUnit}
-use Rattle.clean_model.specs.Memory.{Place}
-use Rattle.failover_model.specs.Data.{front, front_entries, bare, Calm, Repairs, FailConfig, Mode, FailData, HasTaken}
-use Rattle.failover_model.specs.Data.{IsHome, homes}
-use Rattle.failover_model.specs.Data.{is_failing, durable_of}
-use Rattle.failover_model.specs.Durable.{TakenHead, AreTaken, IsDurable}
-use Rattle.failover_model.specs.Log.{IsOther}
-use Rattle.failover_model.specs.Runs.{IsOn, IsThere}
-use Rattle.failover_model.specs.Shown.{Shown as ModelShown, Op}
-use Rattle.failover_model.specs.Steps.{fresh, restored, MayBegin, applied, MayApply, adopted, rolling, next_start}
-use Rattle.failover_model.specs.Steps.{MayTurn, ended, EndsRoll, failing, MayFail, mended}
+use Rattle.failover_bytes.specs.log_model.Data.{Start, LogUnit}
+use Rattle.failover_bytes.specs.clean_model.Memory.{Place}
+use Rattle.failover_bytes.specs.failover_model.Data.{front, front_entries, bare, Calm, Repairs, FailConfig, Mode, FailData, HasTaken}
+use Rattle.failover_bytes.specs.failover_model.Data.{IsHome, homes}
+use Rattle.failover_bytes.specs.failover_model.Data.{is_failing, durable_of}
+use Rattle.failover_bytes.specs.failover_model.Durable.{TakenHead, AreTaken, IsDurable}
+use Rattle.failover_bytes.specs.failover_model.Log.{IsOther}
+use Rattle.failover_bytes.specs.failover_model.Runs.{IsOn, IsThere}
+use Rattle.failover_bytes.specs.failover_model.Shown.{Shown as ModelShown, Op}
+use Rattle.failover_bytes.specs.failover_model.Steps.{fresh, restored, MayBegin, applied, MayApply, adopted, rolling, next_start}
+use Rattle.failover_bytes.specs.failover_model.Steps.{MayTurn, ended, EndsRoll, failing, MayFail, mended}
 use Rattle.failover_bytes.specs.Choice.{Counts, IsNewestCounted, newest_opened}
 use Rattle.failover_bytes.specs.Held.{HoldsUnit}
 use Rattle.failover_bytes.specs.Ops.{IsOnFleet, TakesOp, RefusesOp}

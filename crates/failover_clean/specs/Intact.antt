@@ -4,16 +4,16 @@ use Rattle.entry.specs.declared.key.Key.{Key}
 use Rattle.entry.specs.declared.entry.Entry.{Entry}
 use Rattle.entry.specs.Bag.{IsAmong}
 use Rattle.entry.specs.Meaning.{IsOfKey}
-use Rattle.log_model.specs.Data.{Start}
-use Rattle.log_model.specs.Ids.{has}
-use Rattle.clean_model.specs.Intact.{IsPassOf, IsCommit}
-use Rattle.clean_model.specs.Tracked.{IsTracked, IsPassing, IsAround}
-use Rattle.failover_model.specs.Text.{Replica}
-use Rattle.failover_model.specs.Shown.{Shown}
-use Rattle.failover_model.specs.Data.{Calm, Repairs, FailData, HasTaken, homes, new_of, is_failing, state_of}
-use Rattle.failover_model.specs.Durable.{TakenHead}
-use Rattle.failover_model.specs.Log.{Texts, IsKept}
-use Rattle.failover_model.specs.Steps.{ids_now, IsKnown}
+use Rattle.failover_bytes.specs.log_model.Data.{Start}
+use Rattle.failover_bytes.specs.log_model.Ids.{has}
+use Rattle.failover_bytes.specs.clean_model.Intact.{IsPassOf, IsCommit}
+use Rattle.failover_bytes.specs.clean_model.Tracked.{IsTracked, IsPassing, IsAround}
+use Rattle.failover_bytes.specs.failover_model.Text.{Replica}
+use Rattle.failover_bytes.specs.failover_model.Shown.{Shown}
+use Rattle.failover_bytes.specs.failover_model.Data.{Calm, Repairs, FailData, HasTaken, homes, new_of, is_failing, state_of}
+use Rattle.failover_bytes.specs.failover_model.Durable.{TakenHead}
+use Rattle.failover_bytes.specs.failover_model.Log.{Texts, IsKept}
+use Rattle.failover_bytes.specs.failover_model.Steps.{ids_now, IsKnown}
 use Rattle.failover_clean.specs.Covered.{map_of}
 use Rattle.failover_clean.specs.Memory.{Spot, FailMemory, log_ids, log_set_of, data_of, AreImages}
 use Rattle.failover_clean.specs.Past.{ArePast}

@@ -1,11 +1,11 @@
 -- What a master knows stays so through every step that takes no op.
 use Rattle.std.specs.Prelude.{◌≡◌, ℕ, List, true, false}
 use Rattle.versioned_map.specs.declared.command.Record.{Record}
-use Rattle.log_model.specs.Data.{Start}
-use Rattle.failover_model.specs.Shown.{Shown}
-use Rattle.failover_model.specs.Data.{FailConfig, Mode, FailData}
-use Rattle.failover_model.specs.Steps.{fresh, MayBegin, applied, MayApply, rolling, next_start, MayTurn, ended}
-use Rattle.failover_model.specs.Steps.{EndsRoll, failing, mended}
+use Rattle.failover_bytes.specs.log_model.Data.{Start}
+use Rattle.failover_bytes.specs.failover_model.Shown.{Shown}
+use Rattle.failover_bytes.specs.failover_model.Data.{FailConfig, Mode, FailData}
+use Rattle.failover_bytes.specs.failover_model.Steps.{fresh, MayBegin, applied, MayApply, rolling, next_start, MayTurn, ended}
+use Rattle.failover_bytes.specs.failover_model.Steps.{EndsRoll, failing, mended}
 use Rattle.failover_clean.specs.Intact.{IsIntact, Knows}
 use Rattle.failover_clean.specs.Memory.{FailMemory}
 use Rattle.failover_clean.specs.Steps.{first_memory, recorded, ids_taken, pass_begun, MayBeginClean, rolled, stopped}

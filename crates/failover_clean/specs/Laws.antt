@@ -3,16 +3,16 @@ use Rattle.std.specs.Prelude.{◌≡◌, ℕ, ◌+◌, ◌<◌, List, Some, true
 use Rattle.std.specs.List.{range_with_len}
 use Rattle.entry.specs.declared.entry.Entry.{Entry}
 use Rattle.versioned_map.specs.declared.command.Record.{Record}
-use Rattle.log_model.specs.Data.{Start}
-use Rattle.clean_model.specs.Intact.{IsCommit}
-use Rattle.clean_model.specs.Memory.{Place}
-use Rattle.clean_model.specs.Steps.{survivors_begun}
-use Rattle.failover_model.specs.Shown.{Shown, Op, taken}
-use Rattle.failover_model.specs.Data.{FailConfig, Mode, Repairs, FailData}
-use Rattle.failover_model.specs.Sound.{IsSound}
-use Rattle.failover_model.specs.Steps.{fresh, MayBegin, applied, MayApply, rolling, next_start, MayTurn, ended}
-use Rattle.failover_model.specs.Steps.{EndsRoll, failing, MayFail, mended, IsKnown, Extends, OpensNew, Replaces, Raises}
-use Rattle.failover_model.specs.Steps.{ClosesOld, with_taken, MayRepair, Reseals}
+use Rattle.failover_bytes.specs.log_model.Data.{Start}
+use Rattle.failover_bytes.specs.clean_model.Intact.{IsCommit}
+use Rattle.failover_bytes.specs.clean_model.Memory.{Place}
+use Rattle.failover_bytes.specs.clean_model.Steps.{survivors_begun}
+use Rattle.failover_bytes.specs.failover_model.Shown.{Shown, Op, taken}
+use Rattle.failover_bytes.specs.failover_model.Data.{FailConfig, Mode, Repairs, FailData}
+use Rattle.failover_bytes.specs.failover_model.Sound.{IsSound}
+use Rattle.failover_bytes.specs.failover_model.Steps.{fresh, MayBegin, applied, MayApply, rolling, next_start, MayTurn, ended}
+use Rattle.failover_bytes.specs.failover_model.Steps.{EndsRoll, failing, MayFail, mended, IsKnown, Extends, OpensNew, Replaces, Raises}
+use Rattle.failover_bytes.specs.failover_model.Steps.{ClosesOld, with_taken, MayRepair, Reseals}
 use Rattle.failover_clean.specs.Covered.{IsCovered}
 use Rattle.failover_clean.specs.Intact.{IsIntact}
 use Rattle.failover_clean.specs.Memory.{FailMemory, data_of}

@@ -9,3 +9,6 @@ pub mod Ops
 pub mod Knowing
 pub mod Loading
 pub mod Fleet
+pub use Rattle.failover_bytes.specs.clean_model
+pub use Rattle.failover_bytes.specs.failover_model
+pub use Rattle.failover_bytes.specs as failover_bytes

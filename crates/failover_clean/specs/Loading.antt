@@ -7,18 +7,18 @@ use Rattle.entry.specs.declared.entry.Entry.TheVariants as entry
 use Rattle.entry.specs.Bag.{IsAmong}
 use Rattle.entry.specs.Tablet.{have_key}
 use Rattle.versioned_map.specs.Represents.{Represents}
-use Rattle.log_model.specs.Adopt.{with_loaded}
-use Rattle.log_model.specs.Data.{Start, LogUnit}
-use Rattle.clean_model.specs.Loading.{HasOnly}
-use Rattle.clean_model.specs.Memory.{no_pass, grown}
-use Rattle.clean_model.specs.Steps.{index_after}
-use Rattle.clean_model.specs.Tracked.{IsTracked, IsAround}
-use Rattle.failover_model.specs.Shown.{Shown, Op, taken}
-use Rattle.failover_model.specs.Data.{front_entries, Calm, Repairs, Mode, FailConfig, FailData, HasTaken, new_of}
-use Rattle.failover_model.specs.Log.{Texts, IsBase, BasesStand, IsLogHeld}
-use Rattle.failover_model.specs.Runs.{IsThere}
-use Rattle.failover_model.specs.Steps.{restored, MayBegin, ids_now, adopted, rolling, next_start, MayTurn, ended}
-use Rattle.failover_model.specs.Steps.{EndsRoll, failing, MayFail, mended}
+use Rattle.failover_bytes.specs.log_model.Adopt.{with_loaded}
+use Rattle.failover_bytes.specs.log_model.Data.{Start, LogUnit}
+use Rattle.failover_bytes.specs.clean_model.Loading.{HasOnly}
+use Rattle.failover_bytes.specs.clean_model.Memory.{no_pass, grown}
+use Rattle.failover_bytes.specs.clean_model.Steps.{index_after}
+use Rattle.failover_bytes.specs.clean_model.Tracked.{IsTracked, IsAround}
+use Rattle.failover_bytes.specs.failover_model.Shown.{Shown, Op, taken}
+use Rattle.failover_bytes.specs.failover_model.Data.{front_entries, Calm, Repairs, Mode, FailConfig, FailData, HasTaken, new_of}
+use Rattle.failover_bytes.specs.failover_model.Log.{Texts, IsBase, BasesStand, IsLogHeld}
+use Rattle.failover_bytes.specs.failover_model.Runs.{IsThere}
+use Rattle.failover_bytes.specs.failover_model.Steps.{restored, MayBegin, ids_now, adopted, rolling, next_start, MayTurn, ended}
+use Rattle.failover_bytes.specs.failover_model.Steps.{EndsRoll, failing, MayFail, mended}
 use Rattle.failover_clean.specs.Intact.{AreRepaired, AreUnrepaired, IsIntact, Knows}
 use Rattle.failover_clean.specs.Memory.{FailMemory, log_set_of, AreImages}
 use Rattle.failover_clean.specs.Ops.{IsHeadOp, RepairsImage}

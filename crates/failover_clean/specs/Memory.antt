@@ -3,12 +3,12 @@ use Rattle.std.specs.Prelude.{ℕ, ◌≡◌, ◌++◌, List, Bool, filter}
 use Rattle.entry.specs.declared.entry.Entry.{Entry}
 use Rattle.entry.specs.Bag.{IsAmong}
 use Rattle.entry.specs.Text.{is_data, opening_of}
-use Rattle.log_model.specs.Log.{Texts as EntriesOf}
-use Rattle.clean_model.specs.Memory.{Place, Index, Images, Pass, new_ids, LogSet}
-use Rattle.failover_model.specs.Text.{Text}
-use Rattle.failover_model.specs.Data.{FailData, new_of}
-use Rattle.failover_model.specs.Log.{Texts}
-use Rattle.failover_model.specs.Steps.{ids_now}
+use Rattle.failover_bytes.specs.log_model.Log.{Texts as EntriesOf}
+use Rattle.failover_bytes.specs.clean_model.Memory.{Place, Index, Images, Pass, new_ids, LogSet}
+use Rattle.failover_bytes.specs.failover_model.Text.{Text}
+use Rattle.failover_bytes.specs.failover_model.Data.{FailData, new_of}
+use Rattle.failover_bytes.specs.failover_model.Log.{Texts}
+use Rattle.failover_bytes.specs.failover_model.Steps.{ids_now}
 use Rattle.failover_bytes.specs.Text.{entries_for}
 
 -- a replica that may be freed

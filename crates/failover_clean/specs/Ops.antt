@@ -1,9 +1,9 @@
 -- The ops of a master: of its head and the next one, of a failover, seals, repairs and frees.
 use Rattle.std.specs.Prelude.{◌≡◌, ◌⊎◌, ℕ, Some}
-use Rattle.failover_model.specs.Shown.{Shown, Op, taken}
-use Rattle.failover_model.specs.Data.{FailData}
-use Rattle.failover_model.specs.Runs.{IsThere}
-use Rattle.failover_model.specs.Steps.{with_taken, MayRepair, Extends, OpensNew, Replaces, Raises, ClosesOld}
+use Rattle.failover_bytes.specs.failover_model.Shown.{Shown, Op, taken}
+use Rattle.failover_bytes.specs.failover_model.Data.{FailData}
+use Rattle.failover_bytes.specs.failover_model.Runs.{IsThere}
+use Rattle.failover_bytes.specs.failover_model.Steps.{with_taken, MayRepair, Extends, OpensNew, Replaces, Raises, ClosesOld}
 use Rattle.failover_bytes.specs.Text.{IsWholeText}
 use Rattle.failover_clean.specs.Intact.{IsIntact, Knows}
 use Rattle.failover_clean.specs.Memory.{FailMemory, text_in}

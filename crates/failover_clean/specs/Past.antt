@@ -3,9 +3,9 @@ use Rattle.std.specs.Prelude.{◌≡◌, ℕ, ◌<◌, ◌==◌, List, length, m
 use Rattle.std.specs.List.Sorted.{IsStrictlySortedBy}
 use Rattle.std.specs.Ordering.{nat_cmp}
 use Rattle.entry.specs.Bag.{IsAmong}
-use Rattle.failover_model.specs.Data.{FailData, front}
-use Rattle.failover_model.specs.Durable.{TakenHead, heads_of, IsPast}
-use Rattle.failover_model.specs.Log.{Texts}
+use Rattle.failover_bytes.specs.failover_model.Data.{FailData, front}
+use Rattle.failover_bytes.specs.failover_model.Durable.{TakenHead, heads_of, IsPast}
+use Rattle.failover_bytes.specs.failover_model.Log.{Texts}
 
 -- the ids of heads, in order
 abbrev pub past_ids : List TakenHead → List ℕ

@@ -6,9 +6,9 @@ use Rattle.entry.specs.declared.entry.Entry.{Entry}
 use Rattle.entry.specs.declared.entry.Entry.TheVariants as entry
 use Rattle.entry.specs.Bag.{IsAmong}
 use Rattle.entry.specs.Meaning.{Versioned, object_at}
-use Rattle.clean_model.specs.Memory.{Place, StandsAt}
-use Rattle.failover_model.specs.Data.{FailData}
-use Rattle.failover_model.specs.Shown.{Shown}
+use Rattle.failover_bytes.specs.clean_model.Memory.{Place, StandsAt}
+use Rattle.failover_bytes.specs.failover_model.Data.{FailData}
+use Rattle.failover_bytes.specs.failover_model.Shown.{Shown}
 use Rattle.failover_clean.specs.Covered.{map_of}
 use Rattle.failover_clean.specs.Intact.{IsIntact, Knows}
 use Rattle.failover_clean.specs.Memory.{Spot, FailMemory, log_ids}

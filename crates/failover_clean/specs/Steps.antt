@@ -8,16 +8,16 @@ use Rattle.entry.specs.Bag.{IsAmong}
 use Rattle.entry.specs.Text.{text_of}
 use Rattle.versioned_map.specs.declared.command.Record.{Record}
 use Rattle.versioned_map.specs.Command.{command_key}
-use Rattle.log_model.specs.Data.{Start, digest_for, lens_next, start_entries}
-use Rattle.log_model.specs.Ids.{has, all_inserted, without}
-use Rattle.clean_model.specs.Compaction.{kept_from, moved_index, places}
-use Rattle.clean_model.specs.Memory.{Place, Index, no_pass, with_image, grown, StandsAt}
-use Rattle.clean_model.specs.Steps.{with_place, next_place, is_copied, images_with, index_with}
-use Rattle.clean_model.specs.Intact.{survivor_entries, IsCommit}
-use Rattle.failover_model.specs.Shown.{Seal, Free, Op, On}
-use Rattle.failover_model.specs.Data.{is_failing, Mode, Calm, Rolls, Mends, Opens, FailConfig, FailData, homes}
-use Rattle.failover_model.specs.Data.{state_of}
-use Rattle.failover_model.specs.Steps.{restored_start, id_taken, unit_now, ids_now, len_now}
+use Rattle.failover_bytes.specs.log_model.Data.{Start, digest_for, lens_next, start_entries}
+use Rattle.failover_bytes.specs.log_model.Ids.{has, all_inserted, without}
+use Rattle.failover_bytes.specs.clean_model.Compaction.{kept_from, moved_index, places}
+use Rattle.failover_bytes.specs.clean_model.Memory.{Place, Index, no_pass, with_image, grown, StandsAt}
+use Rattle.failover_bytes.specs.clean_model.Steps.{with_place, next_place, is_copied, images_with, index_with}
+use Rattle.failover_bytes.specs.clean_model.Intact.{survivor_entries, IsCommit}
+use Rattle.failover_bytes.specs.failover_model.Shown.{Seal, Free, Op, On}
+use Rattle.failover_bytes.specs.failover_model.Data.{is_failing, Mode, Calm, Rolls, Mends, Opens, FailConfig, FailData, homes}
+use Rattle.failover_bytes.specs.failover_model.Data.{state_of}
+use Rattle.failover_bytes.specs.failover_model.Steps.{restored_start, id_taken, unit_now, ids_now, len_now}
 use Rattle.failover_clean.specs.Intact.{IsReady}
 use Rattle.failover_clean.specs.Memory.{Spot, FailMemory, log_ids, text_in}
 

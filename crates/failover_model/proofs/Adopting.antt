@@ -6,7 +6,7 @@ use Rattle.entry.specs.declared.entry.Entry.{Entry}
 use Rattle.entry.specs.Bag.{IsAmong}
 use Rattle.versioned_map.specs.Represents.{Represents}
 use Rattle.versioned_map.specs.Versioned.{State}
-use Rattle.log_model.specs.Data.{Start, entries_of}
+use Rattle.clean_model.specs.log_model.Data.{Start, entries_of}
 use Rattle.failover_model.specs.Text.{Replica}
 use Rattle.failover_model.specs.Shown.{Shown}
 use Rattle.failover_model.specs.Data.{front, front_entries, FailData, new_of, is_failing, is_settled, IsNew}

@@ -1,9 +1,9 @@
 -- What changes of a master when an op is taken on its heads: counts, who took what, what is closed.
 use Rattle.std.proofs.Common.{◌≡◌, ℕ, ◌≤◌, ◌⊎◌, inl, inr, true, false, List, length, Some, subst, arith}
 use Rattle.std.specs.Prelude.{IsSome}
-use Rattle.log_model.proofs.Counts.{before_rise}
-use Rattle.log_model.specs.Ids.{has}
-use Rattle.log_model.specs.Data.{Start}
+use Rattle.clean_model.proofs.log_model.Counts.{before_rise}
+use Rattle.clean_model.specs.log_model.Ids.{has}
+use Rattle.clean_model.specs.log_model.Data.{Start}
 use Rattle.failover_model.specs.Text.{Replica}
 use Rattle.failover_model.specs.Shown.{Shown}
 use Rattle.failover_model.specs.Data.{bare_replica, FailData, IsNew, new_of, is_failing, is_settled, everywhere}

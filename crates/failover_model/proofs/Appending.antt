@@ -8,10 +8,10 @@ use Rattle.entry.specs.declared.entry.Entry.{Entry}
 use Rattle.entry.specs.Bag.{IsAmong}
 use Rattle.entry.proofs.BagLemmas.{among_push}
 use Rattle.versioned_map.specs.declared.command.Record.{Record}
-use Rattle.log_model.specs.Data.{Start, LogUnit, entries_of}
-use Rattle.log_model.specs.Steps.{with_unit}
-use Rattle.log_model.proofs.Fronts.{unit_front, unit_entries, unit_longer}
-use Rattle.log_model.proofs.Lists.{below_at}
+use Rattle.clean_model.specs.log_model.Data.{Start, LogUnit, entries_of}
+use Rattle.clean_model.specs.log_model.Steps.{with_unit}
+use Rattle.clean_model.proofs.log_model.Fronts.{unit_front, unit_entries, unit_longer}
+use Rattle.clean_model.proofs.log_model.Lists.{below_at}
 use Rattle.failover_model.specs.Text.{Text, Replica}
 use Rattle.failover_model.specs.Shown.{Shown}
 use Rattle.failover_model.specs.Data.{front, front_entries, FailData, HasTaken, new_of, is_failing, is_settled, IsNew}

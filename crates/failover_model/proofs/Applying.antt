@@ -9,12 +9,12 @@ use Rattle.versioned_map.specs.Represents.{Represents}
 use Rattle.versioned_map.specs.Versioned.{State, after_command}
 use Rattle.versioned_map.proofs.UnitKeys.{unit_key}
 use Rattle.versioned_map.proofs.Represented.{unit_added}
-use Rattle.log_model.specs.Data.{Start, LogUnit, entries_of, records_before}
-use Rattle.log_model.specs.Log.{Rise}
-use Rattle.log_model.specs.Steps.{with_unit}
-use Rattle.log_model.proofs.Counts.{before_le, before_rise, fewest_rise}
-use Rattle.log_model.proofs.Fronts.{unit_front, unit_entries, unit_rise, unit_counts, unit_longer, state_front}
-use Rattle.log_model.proofs.Fronts.{state_next}
+use Rattle.clean_model.specs.log_model.Data.{Start, LogUnit, entries_of, records_before}
+use Rattle.clean_model.specs.log_model.Log.{Rise}
+use Rattle.clean_model.specs.log_model.Steps.{with_unit}
+use Rattle.clean_model.proofs.log_model.Counts.{before_le, before_rise, fewest_rise}
+use Rattle.clean_model.proofs.log_model.Fronts.{unit_front, unit_entries, unit_rise, unit_counts, unit_longer, state_front}
+use Rattle.clean_model.proofs.log_model.Fronts.{state_next}
 use Rattle.failover_model.specs.Shown.{Shown}
 use Rattle.failover_model.specs.Data.{FailData, IsNew, is_failing, state_after, state_of, everywhere, taken_records}
 use Rattle.failover_model.specs.Log.{Texts, IsBase, IsStart, IsLogged, IsMirrored, IsStanding}

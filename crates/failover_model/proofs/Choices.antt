@@ -12,10 +12,10 @@ use Rattle.entry.proofs.BagLemmas.{among_left, among_either}
 use Rattle.entry.specs.Text.{Opening, listed_ids}
 use Rattle.versioned_map.specs.Represents.{Represents}
 use Rattle.versioned_map.specs.Versioned.{State}
-use Rattle.log_model.proofs.Counts.{before_le, before_rise}
-use Rattle.log_model.proofs.Lists.{same_front, below_at}
-use Rattle.log_model.specs.Data.{Start}
-use Rattle.log_model.proofs.Lengths.{ids_listed}
+use Rattle.clean_model.proofs.log_model.Counts.{before_le, before_rise}
+use Rattle.clean_model.proofs.log_model.Lists.{same_front, below_at}
+use Rattle.clean_model.specs.log_model.Data.{Start}
+use Rattle.clean_model.proofs.log_model.Lengths.{ids_listed}
 use Rattle.failover_model.specs.Text.{Text, Replica, IsUsable}
 use Rattle.failover_model.specs.Shown.{Shown, survivors}
 use Rattle.failover_model.specs.Choice.{Holding, IsHeld, Choice, bag_of}

@@ -1,7 +1,7 @@
 -- The old head is closed on one of its homes.
 use Rattle.std.proofs.Common.{◌≡◌, ℕ, ◌<◌, inl, inr, false, ◌∷◌, length, Some, refl, sym, ap, subst, ◌∙◌, arith}
 use Rattle.std.proofs.lemmas.Option.{same_Some}
-use Rattle.log_model.specs.Data.{Start}
+use Rattle.clean_model.specs.log_model.Data.{Start}
 use Rattle.failover_model.specs.Text.{Text, Replica}
 use Rattle.failover_model.specs.Shown.{Shown, Op, taken}
 use Rattle.failover_model.specs.Data.{front, bare_replica, FailData, new_of, IsNew}

@@ -6,10 +6,10 @@ use Rattle.std.proofs.lemmas.Bool.{cases_lt}
 use Rattle.std.proofs.lemmas.Bool.Decides.{nat_tests}
 use Rattle.std.proofs.lemmas.Option.{slice_get_within}
 use Rattle.entry.proofs.BagLemmas.{among_last, among_push}
-use Rattle.log_model.specs.Data.{LogUnit, fewest}
-use Rattle.log_model.specs.Ids.{has, without}
-use Rattle.log_model.specs.Log.{Rise}
-use Rattle.log_model.proofs.Counts.{before_le, before_rise, before_at, before_past}
+use Rattle.clean_model.specs.log_model.Data.{LogUnit, fewest}
+use Rattle.clean_model.specs.log_model.Ids.{has, without}
+use Rattle.clean_model.specs.log_model.Log.{Rise}
+use Rattle.clean_model.proofs.log_model.Counts.{before_le, before_rise, before_at, before_past}
 use Rattle.failover_model.specs.Shown.{Shown}
 use Rattle.failover_model.specs.Data.{FailData, homes, is_failing, everywhere, taken_records, durable_of}
 use Rattle.failover_model.specs.Durable.{TakenHead, head_now, takers, AreTaken, IsDurable, IsPast, KeptIsDurable}

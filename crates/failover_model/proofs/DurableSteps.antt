@@ -1,6 +1,6 @@
 -- No event lowers the durable count.
 use Rattle.std.proofs.Common.{◌≡◌, ℕ, ◌≤◌, inl, inr, true, false, ◌∷◌, length, Some, refl, sym, ap, subst, ◌∙◌, arith}
-use Rattle.log_model.proofs.Counts.{before_le, before_rise}
+use Rattle.clean_model.proofs.log_model.Counts.{before_le, before_rise}
 use Rattle.failover_model.specs.Shown.{Shown, Op, taken}
 use Rattle.failover_model.specs.Data.{Closes, FailData, new_of, is_failing, before, everywhere, taken_records}
 use Rattle.failover_model.specs.Data.{durable_of}

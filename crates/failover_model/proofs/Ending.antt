@@ -9,9 +9,9 @@ use Rattle.entry.specs.declared.entry.Entry.{Entry}
 use Rattle.entry.specs.Bag.{IsAmong}
 use Rattle.versioned_map.specs.Represents.{Represents}
 use Rattle.versioned_map.specs.Versioned.{State}
-use Rattle.log_model.specs.Data.{Start, entries_of}
-use Rattle.log_model.specs.Ids.{has}
-use Rattle.log_model.proofs.Counts.{before_le}
+use Rattle.clean_model.specs.log_model.Data.{Start, entries_of}
+use Rattle.clean_model.specs.log_model.Ids.{has}
+use Rattle.clean_model.proofs.log_model.Counts.{before_le}
 use Rattle.failover_model.specs.Text.{Text, Replica}
 use Rattle.failover_model.specs.Shown.{Shown}
 use Rattle.failover_model.specs.Data.{bare_replica, Mode, Calm, Closes, Repairs, FailData, IsHome, HasTaken, new_of}

@@ -7,9 +7,9 @@ use Rattle.std.proofs.lemmas.Option.{same_Some}
 use Rattle.std.proofs.lemmas.List.{take-append-drop}
 use Rattle.std.proofs.lemmas.Grind.{flat_map-append}
 use Rattle.entry.specs.declared.entry.Entry.{Entry}
-use Rattle.log_model.specs.Data.{LogUnit, entries_of}
-use Rattle.log_model.specs.Ids.{has}
-use Rattle.log_model.specs.Steps.{units_between}
+use Rattle.clean_model.specs.log_model.Data.{LogUnit, entries_of}
+use Rattle.clean_model.specs.log_model.Ids.{has}
+use Rattle.clean_model.specs.log_model.Steps.{units_between}
 use Rattle.failover_model.specs.Text.{Text, Replica, length_of}
 use Rattle.failover_model.specs.Shown.{Shown, Op, taken, with_replica}
 use Rattle.failover_model.specs.Data.{front, front_entries, FailData, IsHome, is_failing, everywhere}

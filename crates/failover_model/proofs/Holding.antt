@@ -4,9 +4,9 @@ use Rattle.std.specs.Prelude.{slice_get}
 use Rattle.std.proofs.lemmas.Bool.{cases_lt}
 use Rattle.entry.specs.Meaning.{among}
 use Rattle.entry.proofs.BagLemmas.{among_left}
-use Rattle.log_model.specs.Data.{LogUnit}
-use Rattle.log_model.proofs.Counts.{before_rise, before_at}
-use Rattle.log_model.proofs.Fronts.{in_front}
+use Rattle.clean_model.specs.log_model.Data.{LogUnit}
+use Rattle.clean_model.proofs.log_model.Counts.{before_rise, before_at}
+use Rattle.clean_model.proofs.log_model.Fronts.{in_front}
 use Rattle.failover_model.specs.Text.{Text, Replica}
 use Rattle.failover_model.specs.Data.{FailData, everywhere, durable_of}
 use Rattle.failover_model.specs.Log.{Texts, IsReplica, IsStanding}

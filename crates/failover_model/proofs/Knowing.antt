@@ -7,10 +7,10 @@ use Rattle.std.proofs.lemmas.Bool.{cases_eq}
 use Rattle.std.proofs.lemmas.Bool.Decides.{nat_tests}
 use Rattle.std.proofs.lemmas.Option.{same_Some}
 use Rattle.entry.specs.declared.entry.Entry.{Entry}
-use Rattle.log_model.specs.Data.{entries_of}
-use Rattle.log_model.proofs.Lists.{is_none, below_at}
-use Rattle.log_model.specs.Ids.{has}
-use Rattle.log_model.specs.Steps.{units_between}
+use Rattle.clean_model.specs.log_model.Data.{entries_of}
+use Rattle.clean_model.proofs.log_model.Lists.{is_none, below_at}
+use Rattle.clean_model.specs.log_model.Ids.{has}
+use Rattle.clean_model.specs.log_model.Steps.{units_between}
 use Rattle.failover_model.specs.Text.{Text, Replica, length_of}
 use Rattle.failover_model.specs.Shown.{Shown, Act, Open, Extend, Close, Seal, Free, Op, On, effect, with_replica, taken}
 use Rattle.failover_model.specs.Data.{front, bare, bare_replica, FailData, new_of}

@@ -4,10 +4,10 @@ use Rattle.std.specs.Prelude.{None, ◌==◌}
 use Rattle.std.proofs.lemmas.Bool.{cases_eq}
 use Rattle.std.proofs.lemmas.Bool.Decides.{nat_tests}
 use Rattle.std.proofs.lemmas.Option.{same_Some}
-use Rattle.log_model.specs.Data.{Start, LogUnit, entries_of}
-use Rattle.log_model.specs.Ids.{has}
-use Rattle.log_model.proofs.Fronts.{unit_front}
-use Rattle.log_model.proofs.Lists.{is_none}
+use Rattle.clean_model.specs.log_model.Data.{Start, LogUnit, entries_of}
+use Rattle.clean_model.specs.log_model.Ids.{has}
+use Rattle.clean_model.proofs.log_model.Fronts.{unit_front}
+use Rattle.clean_model.proofs.log_model.Lists.{is_none}
 use Rattle.failover_model.specs.Text.{Replica}
 use Rattle.failover_model.specs.Shown.{Shown}
 use Rattle.failover_model.specs.Data.{opening_for, bare_replica, Mode, Calm, Rolls, Mends, Opens, Repairs, FailData}

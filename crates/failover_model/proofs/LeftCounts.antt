@@ -4,7 +4,7 @@ use Rattle.std.proofs.Common.{length, refl, sym, ap, subst, ◌∙◌, arith}
 use Rattle.std.proofs.Math.Nat.{mul-suc}
 use Rattle.std.proofs.lemmas.Bool.{cases_eq}
 use Rattle.entry.specs.Bag.{IsAmong}
-use Rattle.log_model.specs.Ids.{has, without}
+use Rattle.clean_model.specs.log_model.Ids.{has, without}
 use Rattle.failover_model.specs.Data.{FailData}
 use Rattle.failover_model.specs.Left.{how_many, missing, lost}
 use Rattle.failover_model.proofs.Lists.{both_ways, has_here, has_there, has_either}

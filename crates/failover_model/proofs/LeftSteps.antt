@@ -3,9 +3,9 @@ use Rattle.std.proofs.Common.{◌≡◌, ℕ, ◌+◌, ◌≤◌, inl, inr, fals
 use Rattle.std.specs.Prelude.{None, ◌-◌, not, nat_lt}
 use Rattle.std.proofs.lemmas.Option.{same_Some}
 use Rattle.versioned_map.specs.declared.command.Record.{Record}
-use Rattle.log_model.specs.Ids.{has, without}
-use Rattle.log_model.specs.Data.{Start}
-use Rattle.log_model.proofs.Lists.{below_at}
+use Rattle.clean_model.specs.log_model.Ids.{has, without}
+use Rattle.clean_model.specs.log_model.Data.{Start}
+use Rattle.clean_model.proofs.log_model.Lists.{below_at}
 use Rattle.failover_model.specs.Shown.{Shown, Op}
 use Rattle.failover_model.specs.Data.{Mode, Calm, Rolls, Mends, Opens, Closes, Repairs, FailData, homes, new_of}
 use Rattle.failover_model.specs.Data.{is_failing}

@@ -9,7 +9,7 @@ use Rattle.entry.specs.declared.digest.Digest.{Digest}
 use Rattle.entry.specs.Bag.{IsAmong}
 use Rattle.entry.specs.Text.{len_in, listed_len}
 use Rattle.entry.proofs.BagLemmas.{among_push}
-use Rattle.log_model.specs.Data.{Start, ids_of, listed_with, digest_with, digest_for, len_next, lens_next}
+use Rattle.clean_model.specs.log_model.Data.{Start, ids_of, listed_with, digest_with, digest_for, len_next, lens_next}
 use Rattle.failover_model.specs.Text.{length_of}
 use Rattle.failover_model.specs.Data.{FailConfig}
 use Rattle.failover_model.specs.Log.{Texts, text_lens, lens_in, AreLens}

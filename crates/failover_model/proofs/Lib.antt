@@ -37,3 +37,5 @@ pub mod Images
 pub mod Durable
 pub mod PastHeads
 pub mod Witness
+pub use Rattle.clean_model.proofs.log_model
+pub use Rattle.clean_model.proofs as clean_model

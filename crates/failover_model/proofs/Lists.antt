@@ -11,8 +11,8 @@ use Rattle.entry.specs.Bag.{IsAmong}
 use Rattle.entry.specs.Format.{spelling}
 use Rattle.entry.specs.Text.{text_of}
 use Rattle.entry.proofs.TextLemmas.{spelling-some}
-use Rattle.log_model.specs.Data.{LogUnit, entries_of, fewest}
-use Rattle.log_model.specs.Ids.{has, without}
+use Rattle.clean_model.specs.log_model.Data.{LogUnit, entries_of, fewest}
+use Rattle.clean_model.specs.log_model.Ids.{has, without}
 use Rattle.failover_model.specs.Text.{length_of}
 use Rattle.failover_model.specs.Data.{Head, front}
 use Rattle.failover_model.specs.Steps.{with_taken, with_count}

@@ -8,7 +8,7 @@ use Rattle.std.proofs.lemmas.Option.{same_Some}
 use Rattle.entry.specs.declared.entry.Entry.{Entry}
 use Rattle.versioned_map.specs.Represents.{Represents, empty_state}
 use Rattle.versioned_map.proofs.Represented.{nothing_yet}
-use Rattle.log_model.specs.Data.{Start, entries_of}
+use Rattle.clean_model.specs.log_model.Data.{Start, entries_of}
 use Rattle.failover_model.specs.Text.{Replica}
 use Rattle.failover_model.specs.Shown.{Shown}
 use Rattle.failover_model.specs.Data.{bare, FailConfig, FailData, IsNew}

@@ -3,8 +3,8 @@ use Rattle.std.proofs.Common.{◌≡◌, ℕ, ◌<◌, ◌≤◌, ◌⊎◌, inl
 use Rattle.std.proofs.Common.{subst, ◌∙◌, arith}
 use Rattle.std.proofs.lemmas.Bool.{cases_lt}
 use Rattle.std.proofs.lemmas.Option.{same_Some}
-use Rattle.log_model.specs.Data.{Start, fewest}
-use Rattle.log_model.specs.Ids.{has}
+use Rattle.clean_model.specs.log_model.Data.{Start, fewest}
+use Rattle.clean_model.specs.log_model.Ids.{has}
 use Rattle.failover_model.specs.Text.{Text, Replica}
 use Rattle.failover_model.specs.Shown.{Shown, Op, taken}
 use Rattle.failover_model.specs.Data.{bare, bare_replica, Opens, Closes, FailData, new_of, failover_head_of, is_failing}

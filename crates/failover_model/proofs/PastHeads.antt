@@ -12,11 +12,11 @@ use Rattle.versioned_map.specs.declared.command.Command.{Command}
 use Rattle.versioned_map.specs.declared.command.Record.{Record}
 use Rattle.versioned_map.specs.History.{commands_of}
 use Rattle.versioned_map.specs.Versioned.{State}
-use Rattle.log_model.specs.Data.{Start, LogUnit}
-use Rattle.log_model.specs.Durable.{AreNumbered}
-use Rattle.log_model.specs.Ids.{has, without}
-use Rattle.log_model.specs.Steps.{with_unit}
-use Rattle.log_model.proofs.PastHeads.{numbered_push, with_later}
+use Rattle.clean_model.specs.log_model.Data.{Start, LogUnit}
+use Rattle.clean_model.specs.log_model.Durable.{AreNumbered}
+use Rattle.clean_model.specs.log_model.Ids.{has, without}
+use Rattle.clean_model.specs.log_model.Steps.{with_unit}
+use Rattle.clean_model.proofs.log_model.PastHeads.{numbered_push, with_later}
 use Rattle.failover_model.specs.Shown.{Shown, Op}
 use Rattle.failover_model.specs.Data.{Head, Mode, Calm, Rolls, Opens, Closes, Repairs, FailConfig, FailData, homes}
 use Rattle.failover_model.specs.Data.{new_of}

@@ -3,9 +3,9 @@ use Rattle.std.proofs.Common.{◌≡◌, ℕ, ◌<◌, ◌⊎◌, inl, inr, true
 use Rattle.std.specs.Prelude.{Option, IsSome}
 use Rattle.std.proofs.lemmas.Bool.{cases_eq}
 use Rattle.std.proofs.lemmas.Option.{same_Some}
-use Rattle.log_model.specs.Ids.{has}
-use Rattle.log_model.proofs.Lists.{below_at}
-use Rattle.log_model.specs.Data.{Start}
+use Rattle.clean_model.specs.log_model.Ids.{has}
+use Rattle.clean_model.proofs.log_model.Lists.{below_at}
+use Rattle.clean_model.specs.log_model.Data.{Start}
 use Rattle.failover_model.specs.Text.{Text, Replica}
 use Rattle.failover_model.specs.Shown.{Holds, Shown, Act, with_replica}
 use Rattle.failover_model.specs.Data.{bare, bare_replica, FailData, IsHome, HasTaken, IsNew}

@@ -5,8 +5,8 @@ use Rattle.std.specs.Prelude.{◌-◌, not, nat_lt, ◌==◌}
 use Rattle.std.proofs.Math.Nat.{mul-suc, mul-zero}
 use Rattle.std.proofs.lemmas.Bool.{cases_eq}
 use Rattle.std.proofs.lemmas.Bool.Decides.{nat_tests}
-use Rattle.log_model.specs.Ids.{has, without}
-use Rattle.log_model.specs.Data.{Start}
+use Rattle.clean_model.specs.log_model.Ids.{has, without}
+use Rattle.clean_model.specs.log_model.Data.{Start}
 use Rattle.failover_model.specs.Shown.{Shown, Op}
 use Rattle.failover_model.specs.Data.{Mode, Calm, Rolls, Mends, Opens, Closes, Repairs, FailData, homes, new_of}
 use Rattle.failover_model.specs.Data.{is_failing}

@@ -4,8 +4,8 @@ use Rattle.std.proofs.Common.{subst, ◌∙◌, arith}
 use Rattle.std.specs.Prelude.{Option, IsSome, IfSome}
 use Rattle.std.proofs.lemmas.Bool.{cases_lt, cases_eq}
 use Rattle.entry.specs.Bag.{IsAmong}
-use Rattle.log_model.specs.Data.{Start, digest_for, entries_of}
-use Rattle.log_model.specs.Ids.{has}
+use Rattle.clean_model.specs.log_model.Data.{Start, digest_for, entries_of}
+use Rattle.clean_model.specs.log_model.Ids.{has}
 use Rattle.failover_model.specs.Text.{Text, Replica, length_of, IsUsable}
 use Rattle.failover_model.specs.Shown.{Shown}
 use Rattle.failover_model.specs.Data.{front, bare_replica, FailData, IsNew, IsHome, HasTaken, is_failing, is_settled}

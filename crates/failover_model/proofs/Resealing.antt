@@ -8,10 +8,10 @@ use Rattle.entry.specs.declared.entry.Entry.{Entry}
 use Rattle.entry.specs.Bag.{IsAmong}
 use Rattle.versioned_map.specs.Represents.{Represents}
 use Rattle.versioned_map.specs.Versioned.{State}
-use Rattle.log_model.specs.Data.{Start, LogUnit, entries_of}
-use Rattle.log_model.specs.Ids.{has}
-use Rattle.log_model.proofs.Counts.{before_end}
-use Rattle.log_model.proofs.Lists.{below_at}
+use Rattle.clean_model.specs.log_model.Data.{Start, LogUnit, entries_of}
+use Rattle.clean_model.specs.log_model.Ids.{has}
+use Rattle.clean_model.proofs.log_model.Counts.{before_end}
+use Rattle.clean_model.proofs.log_model.Lists.{below_at}
 use Rattle.failover_model.specs.Text.{Replica}
 use Rattle.failover_model.specs.Shown.{Shown, Op, taken}
 use Rattle.failover_model.specs.Data.{front_entries, FailData, new_of, is_failing, is_settled, IsNew, state_after}

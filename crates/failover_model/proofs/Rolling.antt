@@ -9,9 +9,9 @@ use Rattle.entry.specs.declared.entry.Entry.{Entry}
 use Rattle.entry.specs.Bag.{IsAmong}
 use Rattle.entry.specs.Meaning.{among}
 use Rattle.versioned_map.specs.Represents.{Represents}
-use Rattle.log_model.specs.Data.{Start, fewest}
-use Rattle.log_model.specs.Ids.{has}
-use Rattle.log_model.proofs.Lists.{below_at}
+use Rattle.clean_model.specs.log_model.Data.{Start, fewest}
+use Rattle.clean_model.specs.log_model.Ids.{has}
+use Rattle.clean_model.proofs.log_model.Lists.{below_at}
 use Rattle.failover_model.specs.Text.{Text, Replica}
 use Rattle.failover_model.specs.Shown.{Shown}
 use Rattle.failover_model.specs.Data.{bare, bare_replica, Mode, Rolls, Opens, Closes, Repairs, FailData, IsHome}

@@ -5,8 +5,8 @@ use Rattle.std.specs.Prelude.{Option, None, IsSome}
 use Rattle.std.proofs.lemmas.Bool.{cases_eq}
 use Rattle.entry.specs.declared.entry.Entry.{Entry}
 use Rattle.entry.specs.Bag.{IsAmong}
-use Rattle.log_model.specs.Ids.{has}
-use Rattle.log_model.specs.Data.{Start}
+use Rattle.clean_model.specs.log_model.Ids.{has}
+use Rattle.clean_model.specs.log_model.Data.{Start}
 use Rattle.failover_model.specs.Text.{Text, Replica}
 use Rattle.failover_model.specs.Shown.{Holds, Shown, Op, with_replica, taken}
 use Rattle.failover_model.specs.Data.{FailData, is_failing, IsNew}

@@ -12,8 +12,8 @@ use Rattle.versioned_map.specs.declared.command.Record.{Record}
 use Rattle.versioned_map.specs.History.{commands_of}
 use Rattle.versioned_map.specs.Represents.{Represents}
 use Rattle.versioned_map.specs.Versioned.{State, after}
-use Rattle.log_model.specs.Data.{Start, LogUnit, entries_of}
-use Rattle.log_model.proofs.Counts.{before_end}
+use Rattle.clean_model.specs.log_model.Data.{Start, LogUnit, entries_of}
+use Rattle.clean_model.proofs.log_model.Counts.{before_end}
 use Rattle.failover_model.specs.Text.{Text}
 use Rattle.failover_model.specs.Data.{Mode, Calm, Rolls, Mends, Opens, Closes, Repairs, new_of, failover_head_of}
 use Rattle.failover_model.specs.Data.{is_failing, is_settled, Head, front_entries, FailData, front, state_after}

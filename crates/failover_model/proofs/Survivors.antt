@@ -8,9 +8,9 @@ use Rattle.std.proofs.lemmas.Bool.Decides.{nat_tests}
 use Rattle.entry.specs.Bag.{IsAmong}
 use Rattle.entry.specs.Text.{Opening, listed_ids}
 use Rattle.entry.proofs.BagLemmas.{among_left}
-use Rattle.log_model.proofs.Lengths.{ids_listed}
-use Rattle.log_model.proofs.Lists.{some_given, below_at}
-use Rattle.log_model.specs.Data.{Start, digest_for}
+use Rattle.clean_model.proofs.log_model.Lengths.{ids_listed}
+use Rattle.clean_model.proofs.log_model.Lists.{some_given, below_at}
+use Rattle.clean_model.specs.log_model.Data.{Start, digest_for}
 use Rattle.failover_model.specs.Text.{Text, Replica, length_of, IsUsable}
 use Rattle.failover_model.specs.Shown.{Shown, survivors, HoldsHead}
 use Rattle.failover_model.specs.Choice.{Holding, IsHeld, Choice, IsHeadLeft, HeadSurvives, BothSurvive}

@@ -9,9 +9,9 @@ use Rattle.entry.specs.declared.entry.Entry.{Entry}
 use Rattle.entry.specs.Bag.{IsAmong}
 use Rattle.entry.proofs.BagLemmas.{among_push}
 use Rattle.versioned_map.specs.Represents.{Represents}
-use Rattle.log_model.specs.Data.{Start, entries_of, ids_of}
-use Rattle.log_model.proofs.Lists.{all_below, below_at}
-use Rattle.log_model.proofs.Rolling.{recorded_anew}
+use Rattle.clean_model.specs.log_model.Data.{Start, entries_of, ids_of}
+use Rattle.clean_model.proofs.log_model.Lists.{all_below, below_at}
+use Rattle.clean_model.proofs.log_model.Rolling.{recorded_anew}
 use Rattle.failover_model.specs.Text.{length_of}
 use Rattle.failover_model.specs.Shown.{Shown}
 use Rattle.failover_model.specs.Data.{front, Mode, FailData, IsHome, state_of}

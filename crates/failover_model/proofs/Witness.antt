@@ -2,8 +2,8 @@
 use Rattle.std.proofs.Common.{◌≡◌, ℕ, ◌<◌, ◌≤◌, inl, inr, true, false, List, [], ◌∷◌, ◌++◌, length, Some, refl, sym, ap}
 use Rattle.std.proofs.Common.{subst, ◌∙◌, arith}
 use Rattle.std.proofs.lemmas.Option.{same_Some}
-use Rattle.log_model.specs.Ids.{has}
-use Rattle.log_model.specs.Data.{Start}
+use Rattle.clean_model.specs.log_model.Ids.{has}
+use Rattle.clean_model.specs.log_model.Data.{Start}
 use Rattle.failover_model.specs.Shown.{Shown, Act, Op, On, Raise, Open, Close, Seal, taken}
 use Rattle.failover_model.specs.Data.{front, bare, Mode, Calm, Rolls, Opens, Closes, Repairs, FailData}
 use Rattle.failover_model.specs.Laws.{Fits}

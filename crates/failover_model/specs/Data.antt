@@ -8,8 +8,8 @@ use Rattle.entry.specs.Text.{Opening}
 use Rattle.versioned_map.specs.declared.command.Record.{Record}
 use Rattle.versioned_map.specs.History.{commands_of}
 use Rattle.versioned_map.specs.Versioned.{State, after}
-use Rattle.log_model.specs.Data.{Start, digest_for, LogUnit, entries_of, records_before, fewest}
-use Rattle.log_model.specs.Ids.{has, without}
+use Rattle.clean_model.specs.log_model.Data.{Start, digest_for, LogUnit, entries_of, records_before, fewest}
+use Rattle.clean_model.specs.log_model.Ids.{has, without}
 use Rattle.failover_model.specs.Text.{Text, Replica}
 
 -- ---- heads

@@ -4,8 +4,8 @@ use Rattle.std.specs.List.{flat_map}
 use Rattle.entry.specs.Bag.{IsAmong}
 use Rattle.versioned_map.specs.History.{commands_of}
 use Rattle.versioned_map.specs.Versioned.{State}
-use Rattle.log_model.specs.Data.{Start, LogUnit}
-use Rattle.log_model.specs.Durable.{AreNumbered}
+use Rattle.clean_model.specs.log_model.Data.{Start, LogUnit}
+use Rattle.clean_model.specs.log_model.Durable.{AreNumbered}
 use Rattle.failover_model.specs.Shown.{Shown}
 use Rattle.failover_model.specs.Data.{Head, Calm, Repairs, FailConfig, FailData, new_of, is_failing, durable_of}
 use Rattle.failover_model.specs.Left.{how_many, IsCounted}

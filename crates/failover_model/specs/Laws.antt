@@ -4,7 +4,7 @@ use Rattle.entry.specs.declared.entry.Entry.{Entry}
 use Rattle.entry.specs.Meaning.{among}
 use Rattle.versioned_map.specs.declared.command.Record.{Record}
 use Rattle.versioned_map.specs.Versioned.{State}
-use Rattle.log_model.specs.Data.{Start, LogUnit}
+use Rattle.clean_model.specs.log_model.Data.{Start, LogUnit}
 use Rattle.failover_model.specs.Shown.{Shown, Seal, Op, On, taken}
 use Rattle.failover_model.specs.Text.{Replica}
 use Rattle.failover_model.specs.Data.{front, FailConfig, Mode, Repairs, FailData, HasTaken, IsHome, state_of}

@@ -1,8 +1,8 @@
 -- How many pushes an open failover still needs, at most.
 use Rattle.std.specs.Prelude.{◌≡◌, ℕ, suc, ◌+◌, ◌-◌, ◌*◌, ◌<◌, ◌≤◌, ◌⊎◌, List, [], ◌∷◌, length, Bool, true, false, not}
 use Rattle.std.specs.Prelude.{nat_lt, Some, if◌then◌else◌}
-use Rattle.log_model.specs.Ids.{has}
-use Rattle.log_model.specs.Data.{Start}
+use Rattle.clean_model.specs.log_model.Ids.{has}
+use Rattle.clean_model.specs.log_model.Data.{Start}
 use Rattle.failover_model.specs.Shown.{Shown, Op}
 use Rattle.failover_model.specs.Data.{Mode, Calm, Rolls, Mends, Opens, Closes, Repairs, FailConfig, FailData, homes}
 use Rattle.failover_model.specs.Data.{new_of, is_failing}

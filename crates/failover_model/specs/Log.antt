@@ -8,9 +8,9 @@ use Rattle.entry.specs.Meaning.{IsOfKey, among}
 use Rattle.entry.specs.Tablet.{have_key}
 use Rattle.versioned_map.specs.Represents.{Represents}
 use Rattle.versioned_map.specs.Versioned.{State}
-use Rattle.log_model.specs.Data.{Start, LogUnit}
-use Rattle.log_model.specs.Ids.{has}
-use Rattle.log_model.specs.Log.{AreBelow, Rise}
+use Rattle.clean_model.specs.log_model.Data.{Start, LogUnit}
+use Rattle.clean_model.specs.log_model.Ids.{has}
+use Rattle.clean_model.specs.log_model.Log.{AreBelow, Rise}
 use Rattle.failover_model.specs.Text.{Text, Replica, length_of}
 use Rattle.failover_model.specs.Shown.{Shown}
 use Rattle.failover_model.specs.Data.{front, front_entries, bare, bare_replica, FailConfig, Closes, Repairs, FailData}

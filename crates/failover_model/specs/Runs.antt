@@ -1,7 +1,7 @@
 -- Lists of events of a log whose backups may fail.
 use Rattle.std.specs.Prelude.{◌≡◌, ℕ, ◌<◌, ◌≤◌, ◌⊎◌, List, [], ◌∷◌, length, Bool, true, false, Some}
 use Rattle.versioned_map.specs.declared.command.Record.{Record}
-use Rattle.log_model.specs.Data.{Start}
+use Rattle.clean_model.specs.log_model.Data.{Start}
 use Rattle.failover_model.specs.Shown.{Shown, Op, On, Raise, taken}
 use Rattle.failover_model.specs.Data.{Mode, Repairs, FailConfig, FailData, new_of, is_failing, state_of, durable_of}
 use Rattle.failover_model.specs.Log.{Texts, BasesStand, IsKept}

@@ -9,10 +9,10 @@ use Rattle.versioned_map.specs.declared.command.Record.{Record}
 use Rattle.versioned_map.specs.Command.{command_key}
 use Rattle.versioned_map.specs.Represents.{Represents, unit_of}
 use Rattle.versioned_map.specs.Versioned.{State}
-use Rattle.log_model.specs.Data.{Start, entries_of, ids_of, digest_for, len_next, lens_next}
-use Rattle.log_model.specs.Ids.{has}
-use Rattle.log_model.specs.Log.{AreBelow}
-use Rattle.log_model.specs.Steps.{no_lens, with_unit, units_between}
+use Rattle.clean_model.specs.log_model.Data.{Start, entries_of, ids_of, digest_for, len_next, lens_next}
+use Rattle.clean_model.specs.log_model.Ids.{has}
+use Rattle.clean_model.specs.log_model.Log.{AreBelow}
+use Rattle.clean_model.specs.log_model.Steps.{no_lens, with_unit, units_between}
 use Rattle.failover_model.specs.Text.{Text, Replica, length_of}
 use Rattle.failover_model.specs.Shown.{Shown, Open, Extend, Close, Seal, Free, Op, On, Raise}
 use Rattle.failover_model.specs.Data.{front, front_entries, bare, FailConfig, Mode, Calm, Rolls, Mends, Opens, Closes}

@@ -1,7 +1,7 @@
 -- That a failover can run to its end: with three backups and two replicas, a backup that holds the head fails as a roll
 -- opens the next head.
 use Rattle.std.specs.Prelude.{◌≡◌, List, [], ◌∷◌, true, false, None}
-use Rattle.log_model.specs.Ids.{has}
+use Rattle.clean_model.specs.log_model.Ids.{has}
 use Rattle.failover_model.specs.Data.{Calm, FailConfig}
 use Rattle.failover_model.specs.Runs.{World, Event, IsRun}
 use Rattle.failover_model.specs.Steps.{fresh}

@@ -3,13 +3,13 @@ use Rattle.std.proofs.Common.{◌≡◌, ℕ, [], ◌∷◌, ◌++◌, length, s
 use Rattle.versioned_map.specs.declared.command.Command.{Command}
 use Rattle.versioned_map.specs.declared.command.Reply.{Reply}
 use Rattle.versioned_map.specs.declared.command.Reply.TheVariants as reply
-use Rattle.failover_model.specs.Data.{FailData}
-use Rattle.master_state.specs.declared.step.Step.TheVariants.{Apply}
-use Rattle.master_state.specs.declared.step.StepAnswer.{StepAnswer}
-use Rattle.master_state.specs.declared.step.StepAnswer.TheVariants.{Applied}
-use Rattle.master_state.specs.Steps.{reply_now}
-use Rattle.master.specs.Steps.{Accepts}
-use Rattle.master.specs.World.{World}
+use Rattle.store_step.specs.master.failover_model.Data.{FailData}
+use Rattle.store_step.specs.master.master_state.declared.step.Step.TheVariants.{Apply}
+use Rattle.store_step.specs.master.master_state.declared.step.StepAnswer.{StepAnswer}
+use Rattle.store_step.specs.master.master_state.declared.step.StepAnswer.TheVariants.{Applied}
+use Rattle.store_step.specs.master.master_state.Steps.{reply_now}
+use Rattle.store_step.specs.master.Steps.{Accepts}
+use Rattle.store_step.specs.master.World.{World}
 use Rattle.store_seat.specs.Seats.{record_by}
 
 abbrev place_in : StepAnswer → ℕ

@@ -7,18 +7,18 @@ use Rattle.versioned_map.specs.declared.command.Command.{Command}
 use Rattle.versioned_map.specs.declared.command.Record.{Record}
 use Rattle.versioned_map.specs.declared.command.Reply.{Reply}
 use Rattle.history_row.specs.Rows.{IsRowOf}
-use Rattle.failover_model.specs.Data.{durable_of}
-use Rattle.master_state.specs.declared.step.Refusal.{Refusal}
-use Rattle.master_state.specs.declared.step.Step.TheVariants.{Apply}
-use Rattle.master_state.specs.declared.step.StepAnswer.TheVariants.{Applied}
-use Rattle.failover_model.proofs.DurableSteps.{durable_is_within}
-use Rattle.failover_clean.specs.Fleet.{read_of}
-use Rattle.master_state.specs.Log.{log_of}
-use Rattle.master.specs.Invariant.{IsWellKept}
-use Rattle.master.specs.Keeps.{Keeps}
-use Rattle.master.specs.Steps.{Accepts, Declines}
-use Rattle.master.specs.Valid.{IsValid}
-use Rattle.master.specs.World.{World, world}
+use Rattle.store_step.specs.master.failover_model.Data.{durable_of}
+use Rattle.store_step.specs.master.master_state.declared.step.Refusal.{Refusal}
+use Rattle.store_step.specs.master.master_state.declared.step.Step.TheVariants.{Apply}
+use Rattle.store_step.specs.master.master_state.declared.step.StepAnswer.TheVariants.{Applied}
+use Rattle.store_step.proofs.of_master.failover_model.DurableSteps.{durable_is_within}
+use Rattle.store_step.specs.master.failover_clean.Fleet.{read_of}
+use Rattle.store_step.specs.master.master_state.Log.{log_of}
+use Rattle.store_step.specs.master.Invariant.{IsWellKept}
+use Rattle.store_step.specs.master.Keeps.{Keeps}
+use Rattle.store_step.specs.master.Steps.{Accepts, Declines}
+use Rattle.store_step.specs.master.Valid.{IsValid}
+use Rattle.store_step.specs.master.World.{World, world}
 use Rattle.store_seat.specs.declared.fault.CallFault.{CallFault}
 use Rattle.store_seat.specs.declared.fault.CallFault.TheVariants.{CellRefused}
 use Rattle.locked_log.specs.Applies.{AppliesHeld, Counts}

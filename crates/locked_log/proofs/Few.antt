@@ -4,10 +4,10 @@ use Rattle.std.specs.Prelude.{None, ◌^◌, not}
 use Rattle.std.proofs.lemmas.Bool.{and_parts, not-false, leb-true}
 use Rattle.std.proofs.lemmas.List.Sums.{count_by-le-length}
 use Rattle.versioned_map.specs.declared.command.Record.{Record}
-use Rattle.master_state.specs.declared.config.Config.{Config}
-use Rattle.master_state.specs.Config.{config_fault, has_backups, has_step, has_seglet, has_segment, has_budget}
-use Rattle.master_state.specs.Config.{has_tablets, has_history}
-use Rattle.master_state.proofs.Refusals.{passes}
+use Rattle.store_step.specs.master.master_state.declared.config.Config.{Config}
+use Rattle.store_step.specs.master.master_state.Config.{config_fault, has_backups, has_step, has_seglet, has_segment, has_budget}
+use Rattle.store_step.specs.master.master_state.Config.{has_tablets, has_history}
+use Rattle.store_step.proofs.of_master.master_state.Refusals.{passes}
 use Rattle.locked_log.specs.Held.{Held, history}
 use Rattle.store_seat.specs.Made.{Made}
 use Rattle.store_seat.specs.Seats.{SeatValue}

@@ -5,9 +5,9 @@ use Rattle.std.specs.Prelude.{slice_get, slice_set}
 use Rattle.versioned_map.specs.declared.command.Command.{Command}
 use Rattle.versioned_map.specs.declared.command.Record.{Record}
 use Rattle.versioned_map.specs.declared.command.Reply.{Reply}
-use Rattle.master_state.specs.declared.config.Config.{Config}
-use Rattle.master.specs.Keeps.{Keeps}
-use Rattle.master.specs.Valid.{IsValid}
+use Rattle.store_step.specs.master.master_state.declared.config.Config.{Config}
+use Rattle.store_step.specs.master.Keeps.{Keeps}
+use Rattle.store_step.specs.master.Valid.{IsValid}
 use Rattle.store_seat.specs.declared.account.Account.{Account}
 use Rattle.locked_log.specs.Applies.{Counts}
 use Rattle.locked_log.specs.Held.{Held, history}

@@ -4,24 +4,24 @@ use Rattle.std.proofs.Common.{ap, ◌∙◌, subst}
 use Rattle.std.specs.Prelude.{◌+◌, ◌^◌, ◌==◌, not, nat_lt, length, is_none, is_some}
 use Rattle.std.specs.Option.{option_and_then, option_map_or}
 use Rattle.std.proofs.lemmas.Bool.{and_left, and_right, not-true}
-use Rattle.cleaner.specs.declared.fault.PassFault.{PassFault}
-use Rattle.cleaner.specs.declared.pass.Pass.{Pass as OpenPass}
-use Rattle.cleaner.specs.Passes.{is_at_end, next_seal}
-use Rattle.log_head.specs.Head.{is_open}
-use Rattle.log_model.specs.Data.{fewest}
-use Rattle.master_state.specs.declared.failover.Failover.{Failover}
-use Rattle.master_state.specs.declared.step.Refusal.{Refusal}
-use Rattle.master_state.specs.declared.step.Refusal.TheVariants.{Halted, Rolling, Nothing, Full, SegmentsSpent, Pass}
-use Rattle.master_state.specs.declared.step.Refusal.TheVariants.{NoMemory}
-use Rattle.master_state.specs.declared.step.Step.{Step}
-use Rattle.master_state.specs.declared.step.Step.TheVariants.{Push, BeginRoll, BeginClean, Copy, Seal, Free}
-use Rattle.master_state.specs.Budget.{is_working, may_roll, may_clean}
-use Rattle.master_state.specs.Causes.{step_refusal, clean_refusal, victims_fault, survivors_for, space_refusal}
-use Rattle.master_state.specs.Causes.{is_pushed, is_done}
-use Rattle.master_space.specs.Choosing.{chosen, may_begin_next, pass_step, step_without, next_step}
-use Rattle.master_state.specs.Data.{MasterData}
-use Rattle.master.specs.Steps.{Declines, FailsTake, FailsTurn, IsPushOp, IsStuck}
-use Rattle.master.specs.World.{World}
+use Rattle.store_step.specs.master.cleaner.declared.fault.PassFault.{PassFault}
+use Rattle.store_step.specs.master.cleaner.declared.pass.Pass.{Pass as OpenPass}
+use Rattle.store_step.specs.master.cleaner.Passes.{is_at_end, next_seal}
+use Rattle.store_step.specs.master.log_head.Head.{is_open}
+use Rattle.store_step.specs.master.log_model.Data.{fewest}
+use Rattle.store_step.specs.master.master_state.declared.failover.Failover.{Failover}
+use Rattle.store_step.specs.master.master_state.declared.step.Refusal.{Refusal}
+use Rattle.store_step.specs.master.master_state.declared.step.Refusal.TheVariants.{Halted, Rolling, Nothing, Full, SegmentsSpent, Pass}
+use Rattle.store_step.specs.master.master_state.declared.step.Refusal.TheVariants.{NoMemory}
+use Rattle.store_step.specs.master.master_state.declared.step.Step.{Step}
+use Rattle.store_step.specs.master.master_state.declared.step.Step.TheVariants.{Push, BeginRoll, BeginClean, Copy, Seal, Free}
+use Rattle.store_step.specs.master.master_state.Budget.{is_working, may_roll, may_clean}
+use Rattle.store_step.specs.master.master_state.Causes.{step_refusal, clean_refusal, victims_fault, survivors_for, space_refusal}
+use Rattle.store_step.specs.master.master_state.Causes.{is_pushed, is_done}
+use Rattle.store_step.specs.master.master_space.Choosing.{chosen, may_begin_next, pass_step, step_without, next_step}
+use Rattle.store_step.specs.master.master_state.Data.{MasterData}
+use Rattle.store_step.specs.master.Steps.{Declines, FailsTake, FailsTurn, IsPushOp, IsStuck}
+use Rattle.store_step.specs.master.World.{World}
 
 -- ---- rows of tests
 

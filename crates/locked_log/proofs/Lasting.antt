@@ -2,9 +2,9 @@
 use Rattle.std.proofs.Common.{◌≡◌, ◌≤◌, ⊎_elim, ℕ, List, [], ◌++◌, Some, refl, sym, ap, ◌∙◌, arith, append_assoc}
 use Rattle.std.specs.Prelude.{slice_get, slice_set}
 use Rattle.std.proofs.lemmas.List.{append-nil}
-use Rattle.master_state.specs.declared.config.Config.{Config}
-use Rattle.master.specs.Keeps.{Keeps}
-use Rattle.master.specs.World.{World}
+use Rattle.store_step.specs.master.master_state.declared.config.Config.{Config}
+use Rattle.store_step.specs.master.Keeps.{Keeps}
+use Rattle.store_step.specs.master.World.{World}
 use Rattle.store_seat.specs.declared.account.Account.{Account}
 use Rattle.locked_log.specs.Held.{Held}
 use Rattle.store_seat.specs.Made.{Made}

@@ -2,8 +2,8 @@
 use Rattle.std.proofs.Common.{◌≡◌, ℕ, zero, suc, Some, None, false, length, sym, ap, ◌∙◌, arith}
 use Rattle.std.proofs.lemmas.List.{length-replicate}
 use Rattle.std.specs.Prelude.{slice_get}
-use Rattle.master_state.specs.declared.config.Config.{Config}
-use Rattle.master.specs.Valid.{IsValid}
+use Rattle.store_step.specs.master.master_state.declared.config.Config.{Config}
+use Rattle.store_step.specs.master.Valid.{IsValid}
 use Rattle.store_seat.specs.declared.account.Account.{Account}
 use Rattle.locked_log.specs.Ends.{fresh_book, IsFresh, IsServed}
 use Rattle.locked_log.specs.Held.{Held, history}

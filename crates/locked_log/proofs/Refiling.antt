@@ -7,7 +7,7 @@ use Rattle.std.proofs.lemmas.List.{length-replicate}
 use Rattle.std.proofs.lemmas.List.Sums.{count_by-le-length}
 use Rattle.std.proofs.Math.Seq.{take-length}
 use Rattle.versioned_map.specs.declared.command.Record.{Record}
-use Rattle.master.specs.Valid.{IsValid}
+use Rattle.store_step.specs.master.Valid.{IsValid}
 use Rattle.history_row.specs.Receipts.{Told}
 use Rattle.store_seat.specs.declared.account.Account.{Account}
 use Rattle.locked_log.specs.Ends.{fresh_book}

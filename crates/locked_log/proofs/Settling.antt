@@ -3,7 +3,7 @@ use Rattle.std.proofs.Common.{◌≡◌, ◌≢◌, ◌≤◌, ◌<◌, ⊎_elim
 use Rattle.std.proofs.Common.{◌∙◌, subst, arith, length-set}
 use Rattle.std.specs.Prelude.{slice_get, slice_set}
 use Rattle.replica.specs.Picture.{FleetState}
-use Rattle.master.specs.World.{world}
+use Rattle.store_step.specs.master.World.{world}
 use Rattle.store_seat.specs.declared.account.Account.{Account}
 use Rattle.locked_log.specs.Applies.{Settles, DoesNotSettle}
 use Rattle.locked_log.specs.Held.{StateValue, Held, held, history, durable}

@@ -5,31 +5,31 @@ use Rattle.std.specs.Prelude.{Result, Ok, Err, ◌==◌, not, length, is_some, i
 use Rattle.std.proofs.lemmas.List.{append-nil}
 use Rattle.std.specs.Option.{option_map_or}
 use Rattle.replica.specs.Picture.{FleetState}
-use Rattle.cleaner.specs.declared.pass.Pass.{Pass}
-use Rattle.cleaner.specs.Passes.{is_at_end, next_seal}
-use Rattle.log_head.specs.Head.{is_open}
-use Rattle.failover_model.specs.Shown.{Op}
-use Rattle.master_state.specs.declared.step.Refusal.{Refusal}
-use Rattle.master_state.specs.declared.step.Refusal.TheVariants as refusal
-use Rattle.master_state.specs.declared.step.Step.{Step}
-use Rattle.master_state.specs.declared.step.Step.TheVariants.{Apply, Push, BeginRoll, Compact, BeginClean, Copy, Seal}
-use Rattle.master_state.specs.declared.step.Step.TheVariants.{Free}
-use Rattle.master_state.specs.declared.step.StepAnswer.{StepAnswer}
-use Rattle.master_space.specs.Choosing.{chosen, may_begin_next, pass_step, step_without, next_step}
-use Rattle.master_state.specs.declared.ledger.Posting.TheVariants.{Took}
-use Rattle.master_state.specs.Data.{MasterData}
-use Rattle.master_state.specs.Ledger.{posted}
-use Rattle.master_state.specs.Log.{home}
-use Rattle.master_state.specs.Steps.{sealed_data}
-use Rattle.master_state.specs.Waits.{next_seal as sealed_next}
-use Rattle.master.specs.Keeps.{Keeps}
-use Rattle.master.specs.Passes.{IsSealOp, IsFreeOp}
-use Rattle.master.specs.Steps.{FailsTake, FailsTurn, IsPushOp, IsStuck, Steps}
-use Rattle.master.specs.Valid.{IsValid}
-use Rattle.master.specs.World.{World, world, limited_world}
-use Rattle.master.proofs.Keeping.{take_failed}
-use Rattle.master.proofs.MendedRest.{mended_rest, turned_rest}
-use Rattle.master.proofs.PushedRest.{same_rest}
+use Rattle.store_step.specs.master.cleaner.declared.pass.Pass.{Pass}
+use Rattle.store_step.specs.master.cleaner.Passes.{is_at_end, next_seal}
+use Rattle.store_step.specs.master.log_head.Head.{is_open}
+use Rattle.store_step.specs.master.failover_model.Shown.{Op}
+use Rattle.store_step.specs.master.master_state.declared.step.Refusal.{Refusal}
+use Rattle.store_step.specs.master.master_state.declared.step.Refusal.TheVariants as refusal
+use Rattle.store_step.specs.master.master_state.declared.step.Step.{Step}
+use Rattle.store_step.specs.master.master_state.declared.step.Step.TheVariants.{Apply, Push, BeginRoll, Compact, BeginClean, Copy, Seal}
+use Rattle.store_step.specs.master.master_state.declared.step.Step.TheVariants.{Free}
+use Rattle.store_step.specs.master.master_state.declared.step.StepAnswer.{StepAnswer}
+use Rattle.store_step.specs.master.master_space.Choosing.{chosen, may_begin_next, pass_step, step_without, next_step}
+use Rattle.store_step.specs.master.master_state.declared.ledger.Posting.TheVariants.{Took}
+use Rattle.store_step.specs.master.master_state.Data.{MasterData}
+use Rattle.store_step.specs.master.master_state.Ledger.{posted}
+use Rattle.store_step.specs.master.master_state.Log.{home}
+use Rattle.store_step.specs.master.master_state.Steps.{sealed_data}
+use Rattle.store_step.specs.master.master_state.Waits.{next_seal as sealed_next}
+use Rattle.store_step.specs.master.Keeps.{Keeps}
+use Rattle.store_step.specs.master.Passes.{IsSealOp, IsFreeOp}
+use Rattle.store_step.specs.master.Steps.{FailsTake, FailsTurn, IsPushOp, IsStuck, Steps}
+use Rattle.store_step.specs.master.Valid.{IsValid}
+use Rattle.store_step.specs.master.World.{World, world, limited_world}
+use Rattle.store_step.proofs.of_master.Keeping.{take_failed}
+use Rattle.store_step.proofs.of_master.MendedRest.{mended_rest, turned_rest}
+use Rattle.store_step.proofs.of_master.PushedRest.{same_rest}
 use Rattle.store_step.specs.declared.turn.CleanTurn.{CleanTurn}
 use Rattle.store_step.specs.declared.turn.CleanTurn.TheVariants as turn
 use Rattle.locked_log.specs.Held.{StateValue, Held, held, history, knows}

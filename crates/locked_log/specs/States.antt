@@ -3,8 +3,8 @@ use Rattle.std.specs.Prelude.{◌≡◌, ◌<◌, ◌≤◌, ◌==◌, ℕ, Bool
 use Rattle.std.specs.Prelude.{All, slice_get}
 use Rattle.versioned_map.specs.declared.command.Record.{Record}
 use Rattle.history_row.specs.Rows.{IsRowOf}
-use Rattle.master.specs.Keeps.{Keeps}
-use Rattle.master.specs.Valid.{IsValid}
+use Rattle.store_step.specs.master.Keeps.{Keeps}
+use Rattle.store_step.specs.master.Valid.{IsValid}
 use Rattle.store_seat.specs.declared.account.Account.{Account}
 use Rattle.locked_log.specs.Held.{Held, history, durable}
 use Rattle.store_seat.specs.Made.{Made}

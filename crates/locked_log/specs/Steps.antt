@@ -1,7 +1,7 @@
 -- What a step of the cleaner does to the value under the lock.
 use Rattle.std.specs.Prelude.{◌≡◌, Result}
-use Rattle.master_state.specs.declared.step.Refusal.{Refusal}
-use Rattle.master_state.specs.declared.step.StepAnswer.{StepAnswer}
+use Rattle.store_step.specs.master.master_state.declared.step.Refusal.{Refusal}
+use Rattle.store_step.specs.master.master_state.declared.step.StepAnswer.{StepAnswer}
 use Rattle.store_step.specs.declared.turn.CleanTurn.{CleanTurn}
 use Rattle.store_step.specs.Turns.{MakesTurn}
 use Rattle.locked_log.specs.Held.{Held, knows}

@@ -1,17 +1,17 @@
 //! A command under the lock.
 
 ghost use Rattle.std.specs.Prelude.{◌≡◌, true, Some, Err};
-ghost use Rattle.master_state.specs.Causes.{command_refusal};
-ghost use Rattle.master_state.specs.declared.step.Refusal.TheVariants as refusal;
+ghost use Rattle.store_step.specs.master.master_state.Causes.{command_refusal};
+ghost use Rattle.store_step.specs.master.master_state.declared.step.Refusal.TheVariants as refusal;
 ghost use Rattle.locked_log.specs.Applies.{AppliesHeld};
 ghost use Rattle.locked_log.specs.Held.{held};
 ghost use Rattle.locked_log.specs.States.{IsState, Lasts};
 
 use crate::state::State;
-use master::{Command, Refusal, Reply};
 use replica::Fleet;
 use store_seat::{CallFault, Naming, Seat, file};
 use store_step::apply_command;
+use store_step::master::{Command, Refusal, Reply};
 
 impl<F: Fleet, B: Naming> State<F, B> {
     /// One command of this seat. Memory for the cell of its record is had before the step.

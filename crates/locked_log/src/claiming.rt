@@ -7,9 +7,9 @@ ghost use Rattle.store_seat.specs.Claims.{Owns};
 
 use crate::state::State;
 use history_row::Receipt;
-use master::Reply;
 use replica::Fleet;
 use store_seat::{CallFault, Naming, Seat, claim, owns};
+use store_step::master::Reply;
 
 impl<F: Fleet, B: Naming> State<F, B> {
     /// Whether there is a record at the place, it is this seat's, and the place isn't below the seat's first number. It

@@ -1,7 +1,7 @@
 //! The value under the lock, as the calls of a seat see it.
 
 ghost use Rattle.std.specs.Prelude.{◌≡◌, ◌≤◌, ℕ, Err, MatchBool};
-ghost use Rattle.master_state.specs.declared.step.Refusal.TheVariants as refusal;
+ghost use Rattle.store_step.specs.master.master_state.declared.step.Refusal.TheVariants as refusal;
 ghost use Rattle.locked_log.specs.Applies.{Attempts, ClaimsHeld, Proceeds};
 ghost use Rattle.locked_log.specs.Held.{held};
 ghost use Rattle.store_seat.specs.Claims.{ClaimsSeat};
@@ -10,10 +10,10 @@ ghost use Rattle.store_seat.specs.Shared.{AttemptsSeat, ProceedsSeat};
 
 use crate::state::State;
 use history_row::Receipt;
-use master::{Command, Refusal, Reply};
 use replica::Fleet;
 use store_seat::{Attempt, CallFault, Log, Naming, Progress, Seat};
 use store_step::CleanTurn;
+use store_step::master::{Command, Refusal, Reply};
 
 impl<F: Fleet, B: Naming> Log<B> for State<F, B> {
     fn attempt(&mut self, seat: &mut Seat<B>, command: Command) -> Attempt

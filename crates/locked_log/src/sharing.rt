@@ -3,7 +3,7 @@
 ghost use Rattle.std.specs.Prelude.{◌≡◌, ◌≤◌, ◌<◌, ◌+◌, None, Some, IfSome, OnOk, MatchResult, length, replicate};
 ghost use Rattle.std.specs.Prelude.{slice_get, take, true, ◌^◌};
 ghost use Rattle.locked_log.specs.Made.{IsMade};
-ghost use Rattle.master.specs.World.{world};
+ghost use Rattle.store_step.specs.master.World.{world};
 ghost use Rattle.locked_log.specs.declared.sharing.ShareFault.TheVariants as share_fault;
 ghost use Rattle.locked_log.specs.Sharing.{AreSeatsAfter, AreFiled};
 
@@ -12,11 +12,11 @@ use crate::state::State;
 use crate::store::Store;
 use entry::NoMemory;
 use history_row::Row;
-use master::{History, Master};
 use replica::Fleet;
 use std::alloc::{AllocError, Global};
 use std::sync::ledger::Book;
 use store_seat::{Account, Naming, Seat, Shared, file};
+use store_step::master::{History, Master};
 
 /// Why a store was not made over a master with a history.
 #[derive(Clone, Copy)]

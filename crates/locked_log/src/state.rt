@@ -1,20 +1,20 @@
 //! What lies under the lock.
 
 ghost use Rattle.std.specs.Prelude.{◌≡◌, ◌↔◌, IsTrue, IfOk, OnErr};
-ghost use Rattle.master.specs.Shown.{IsShown, NeedsMemory};
-ghost use Rattle.master.specs.World.{limited_world, world};
+ghost use Rattle.store_step.specs.master.Shown.{IsShown, NeedsMemory};
+ghost use Rattle.store_step.specs.master.World.{limited_world, world};
 ghost use Rattle.locked_log.specs.Held.{Held, held};
 ghost use Rattle.store_seat.specs.Accounts.{Knows};
 ghost use Rattle.locked_log.specs.States.{IsState};
 
 use entry::NoMemory;
 use history_row::Row;
-use master::{Look, Master, Shown};
 use replica::{Bench, Fleet};
 use std::alloc::Global;
 use std::marker::Model;
 use std::sync::ledger::Book;
 use store_seat::{Account, Naming, Seat, is_known};
+use store_step::master::{Look, Master, Shown};
 
 /// The master with the book of the seats, the ledger's book and the row of the history's cells.
 #[derive(Drop)]
@@ -29,7 +29,7 @@ pub struct State<F: Fleet, B: Naming> {
 }
 
 impl<F: Fleet, B: Naming> Model for State<F, B> {
-    ghost use Rattle.master.specs.World.{world};
+    ghost use Rattle.store_step.specs.master.World.{world};
     ghost use Rattle.locked_log.specs.Held.{StateValue};
     ghost use Rattle.locked_log.specs.States.{IsState};
 

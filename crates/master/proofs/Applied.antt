@@ -16,28 +16,28 @@ use Rattle.versioned_map.specs.declared.command.Command.{Command}
 use Rattle.versioned_map.specs.declared.command.Record.{Record}
 use Rattle.versioned_map.specs.Command.{command_key}
 use Rattle.log_head.specs.Head.{HeadValue}
-use Rattle.clean_model.specs.Memory.{Place as EntryPlace, Index, Images, grown}
-use Rattle.clean_model.specs.Steps.{next_place, index_after, images_with, index_with}
-use Rattle.failover_model.specs.Data.{Head as FailHead, front, FailData}
-use Rattle.failover_model.specs.Steps.{unit_now as log_unit, applied}
-use Rattle.failover_bytes.specs.Text.{IsWholeText}
-use Rattle.failover_clean.specs.Fleet.{HoldsAll}
-use Rattle.failover_clean.specs.Memory.{FailMemory}
-use Rattle.failover_clean.specs.Steps.{recorded, IsNamed}
-use Rattle.failover_clean.proofs.FleetSteps.{apply_holds_all}
+use Rattle.master_core.specs.clean_model.Memory.{Place as EntryPlace, Index, Images, grown}
+use Rattle.master_core.specs.clean_model.Steps.{next_place, index_after, images_with, index_with}
+use Rattle.master_core.specs.failover_model.Data.{Head as FailHead, front, FailData}
+use Rattle.master_core.specs.failover_model.Steps.{unit_now as log_unit, applied}
+use Rattle.master_core.specs.failover_bytes.Text.{IsWholeText}
+use Rattle.master_core.specs.failover_clean.Fleet.{HoldsAll}
+use Rattle.master_core.specs.failover_clean.Memory.{FailMemory}
+use Rattle.master_core.specs.failover_clean.Steps.{recorded, IsNamed}
+use Rattle.master_core.proofs.failover_clean.FleetSteps.{apply_holds_all}
 use Rattle.places.specs.declared.place.Place.{Place}
-use Rattle.master_state.specs.declared.step.StepAnswer.{StepAnswer}
-use Rattle.master_state.specs.Budget.{victims_of, survivors_of, is_committing}
-use Rattle.master_state.specs.Causes.{dead_segment, is_empty}
-use Rattle.master_state.specs.Steps.{appended, record_now, Applies, MayApplyNow}
-use Rattle.master_state.specs.Data.{MasterData}
-use Rattle.master_state.specs.Images.{images_among}
-use Rattle.master_state.specs.Invariant.{IsCore}
-use Rattle.master_state.specs.Log.{log_of, images_of, find, entry_place, rest_now, memory_of}
-use Rattle.master_commands.proofs.Adding.{same_appended, image_appended}
-use Rattle.master_commands.proofs.HeadsInForce.{open_opened}
-use Rattle.master_state.proofs.Imaging.{same_id, other_id, appended_own, appended_other}
-use Rattle.master_state.proofs.Refusals.{is_admitted, passed_early, unit_working, working_parts}
+use Rattle.master_core.specs.master_state.declared.step.StepAnswer.{StepAnswer}
+use Rattle.master_core.specs.master_state.Budget.{victims_of, survivors_of, is_committing}
+use Rattle.master_core.specs.master_state.Causes.{dead_segment, is_empty}
+use Rattle.master_core.specs.master_state.Steps.{appended, record_now, Applies, MayApplyNow}
+use Rattle.master_core.specs.master_state.Data.{MasterData}
+use Rattle.master_core.specs.master_state.Images.{images_among}
+use Rattle.master_core.specs.master_state.Invariant.{IsCore}
+use Rattle.master_core.specs.master_state.Log.{log_of, images_of, find, entry_place, rest_now, memory_of}
+use Rattle.master_core.proofs.master_commands.Adding.{same_appended, image_appended}
+use Rattle.master_core.proofs.master_commands.HeadsInForce.{open_opened}
+use Rattle.master_core.proofs.master_state.Imaging.{same_id, other_id, appended_own, appended_other}
+use Rattle.master_core.proofs.master_state.Refusals.{is_admitted, passed_early, unit_working, working_parts}
 use Rattle.master.specs.Invariant.{IsWellKept}
 use Rattle.master.specs.Placed.{IsPlaced}
 use Rattle.master.proofs.HeadTexts.{head_whole}

@@ -7,13 +7,13 @@ use Rattle.std.specs.List.{AllByRecursion, range_with_len}
 use Rattle.std.specs.Option.{option_map_or}
 use Rattle.std.proofs.lemmas.Bool.{eqb-true}
 use Rattle.std.proofs.lemmas.List.{append-nil}
-use Rattle.cleaner.specs.declared.fault.PassFault.{PassFault}
-use Rattle.cleaner.specs.declared.fault.PassFault.TheVariants.{PassOpen}
-use Rattle.cleaner.specs.declared.pass.Cursor.{Cursor}
-use Rattle.cleaner.specs.declared.pass.Pass.{Pass as OpenPass}
-use Rattle.cleaner.specs.Passes.{images_in, places_of, rest_of}
-use Rattle.cleaner.proofs.Places.{place_at, on_same, among_drop}
-use Rattle.cleaner.proofs.SurvivorIds.{among_ids}
+use Rattle.master_core.specs.cleaner.declared.fault.PassFault.{PassFault}
+use Rattle.master_core.specs.cleaner.declared.fault.PassFault.TheVariants.{PassOpen}
+use Rattle.master_core.specs.cleaner.declared.pass.Cursor.{Cursor}
+use Rattle.master_core.specs.cleaner.declared.pass.Pass.{Pass as OpenPass}
+use Rattle.master_core.specs.cleaner.Passes.{images_in, places_of, rest_of}
+use Rattle.master_core.proofs.cleaner.Places.{place_at, on_same, among_drop}
+use Rattle.master_core.proofs.cleaner.SurvivorIds.{among_ids}
 use Rattle.entry.specs.declared.entry.Entry.{Entry}
 use Rattle.entry.specs.Bag.{IsAmong}
 use Rattle.entry.specs.Text.{text_of, is_data}
@@ -25,35 +25,35 @@ use Rattle.images.specs.Sorted.{segment_of}
 use Rattle.log_head.specs.declared.head.Roll.{Roll}
 use Rattle.log_head.specs.Log.{head_of}
 use Rattle.replica.specs.Picture.{FleetState}
-use Rattle.log_model.specs.Ids.{has, all_inserted}
-use Rattle.clean_model.specs.Compaction.{places}
-use Rattle.clean_model.specs.Intact.{survivor_entries}
-use Rattle.clean_model.specs.Memory.{Place as EntryPlace, Index, Pass, StandsAt, IsAt}
-use Rattle.clean_model.specs.Steps.{survivors_begun}
-use Rattle.clean_model.proofs.KeptEntries.{has_is, is_has}
-use Rattle.failover_model.specs.Data.{FailData}
-use Rattle.failover_clean.specs.Fleet.{HoldsAll}
-use Rattle.failover_clean.specs.Memory.{Spot, FailMemory}
-use Rattle.failover_clean.specs.Steps.{ids_taken, pass_begun, MayBeginClean}
-use Rattle.failover_clean.proofs.BegunSurvivors.{begun_survivors}
-use Rattle.failover_clean.proofs.FleetSteps.{begin_holds_all}
-use Rattle.master_state.specs.declared.step.Refusal.{Refusal}
-use Rattle.master_state.specs.declared.step.Refusal.TheVariants.{Pass as PassRefused}
-use Rattle.master_state.specs.declared.step.StepAnswer.{StepAnswer}
-use Rattle.master_state.specs.Budget.{victims_of, survivors_of}
-use Rattle.master_state.specs.declared.config.Config.{Config}
-use Rattle.master_state.specs.Causes.{step_refusal, victims_fault, survivors_for, space_refusal}
-use Rattle.master_state.specs.declared.ledger.Posting.TheVariants as posting
-use Rattle.master_state.specs.Data.{MasterData}
-use Rattle.master_state.specs.Images.{survivor_images}
-use Rattle.master_state.specs.Invariant.{IsRollOf, IsCore}
-use Rattle.master_state.specs.Log.{log_of, memory_of, images_of, entry_place, position_of}
-use Rattle.master_state.specs.Steps.{fresh_pass, BeginsPass}
-use Rattle.master_state.proofs.Finding.{each_of}
-use Rattle.master_state.proofs.Imaging.{ids_in, other_id, none_above}
-use Rattle.master_state.proofs.Indexing.{Grow}
-use Rattle.master_state.proofs.Refusals.{passes}
-use Rattle.master_space.proofs.Calm.{passes_first, calm_parts}
+use Rattle.log_head.specs.log_model.Ids.{has, all_inserted}
+use Rattle.master_core.specs.clean_model.Compaction.{places}
+use Rattle.master_core.specs.clean_model.Intact.{survivor_entries}
+use Rattle.master_core.specs.clean_model.Memory.{Place as EntryPlace, Index, Pass, StandsAt, IsAt}
+use Rattle.master_core.specs.clean_model.Steps.{survivors_begun}
+use Rattle.master_core.proofs.clean_model.KeptEntries.{has_is, is_has}
+use Rattle.master_core.specs.failover_model.Data.{FailData}
+use Rattle.master_core.specs.failover_clean.Fleet.{HoldsAll}
+use Rattle.master_core.specs.failover_clean.Memory.{Spot, FailMemory}
+use Rattle.master_core.specs.failover_clean.Steps.{ids_taken, pass_begun, MayBeginClean}
+use Rattle.master_core.proofs.failover_clean.BegunSurvivors.{begun_survivors}
+use Rattle.master_core.proofs.failover_clean.FleetSteps.{begin_holds_all}
+use Rattle.master_core.specs.master_state.declared.step.Refusal.{Refusal}
+use Rattle.master_core.specs.master_state.declared.step.Refusal.TheVariants.{Pass as PassRefused}
+use Rattle.master_core.specs.master_state.declared.step.StepAnswer.{StepAnswer}
+use Rattle.master_core.specs.master_state.Budget.{victims_of, survivors_of}
+use Rattle.master_core.specs.master_state.declared.config.Config.{Config}
+use Rattle.master_core.specs.master_state.Causes.{step_refusal, victims_fault, survivors_for, space_refusal}
+use Rattle.master_core.specs.master_state.declared.ledger.Posting.TheVariants as posting
+use Rattle.master_core.specs.master_state.Data.{MasterData}
+use Rattle.master_core.specs.master_state.Images.{survivor_images}
+use Rattle.master_core.specs.master_state.Invariant.{IsRollOf, IsCore}
+use Rattle.master_core.specs.master_state.Log.{log_of, memory_of, images_of, entry_place, position_of}
+use Rattle.master_core.specs.master_state.Steps.{fresh_pass, BeginsPass}
+use Rattle.master_core.proofs.master_state.Finding.{each_of}
+use Rattle.master_core.proofs.master_state.Imaging.{ids_in, other_id, none_above}
+use Rattle.master_core.proofs.master_state.Indexing.{Grow}
+use Rattle.master_core.proofs.master_state.Refusals.{passes}
+use Rattle.master_core.proofs.master_space.Calm.{passes_first, calm_parts}
 use Rattle.master.specs.Invariant.{IsWellKept}
 use Rattle.master.specs.Placed.{IsPlaced}
 use Rattle.master.proofs.Agreeing.{Agree, agreeing_holds}

@@ -9,28 +9,28 @@ use Rattle.entry.specs.declared.entry.Entry.{Entry}
 use Rattle.entry.specs.Bag.{IsAmong}
 use Rattle.replica.specs.Picture.{FleetState}
 use Rattle.images.specs.Steps.{replaced_by}
-use Rattle.clean_model.specs.Compaction.{moved_place, kept_before}
-use Rattle.clean_model.specs.Memory.{Place as EntryPlace}
-use Rattle.clean_model.proofs.KeptEntries.{has_is}
-use Rattle.failover_model.specs.Data.{FailData}
-use Rattle.failover_clean.specs.Fleet.{HoldsAll}
-use Rattle.failover_clean.specs.Memory.{FailMemory, log_ids}
-use Rattle.failover_clean.specs.Steps.{compacted, MayCompact}
-use Rattle.failover_clean.proofs.FleetSteps.{compact_holds_all}
+use Rattle.master_core.specs.clean_model.Compaction.{moved_place, kept_before}
+use Rattle.master_core.specs.clean_model.Memory.{Place as EntryPlace}
+use Rattle.master_core.proofs.clean_model.KeptEntries.{has_is}
+use Rattle.master_core.specs.failover_model.Data.{FailData}
+use Rattle.master_core.specs.failover_clean.Fleet.{HoldsAll}
+use Rattle.master_core.specs.failover_clean.Memory.{FailMemory, log_ids}
+use Rattle.master_core.specs.failover_clean.Steps.{compacted, MayCompact}
+use Rattle.master_core.proofs.failover_clean.FleetSteps.{compact_holds_all}
 use Rattle.places.specs.declared.place.Place.{Place}
-use Rattle.compactor.specs.Kept.{kept_of}
-use Rattle.compactor.specs.Laws.{compacted_images, CompactionFollows}
-use Rattle.compactor.proofs.FollowLaw.{follows}
-use Rattle.master_state.specs.declared.step.StepAnswer.{StepAnswer}
-use Rattle.master_state.specs.Budget.{victims_of, survivors_of, is_committing}
-use Rattle.master_state.specs.Data.{MasterData}
-use Rattle.master_state.specs.Invariant.{IsCore}
-use Rattle.master_state.specs.Log.{log_of, images_of, find, entry_place, memory_of, log_set_ids}
-use Rattle.master_state.specs.Steps.{kept_now, compacted_data, Compacts}
-use Rattle.master_space.proofs.Calm.{calm_parts}
-use Rattle.master_space.proofs.CompactedCore.{IsAdmitted, admitted, in_digest, images_then}
-use Rattle.master_space.proofs.CompactedIndex.{found_elsewhere}
-use Rattle.master_state.proofs.Imaging.{other_id}
+use Rattle.master_core.specs.compactor.Kept.{kept_of}
+use Rattle.master_core.specs.compactor.Laws.{compacted_images, CompactionFollows}
+use Rattle.master_core.proofs.compactor.FollowLaw.{follows}
+use Rattle.master_core.specs.master_state.declared.step.StepAnswer.{StepAnswer}
+use Rattle.master_core.specs.master_state.Budget.{victims_of, survivors_of, is_committing}
+use Rattle.master_core.specs.master_state.Data.{MasterData}
+use Rattle.master_core.specs.master_state.Invariant.{IsCore}
+use Rattle.master_core.specs.master_state.Log.{log_of, images_of, find, entry_place, memory_of, log_set_ids}
+use Rattle.master_core.specs.master_state.Steps.{kept_now, compacted_data, Compacts}
+use Rattle.master_core.proofs.master_space.Calm.{calm_parts}
+use Rattle.master_core.proofs.master_space.CompactedCore.{IsAdmitted, admitted, in_digest, images_then}
+use Rattle.master_core.proofs.master_space.CompactedIndex.{found_elsewhere}
+use Rattle.master_core.proofs.master_state.Imaging.{other_id}
 use Rattle.master.specs.Invariant.{IsWellKept}
 use Rattle.master.specs.Placed.{IsPlaced}
 use Rattle.master.proofs.KeptByEntries.{kept_by_entries}

@@ -7,14 +7,14 @@ use Rattle.std.specs.Option.{option_map, option_map_or}
 use Rattle.std.proofs.lemmas.Bool.{eqb-true, eqb-false}
 use Rattle.std.proofs.lemmas.List.{append-nil}
 use Rattle.std.proofs.lemmas.Option.{same_Some}
-use Rattle.cleaner.specs.declared.pass.Pass.{Pass}
-use Rattle.cleaner.specs.Passes.{images_in, survivor_ids, rest_of, copy_place, images_with, held_with}
-use Rattle.cleaner.proofs.Images.{len_is, with_other, grown_own}
-use Rattle.cleaner.proofs.Places.{on_segment, among_drop}
-use Rattle.cleaner.proofs.SurvivorIds.{id_among}
-use Rattle.compactor.specs.Kept.{kept as is_kept}
-use Rattle.compactor.specs.Moved.{moved_one}
-use Rattle.compactor.specs.Places.{LiesAt, IsAtPlace, keys_in}
+use Rattle.master_core.specs.cleaner.declared.pass.Pass.{Pass}
+use Rattle.master_core.specs.cleaner.Passes.{images_in, survivor_ids, rest_of, copy_place, images_with, held_with}
+use Rattle.master_core.proofs.cleaner.Images.{len_is, with_other, grown_own}
+use Rattle.master_core.proofs.cleaner.Places.{on_segment, among_drop}
+use Rattle.master_core.proofs.cleaner.SurvivorIds.{id_among}
+use Rattle.master_core.specs.compactor.Kept.{kept as is_kept}
+use Rattle.master_core.specs.compactor.Moved.{moved_one}
+use Rattle.master_core.specs.compactor.Places.{LiesAt, IsAtPlace, keys_in}
 use Rattle.entry.specs.declared.key.Key.{Key}
 use Rattle.entry.specs.declared.entry.Entry.{Entry}
 use Rattle.entry.specs.declared.entry.Object.{Object}
@@ -29,23 +29,23 @@ use Rattle.images.specs.Sorted.{changed}
 use Rattle.images.specs.Steps.{with_unit}
 use Rattle.replica.specs.Picture.{FleetState}
 use Rattle.versioned_map.proofs.Keys.{key_eq-tells}
-use Rattle.clean_model.specs.Compaction.{kept as entry_kept}
-use Rattle.clean_model.specs.Memory.{Place as EntryPlace, Pass as PassIds, grown}
-use Rattle.clean_model.specs.Steps.{next_place, is_copied}
-use Rattle.failover_clean.specs.Fleet.{HoldsAll}
-use Rattle.failover_clean.specs.Memory.{log_ids}
-use Rattle.failover_clean.specs.Steps.{index_moved, with_copy, MayCopy}
-use Rattle.failover_clean.proofs.FleetSteps.{copy_holds_all}
-use Rattle.master_state.specs.declared.step.StepAnswer.{StepAnswer}
-use Rattle.master_state.specs.Budget.{victims_of, survivors_of}
-use Rattle.master_state.specs.Causes.{step_refusal}
-use Rattle.master_state.specs.Data.{MasterData}
-use Rattle.master_state.specs.Invariant.{IsCore}
-use Rattle.master_state.specs.Log.{log_of, memory_of, images_of, log_set_ids, entry_place, position_of}
-use Rattle.master_state.specs.Steps.{Copies}
-use Rattle.master_state.proofs.Finding.{each_of}
-use Rattle.master_state.proofs.Indexing.{Grow, key_seen}
-use Rattle.master_space.proofs.Calm.{passes_first, calm_parts}
+use Rattle.master_core.specs.clean_model.Compaction.{kept as entry_kept}
+use Rattle.master_core.specs.clean_model.Memory.{Place as EntryPlace, Pass as PassIds, grown}
+use Rattle.master_core.specs.clean_model.Steps.{next_place, is_copied}
+use Rattle.master_core.specs.failover_clean.Fleet.{HoldsAll}
+use Rattle.master_core.specs.failover_clean.Memory.{log_ids}
+use Rattle.master_core.specs.failover_clean.Steps.{index_moved, with_copy, MayCopy}
+use Rattle.master_core.proofs.failover_clean.FleetSteps.{copy_holds_all}
+use Rattle.master_core.specs.master_state.declared.step.StepAnswer.{StepAnswer}
+use Rattle.master_core.specs.master_state.Budget.{victims_of, survivors_of}
+use Rattle.master_core.specs.master_state.Causes.{step_refusal}
+use Rattle.master_core.specs.master_state.Data.{MasterData}
+use Rattle.master_core.specs.master_state.Invariant.{IsCore}
+use Rattle.master_core.specs.master_state.Log.{log_of, memory_of, images_of, log_set_ids, entry_place, position_of}
+use Rattle.master_core.specs.master_state.Steps.{Copies}
+use Rattle.master_core.proofs.master_state.Finding.{each_of}
+use Rattle.master_core.proofs.master_state.Indexing.{Grow, key_seen}
+use Rattle.master_core.proofs.master_space.Calm.{passes_first, calm_parts}
 use Rattle.master.specs.Invariant.{IsWellKept}
 use Rattle.master.specs.Placed.{IsPlaced}
 use Rattle.master.proofs.Agreeing.{Agree, agreeing_holds}

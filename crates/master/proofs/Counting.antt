@@ -12,19 +12,19 @@ use Rattle.replica.specs.Picture.{FleetState}
 use Rattle.log_head.specs.Head.{is_open, everywhere}
 use Rattle.log_head.specs.Log.{head_of}
 use Rattle.log_head.proofs.HeadLog.{count_is}
-use Rattle.log_model.specs.Data.{Start, LogUnit, fewest, records_before}
-use Rattle.log_model.specs.Ids.{has, without}
-use Rattle.failover_model.specs.Data.{Head, HasTaken, homes, new_of, is_settled, durable_of, taken_records}
-use Rattle.failover_model.specs.Log.{Texts, IsLogHeld}
-use Rattle.failover_model.specs.Shown.{Shown}
-use Rattle.failover_clean.specs.Fleet.{read_of, KeepsAll, HoldsLoading}
-use Rattle.master_state.specs.declared.config.Config.{Config}
-use Rattle.master_state.specs.declared.failover.Failover.{Failover}
-use Rattle.master_state.specs.Causes.{is_pushed, is_done}
-use Rattle.master_state.specs.Data.{MasterData}
-use Rattle.master_state.specs.Invariant.{IsCore}
-use Rattle.master_state.specs.Ledger.{took_in, counts_in}
-use Rattle.master_state.specs.Log.{home, placed, is_opened, log_of, memory_of, durable_now}
+use Rattle.log_head.specs.log_model.Data.{Start, LogUnit, fewest, records_before}
+use Rattle.log_head.specs.log_model.Ids.{has, without}
+use Rattle.master_core.specs.failover_model.Data.{Head, HasTaken, homes, new_of, is_settled, durable_of, taken_records}
+use Rattle.master_core.specs.failover_model.Log.{Texts, IsLogHeld}
+use Rattle.master_core.specs.failover_model.Shown.{Shown}
+use Rattle.master_core.specs.failover_clean.Fleet.{read_of, KeepsAll, HoldsLoading}
+use Rattle.master_core.specs.master_state.declared.config.Config.{Config}
+use Rattle.master_core.specs.master_state.declared.failover.Failover.{Failover}
+use Rattle.master_core.specs.master_state.Causes.{is_pushed, is_done}
+use Rattle.master_core.specs.master_state.Data.{MasterData}
+use Rattle.master_core.specs.master_state.Invariant.{IsCore}
+use Rattle.master_core.specs.master_state.Ledger.{took_in, counts_in}
+use Rattle.master_core.specs.master_state.Log.{home, placed, is_opened, log_of, memory_of, durable_now}
 use Rattle.master.specs.Placed.{holders, IsPlaced}
 use Rattle.master.proofs.InForce.{open_or, headed_or, force_headed, force_headless, headed, headless, never_fails}
 use Rattle.master.proofs.InForce.{calm_settled, fails}

@@ -7,39 +7,39 @@ use Rattle.std.specs.Option.{option_map, option_map_or}
 use Rattle.std.proofs.lemmas.Bool.{and_parts}
 use Rattle.std.proofs.lemmas.List.{map-append}
 use Rattle.std.proofs.lemmas.Option.{same_Some}
-use Rattle.cleaner.specs.declared.pass.Pass.{Pass as OpenPass}
+use Rattle.master_core.specs.cleaner.declared.pass.Pass.{Pass as OpenPass}
 use Rattle.entry.specs.declared.key.Key.{Key}
 use Rattle.entry.specs.declared.entry.Entry.{Entry}
 use Rattle.entry.specs.Bag.{IsAmong}
 use Rattle.entry.proofs.BagLemmas.{among_left, among_right, among_either}
 use Rattle.places.specs.declared.place.Place.{Place}
 use Rattle.places.specs.Map.{found}
-use Rattle.compactor.specs.Places.{keys_in}
+use Rattle.master_core.specs.compactor.Places.{keys_in}
 use Rattle.log_head.specs.declared.head.Roll.{Roll}
 use Rattle.log_head.specs.Steps.{in_force}
-use Rattle.log_model.specs.Ids.{has, without}
-use Rattle.clean_model.specs.Memory.{Place as EntryPlace}
-use Rattle.clean_model.proofs.KeptEntries.{is_has}
-use Rattle.failover_model.specs.Data.{FailData, homes}
-use Rattle.failover_clean.specs.Memory.{Spot}
-use Rattle.failover_clean.specs.Steps.{spots_of, finished}
-use Rattle.master_state.specs.declared.config.Config.{Config}
-use Rattle.master_state.specs.declared.ledger.Posting.{Posting}
-use Rattle.master_state.specs.declared.waiting.Waiting.{Waiting}
-use Rattle.master_state.specs.Budget.{victims_of, survivors_of, is_committing}
-use Rattle.master_state.specs.Data.{MasterData}
+use Rattle.log_head.specs.log_model.Ids.{has, without}
+use Rattle.master_core.specs.clean_model.Memory.{Place as EntryPlace}
+use Rattle.master_core.proofs.clean_model.KeptEntries.{is_has}
+use Rattle.master_core.specs.failover_model.Data.{FailData, homes}
+use Rattle.master_core.specs.failover_clean.Memory.{Spot}
+use Rattle.master_core.specs.failover_clean.Steps.{spots_of, finished}
+use Rattle.master_core.specs.master_state.declared.config.Config.{Config}
+use Rattle.master_core.specs.master_state.declared.ledger.Posting.{Posting}
+use Rattle.master_core.specs.master_state.declared.waiting.Waiting.{Waiting}
+use Rattle.master_core.specs.master_state.Budget.{victims_of, survivors_of, is_committing}
+use Rattle.master_core.specs.master_state.Data.{MasterData}
 use Rattle.images.specs.Image.{Image, closed_image}
-use Rattle.master_state.specs.Images.{with_closed, waiting_for, leaving}
-use Rattle.master_state.specs.Invariant.{AreApart, IsCore}
-use Rattle.master_state.specs.Ledger.{took_in}
-use Rattle.master_state.specs.Log.{image_of, images_of, find, entry_place, home, placed, spots_from, spots_in}
-use Rattle.master_state.specs.Log.{memory_of}
-use Rattle.master_state.specs.Steps.{pass_ended}
-use Rattle.master_space.proofs.Committed.{image_gone, image_stays}
-use Rattle.master_state.proofs.Imaging.{ids_in}
-use Rattle.master_state.proofs.LogIds.{open_of, closed_rise, no_head}
-use Rattle.master_state.proofs.Rising.{Rise, has_not, rise_put}
-use Rattle.master_space.proofs.RollEnds.{added_ids, closed_images}
+use Rattle.master_core.specs.master_state.Images.{with_closed, waiting_for, leaving}
+use Rattle.master_core.specs.master_state.Invariant.{AreApart, IsCore}
+use Rattle.master_core.specs.master_state.Ledger.{took_in}
+use Rattle.master_core.specs.master_state.Log.{image_of, images_of, find, entry_place, home, placed, spots_from, spots_in}
+use Rattle.master_core.specs.master_state.Log.{memory_of}
+use Rattle.master_core.specs.master_state.Steps.{pass_ended}
+use Rattle.master_core.proofs.master_space.Committed.{image_gone, image_stays}
+use Rattle.master_core.proofs.master_state.Imaging.{ids_in}
+use Rattle.master_core.proofs.master_state.LogIds.{open_of, closed_rise, no_head}
+use Rattle.master_core.proofs.master_state.Rising.{Rise, has_not, rise_put}
+use Rattle.master_core.proofs.master_space.RollEnds.{added_ids, closed_images}
 use Rattle.master.specs.Placed.{holders, IsPlaced}
 use Rattle.master.proofs.Models.{among_map, map_among, IsModel, LeavesPass, rest_stays, is_model}
 use Rattle.master.proofs.NextOps.{roll_of}

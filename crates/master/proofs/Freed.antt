@@ -13,27 +13,27 @@ use Rattle.replica.specs.Picture.{FleetState}
 use Rattle.replica.specs.Take.{Takes, Refuses}
 use Rattle.replica.specs.declared.op.TakeFault.{TakeFault}
 use Rattle.replica.specs.declared.op.TakeFault.TheVariants as take_fault
-use Rattle.log_model.specs.Ids.{has}
-use Rattle.log_model.specs.Ops.{op_of}
-use Rattle.clean_model.proofs.KeptEntries.{has_is}
-use Rattle.failover_model.specs.Shown.{Free as FreeAct}
-use Rattle.failover_bytes.specs.Ops.{log_op_for}
-use Rattle.failover_clean.specs.Fleet.{HoldsAll}
-use Rattle.failover_clean.specs.Memory.{Spot, FailMemory}
-use Rattle.failover_clean.specs.Ops.{IsOp}
-use Rattle.failover_clean.specs.Steps.{MayFree, free_op, freed, is_spot}
-use Rattle.failover_clean.proofs.FleetAnswers.{ok_holds_all}
-use Rattle.master_state.specs.declared.config.Config.{Config}
-use Rattle.master_state.specs.declared.step.Step.TheVariants.{Free}
-use Rattle.master_state.specs.declared.step.StepAnswer.TheVariants.{Freed as StepFreed}
-use Rattle.master_state.specs.declared.waiting.Waiting.{Waiting}
-use Rattle.master_state.specs.Causes.{free_refusal, step_refusal}
-use Rattle.master_state.specs.Data.{MasterData}
-use Rattle.master_state.specs.Invariant.{AreApart, IsCore}
-use Rattle.master_state.specs.Log.{log_of, memory_of, home, spots_from, spots_in}
-use Rattle.master_state.specs.Steps.{freed_one, freed_data, refusal_of, failed_data}
-use Rattle.master_state.specs.Waits.{next_free}
-use Rattle.master_space.proofs.Calm.{passes_first, calm_parts}
+use Rattle.log_head.specs.log_model.Ids.{has}
+use Rattle.log_head.specs.log_model.Ops.{op_of}
+use Rattle.master_core.proofs.clean_model.KeptEntries.{has_is}
+use Rattle.master_core.specs.failover_model.Shown.{Free as FreeAct}
+use Rattle.master_core.specs.failover_bytes.Ops.{log_op_for}
+use Rattle.master_core.specs.failover_clean.Fleet.{HoldsAll}
+use Rattle.master_core.specs.failover_clean.Memory.{Spot, FailMemory}
+use Rattle.master_core.specs.failover_clean.Ops.{IsOp}
+use Rattle.master_core.specs.failover_clean.Steps.{MayFree, free_op, freed, is_spot}
+use Rattle.master_core.proofs.failover_clean.FleetAnswers.{ok_holds_all}
+use Rattle.master_core.specs.master_state.declared.config.Config.{Config}
+use Rattle.master_core.specs.master_state.declared.step.Step.TheVariants.{Free}
+use Rattle.master_core.specs.master_state.declared.step.StepAnswer.TheVariants.{Freed as StepFreed}
+use Rattle.master_core.specs.master_state.declared.waiting.Waiting.{Waiting}
+use Rattle.master_core.specs.master_state.Causes.{free_refusal, step_refusal}
+use Rattle.master_core.specs.master_state.Data.{MasterData}
+use Rattle.master_core.specs.master_state.Invariant.{AreApart, IsCore}
+use Rattle.master_core.specs.master_state.Log.{log_of, memory_of, home, spots_from, spots_in}
+use Rattle.master_core.specs.master_state.Steps.{freed_one, freed_data, refusal_of, failed_data}
+use Rattle.master_core.specs.master_state.Waits.{next_free}
+use Rattle.master_core.proofs.master_space.Calm.{passes_first, calm_parts}
 use Rattle.master.specs.Invariant.{IsWellKept}
 use Rattle.master.specs.Passes.{IsFreeOp, Frees}
 use Rattle.master.specs.Placed.{IsPlaced}

@@ -4,36 +4,36 @@ use Rattle.std.proofs.Common.{subst, ◌∙◌, arith}
 use Rattle.std.specs.Prelude.{Option, Some, None, IsSome, Result, Ok, Err, ◌==◌, if◌then◌else◌}
 use Rattle.std.specs.Option.{option_map_or}
 use Rattle.entry.specs.declared.entry.Entry.{Entry}
-use Rattle.cleaner.specs.declared.pass.Pass.{Pass as OpenPass}
+use Rattle.master_core.specs.cleaner.declared.pass.Pass.{Pass as OpenPass}
 use Rattle.log_head.specs.declared.head.Roll.{Roll}
 use Rattle.log_head.specs.declared.next.Next.{Next}
 use Rattle.log_head.specs.declared.next.Next.TheVariants as next
 use Rattle.log_head.specs.Steps.{with_new_replica, with_closed_replica, old_image}
-use Rattle.failover_model.specs.Shown.{Op}
+use Rattle.master_core.specs.failover_model.Shown.{Op}
 use Rattle.versioned_map.specs.declared.command.Command.{Command}
 use Rattle.images.specs.Sorted.{changed}
 use Rattle.images.specs.Steps.{more_replicas}
-use Rattle.master_state.specs.declared.failover.Failover.{Failover}
-use Rattle.master_state.specs.declared.ledger.Posting.TheVariants as posting
-use Rattle.master_state.specs.declared.step.Refusal.{Refusal}
-use Rattle.master_state.specs.declared.step.Refusal.TheVariants as refusal
-use Rattle.master_state.specs.declared.step.Step.{Step}
-use Rattle.master_state.specs.declared.step.Step.TheVariants.{Apply, Push, BeginRoll, Compact, BeginClean, Copy, Seal}
-use Rattle.master_state.specs.declared.step.Step.TheVariants.{Free}
-use Rattle.master_state.specs.declared.step.StepAnswer.{StepAnswer}
-use Rattle.master_state.specs.Causes.{is_empty, step_refusal, unit_now}
-use Rattle.master_state.specs.Data.{MasterData}
-use Rattle.master_state.specs.Images.{with_closed}
-use Rattle.master_state.specs.Invariant.{IsCore}
-use Rattle.master_state.specs.Ledger.{posted}
-use Rattle.master_state.specs.Log.{home}
-use Rattle.master_state.specs.Steps.{appended, closed_data, halted, ledger_after, pass_ended, pushed_data, roll_ended}
-use Rattle.master_state.specs.Steps.{sealed_data, taken_data, Applies}
-use Rattle.master_state.specs.Waits.{next_seal}
-use Rattle.master_state.proofs.Refusals.{may_begin, unit_working, working_parts}
-use Rattle.master_space.proofs.Calm.{calm_parts, passes_first}
-use Rattle.master_mending.specs.Left.{left_in, left_now}
-use Rattle.master_mending.proofs.LeftSteps.{mend_lowers, turn_lowers}
+use Rattle.master_core.specs.master_state.declared.failover.Failover.{Failover}
+use Rattle.master_core.specs.master_state.declared.ledger.Posting.TheVariants as posting
+use Rattle.master_core.specs.master_state.declared.step.Refusal.{Refusal}
+use Rattle.master_core.specs.master_state.declared.step.Refusal.TheVariants as refusal
+use Rattle.master_core.specs.master_state.declared.step.Step.{Step}
+use Rattle.master_core.specs.master_state.declared.step.Step.TheVariants.{Apply, Push, BeginRoll, Compact, BeginClean, Copy, Seal}
+use Rattle.master_core.specs.master_state.declared.step.Step.TheVariants.{Free}
+use Rattle.master_core.specs.master_state.declared.step.StepAnswer.{StepAnswer}
+use Rattle.master_core.specs.master_state.Causes.{is_empty, step_refusal, unit_now}
+use Rattle.master_core.specs.master_state.Data.{MasterData}
+use Rattle.master_core.specs.master_state.Images.{with_closed}
+use Rattle.master_core.specs.master_state.Invariant.{IsCore}
+use Rattle.master_core.specs.master_state.Ledger.{posted}
+use Rattle.master_core.specs.master_state.Log.{home}
+use Rattle.master_core.specs.master_state.Steps.{appended, closed_data, halted, ledger_after, pass_ended, pushed_data, roll_ended}
+use Rattle.master_core.specs.master_state.Steps.{sealed_data, taken_data, Applies}
+use Rattle.master_core.specs.master_state.Waits.{next_seal}
+use Rattle.master_core.proofs.master_state.Refusals.{may_begin, unit_working, working_parts}
+use Rattle.master_core.proofs.master_space.Calm.{calm_parts, passes_first}
+use Rattle.master_core.specs.master_mending.Left.{left_in, left_now}
+use Rattle.master_core.proofs.master_mending.LeftSteps.{mend_lowers, turn_lowers}
 use Rattle.master.specs.Invariant.{IsWellKept}
 use Rattle.master.specs.Left.{GoesOn}
 use Rattle.master.specs.Mends.{MendsOn}

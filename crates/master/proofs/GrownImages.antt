@@ -5,17 +5,17 @@ use Rattle.std.specs.Option.{option_map}
 use Rattle.entry.specs.declared.key.Key.{Key}
 use Rattle.entry.specs.declared.entry.Entry.{Entry}
 use Rattle.entry.specs.Meaning.{Versioned, object_at}
-use Rattle.clean_model.specs.Memory.{Place as EntryPlace}
+use Rattle.master_core.specs.clean_model.Memory.{Place as EntryPlace}
 use Rattle.places.specs.declared.place.Place.{Place}
 use Rattle.places.specs.Relocation.{names}
 use Rattle.places.proofs.Words.{named_found, found_named}
-use Rattle.compactor.specs.Places.{LiesAt, IsAtPlace, keys_in}
-use Rattle.master_state.specs.Data.{MasterData}
-use Rattle.master_state.specs.Index.{LiesFound}
-use Rattle.master_state.specs.Invariant.{IsCore}
-use Rattle.master_state.specs.Log.{images_of, find, state_now, entry_place, memory_of}
-use Rattle.master_state.proofs.Finding.{each_of, found_place}
-use Rattle.master_state.proofs.Indexing.{Grow, key_seen}
+use Rattle.master_core.specs.compactor.Places.{LiesAt, IsAtPlace, keys_in}
+use Rattle.master_core.specs.master_state.Data.{MasterData}
+use Rattle.master_core.specs.master_state.Index.{LiesFound}
+use Rattle.master_core.specs.master_state.Invariant.{IsCore}
+use Rattle.master_core.specs.master_state.Log.{images_of, find, state_now, entry_place, memory_of}
+use Rattle.master_core.proofs.master_state.Finding.{each_of, found_place}
+use Rattle.master_core.proofs.master_state.Indexing.{Grow, key_seen}
 use Rattle.master.proofs.KeptByEntries.{position_is}
 
 -- an entry stays where it is if there is more behind

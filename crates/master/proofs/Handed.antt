@@ -9,29 +9,29 @@ use Rattle.replica.specs.Registry.{Raises, RefusesRaise}
 use Rattle.replica.specs.Take.{Refuses, taken, with_effect, effect}
 use Rattle.replica.specs.declared.op.TakeFault.{TakeFault}
 use Rattle.replica.specs.declared.op.TakeFault.TheVariants as take_fault
-use Rattle.log_model.specs.Ids.{has}
-use Rattle.log_model.specs.Ops.{op_of}
-use Rattle.failover_model.specs.Data.{FailData}
-use Rattle.failover_model.specs.Shown.{Act, Op, On, Raise}
-use Rattle.failover_bytes.specs.Ops.{log_op_for, RefusesOp}
-use Rattle.failover_clean.specs.Fleet.{HoldsAll, KeepsAll}
-use Rattle.failover_clean.specs.Loading.{IsLoadingOp}
-use Rattle.failover_clean.specs.Memory.{FailMemory}
-use Rattle.failover_clean.specs.Ops.{IsOp}
-use Rattle.failover_clean.proofs.FleetAnswers.{fault_keeps_all, op_is_never_wrong}
-use Rattle.failover_clean.proofs.LoadingFleets.{loading_is_never_wrong, repair_is_never_wrong}
-use Rattle.master_state.specs.declared.config.Config.{Config}
-use Rattle.master_state.specs.declared.failover.Failover.{Failover}
-use Rattle.master_state.specs.declared.step.Refusal.{Refusal}
-use Rattle.master_state.specs.declared.step.Refusal.TheVariants as refusal
-use Rattle.master_state.specs.declared.waiting.Waiting.{Waiting}
-use Rattle.master_state.specs.Causes.{is_done, is_pushed}
-use Rattle.master_state.specs.Data.{MasterData}
-use Rattle.master_state.specs.Invariant.{AreApart, IsCore}
-use Rattle.master_state.specs.Loading.{IsBare}
-use Rattle.master_state.specs.Log.{log_of, memory_of}
-use Rattle.master_state.specs.Steps.{halted, lost_data, may_lose, refusal_of, failed_data}
-use Rattle.master_state.proofs.Posted.{halted_core}
+use Rattle.log_head.specs.log_model.Ids.{has}
+use Rattle.log_head.specs.log_model.Ops.{op_of}
+use Rattle.master_core.specs.failover_model.Data.{FailData}
+use Rattle.master_core.specs.failover_model.Shown.{Act, Op, On, Raise}
+use Rattle.master_core.specs.failover_bytes.Ops.{log_op_for, RefusesOp}
+use Rattle.master_core.specs.failover_clean.Fleet.{HoldsAll, KeepsAll}
+use Rattle.master_core.specs.failover_clean.Loading.{IsLoadingOp}
+use Rattle.master_core.specs.failover_clean.Memory.{FailMemory}
+use Rattle.master_core.specs.failover_clean.Ops.{IsOp}
+use Rattle.master_core.proofs.failover_clean.FleetAnswers.{fault_keeps_all, op_is_never_wrong}
+use Rattle.master_core.proofs.failover_clean.LoadingFleets.{loading_is_never_wrong, repair_is_never_wrong}
+use Rattle.master_core.specs.master_state.declared.config.Config.{Config}
+use Rattle.master_core.specs.master_state.declared.failover.Failover.{Failover}
+use Rattle.master_core.specs.master_state.declared.step.Refusal.{Refusal}
+use Rattle.master_core.specs.master_state.declared.step.Refusal.TheVariants as refusal
+use Rattle.master_core.specs.master_state.declared.waiting.Waiting.{Waiting}
+use Rattle.master_core.specs.master_state.Causes.{is_done, is_pushed}
+use Rattle.master_core.specs.master_state.Data.{MasterData}
+use Rattle.master_core.specs.master_state.Invariant.{AreApart, IsCore}
+use Rattle.master_core.specs.master_state.Loading.{IsBare}
+use Rattle.master_core.specs.master_state.Log.{log_of, memory_of}
+use Rattle.master_core.specs.master_state.Steps.{halted, lost_data, may_lose, refusal_of, failed_data}
+use Rattle.master_core.proofs.master_state.Posted.{halted_core}
 use Rattle.master.specs.Invariant.{IsWellKept, IsWellLoaded}
 use Rattle.master.specs.Placed.{IsPlaced}
 use Rattle.master.specs.Steps.{FailsTake}

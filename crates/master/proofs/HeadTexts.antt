@@ -12,13 +12,13 @@ use Rattle.entry.specs.Limits.{IsListed}
 use Rattle.entry.specs.Text.{text_of, IsSegment}
 use Rattle.segment.proofs.UnitLemmas.{head_few}
 use Rattle.log_head.specs.Log.{head_of}
-use Rattle.log_model.specs.Data.{Start, digest_for, start_entries, head_entries}
-use Rattle.failover_model.specs.Data.{Head, front, bare}
-use Rattle.failover_model.specs.Steps.{no_head}
-use Rattle.failover_bytes.specs.Text.{IsWholeText}
-use Rattle.master_state.specs.Data.{MasterData}
-use Rattle.master_state.specs.Invariant.{IsCore}
-use Rattle.master_state.specs.Log.{log_of}
+use Rattle.log_head.specs.log_model.Data.{Start, digest_for, start_entries, head_entries}
+use Rattle.master_core.specs.failover_model.Data.{Head, front, bare}
+use Rattle.master_core.specs.failover_model.Steps.{no_head}
+use Rattle.master_core.specs.failover_bytes.Text.{IsWholeText}
+use Rattle.master_core.specs.master_state.Data.{MasterData}
+use Rattle.master_core.specs.master_state.Invariant.{IsCore}
+use Rattle.master_core.specs.master_state.Log.{log_of}
 use Rattle.master.proofs.InForce.{headed_or, real_head, force_headed, force_headless}
 
 -- the text of the head that stands for none is one

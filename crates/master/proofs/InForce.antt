@@ -9,17 +9,17 @@ use Rattle.entry.specs.Text.{Opening, opening_of}
 use Rattle.log_head.specs.declared.head.Roll.{Roll}
 use Rattle.log_head.specs.Head.{HeadValue, IsRollValue}
 use Rattle.log_head.specs.Log.{head_of, start_in, start_of}
-use Rattle.log_model.specs.Data.{ids_of}
-use Rattle.failover_model.specs.Data.{Head, Mode, Calm, Rolls, new_of, is_failing, is_settled}
-use Rattle.failover_model.specs.Steps.{no_head, ids_now}
-use Rattle.failover_clean.proofs.Ids.{now_is}
-use Rattle.master_state.specs.declared.failover.Failover.{Failover}
-use Rattle.master_state.specs.declared.failover.Part.{Part}
-use Rattle.master_state.specs.declared.failover.Part.TheVariants as part
-use Rattle.master_state.specs.Data.{MasterData}
-use Rattle.master_state.specs.Invariant.{IsFailover, IsCore}
-use Rattle.master_state.specs.Log.{is_opened, is_headless, in_force, calm_mode, new_start, failing_mode, mode_of}
-use Rattle.master_state.specs.Log.{log_of}
+use Rattle.log_head.specs.log_model.Data.{ids_of}
+use Rattle.master_core.specs.failover_model.Data.{Head, Mode, Calm, Rolls, new_of, is_failing, is_settled}
+use Rattle.master_core.specs.failover_model.Steps.{no_head, ids_now}
+use Rattle.master_core.proofs.failover_clean.Ids.{now_is}
+use Rattle.master_core.specs.master_state.declared.failover.Failover.{Failover}
+use Rattle.master_core.specs.master_state.declared.failover.Part.{Part}
+use Rattle.master_core.specs.master_state.declared.failover.Part.TheVariants as part
+use Rattle.master_core.specs.master_state.Data.{MasterData}
+use Rattle.master_core.specs.master_state.Invariant.{IsFailover, IsCore}
+use Rattle.master_core.specs.master_state.Log.{is_opened, is_headless, in_force, calm_mode, new_start, failing_mode, mode_of}
+use Rattle.master_core.specs.master_state.Log.{log_of}
 
 pub open_or : (h : HeadValue) → (is_opened h ≡ true) ⊎ (is_opened h ≡ false)
 open_or h = go (is_opened h) refl where

@@ -6,7 +6,7 @@ use Rattle.std.specs.Prelude.{Option, Some, None, IsSome, Result, Ok, Err, nat_l
 use Rattle.std.specs.Option.{option_map_or}
 use Rattle.std.proofs.lemmas.List.{append-nil, length-append}
 use Rattle.std.proofs.lemmas.Option.{same_Some}
-use Rattle.cleaner.specs.declared.pass.Pass.{Pass}
+use Rattle.master_core.specs.cleaner.declared.pass.Pass.{Pass}
 use Rattle.images.specs.Sorted.{changed}
 use Rattle.images.specs.Steps.{more_replicas}
 use Rattle.entry.specs.declared.entry.Entry.{Entry}
@@ -18,46 +18,46 @@ use Rattle.replica.specs.Registry.{Raises, RefusesRaise}
 use Rattle.replica.specs.Take.{Refuses, taken, with_effect, effect, faulted}
 use Rattle.replica.specs.declared.op.TakeFault.TheVariants as take_fault
 use Rattle.versioned_map.specs.declared.command.Command.{Command}
-use Rattle.log_model.specs.Data.{Start, ids_of}
-use Rattle.log_model.specs.Ops.{op_of}
-use Rattle.log_model.proofs.Pictures.{place_tells}
-use Rattle.failover_model.specs.Data.{Calm, Mode, FailData, new_of, is_failing, taken_records, durable_of}
-use Rattle.failover_model.specs.Runs.{IsThere, World as ModelWorld, Applies as AppliesThere, Takes as TakesThere}
-use Rattle.failover_model.specs.Shown.{Op, On, Raise, Shown as ModelShown}
-use Rattle.failover_model.specs.Steps.{with_taken, applied as log_applied, ended, MayApply, Extends, OpensNew}
-use Rattle.failover_model.specs.Steps.{ClosesOld}
-use Rattle.failover_model.specs.Text.{Replica as ModelReplica}
-use Rattle.failover_model.proofs.DurableSteps.{durable_stays, durable_is_within}
-use Rattle.failover_bytes.specs.Ops.{log_op_for, TakesOp, RefusesOp}
-use Rattle.failover_clean.specs.Fleet.{read_of}
-use Rattle.failover_clean.specs.Intact.{IsIntact, Knows}
-use Rattle.failover_clean.specs.Memory.{FailMemory}
-use Rattle.failover_clean.proofs.OpsKeep.{op_fits}
-use Rattle.master_state.specs.declared.step.Refusal.{Refusal}
-use Rattle.master_state.specs.declared.step.Refusal.TheVariants as refusal
-use Rattle.master_state.specs.declared.step.Step.{Step}
-use Rattle.master_state.specs.declared.step.Step.TheVariants.{Apply, Push, BeginRoll, Compact, BeginClean, Copy, Seal}
-use Rattle.master_state.specs.declared.step.Step.TheVariants.{Free}
-use Rattle.master_state.specs.declared.step.StepAnswer.{StepAnswer}
-use Rattle.master_state.specs.declared.step.StepAnswer.TheVariants.{Applied, Opened, Extended, Closed, Rolling}
-use Rattle.master_state.specs.declared.step.StepAnswer.TheVariants.{Compacted}
-use Rattle.master_state.specs.declared.step.StepAnswer.TheVariants.{Begun, Moved, Carried, Dropped, Sealed, Freed}
-use Rattle.master_state.specs.declared.step.StepAnswer.TheVariants.{Raised, Repaired}
-use Rattle.master_state.specs.declared.failover.Failover.{Failover}
-use Rattle.master_state.specs.declared.ledger.Posting.TheVariants as posting
-use Rattle.master_state.specs.Budget.{survivors_of}
-use Rattle.master_state.specs.Causes.{dead_segment, survivors_for, command_refusal, step_refusal, unit_now, is_empty}
-use Rattle.master_state.specs.Data.{MasterData}
-use Rattle.master_state.specs.Ledger.{forgotten, took_in, shut_in, posted}
-use Rattle.master_state.specs.Log.{home, mode_of, durable_now, log_of, memory_of}
-use Rattle.master_state.specs.Steps.{Applies, BeginsRoll, Compacts, BeginsPass, Copies, record_now, rolling_data}
-use Rattle.master_state.specs.Steps.{sealed_data, lost_data}
-use Rattle.master_state.specs.Waits.{next_seal}
-use Rattle.master_state.proofs.Imaging.{other_id}
-use Rattle.master_state.proofs.Refusals.{is_admitted, passed_early, unit_working, working_parts, may_begin}
-use Rattle.master_commands.proofs.HeadsInForce.{open_calm}
-use Rattle.master_space.proofs.Calm.{passes_first, calm_parts}
-use Rattle.master_space.proofs.SealedCore.{seals_next}
+use Rattle.log_head.specs.log_model.Data.{Start, ids_of}
+use Rattle.log_head.specs.log_model.Ops.{op_of}
+use Rattle.log_head.proofs.log_model.Pictures.{place_tells}
+use Rattle.master_core.specs.failover_model.Data.{Calm, Mode, FailData, new_of, is_failing, taken_records, durable_of}
+use Rattle.master_core.specs.failover_model.Runs.{IsThere, World as ModelWorld, Applies as AppliesThere, Takes as TakesThere}
+use Rattle.master_core.specs.failover_model.Shown.{Op, On, Raise, Shown as ModelShown}
+use Rattle.master_core.specs.failover_model.Steps.{with_taken, applied as log_applied, ended, MayApply, Extends, OpensNew}
+use Rattle.master_core.specs.failover_model.Steps.{ClosesOld}
+use Rattle.master_core.specs.failover_model.Text.{Replica as ModelReplica}
+use Rattle.master_core.proofs.failover_model.DurableSteps.{durable_stays, durable_is_within}
+use Rattle.master_core.specs.failover_bytes.Ops.{log_op_for, TakesOp, RefusesOp}
+use Rattle.master_core.specs.failover_clean.Fleet.{read_of}
+use Rattle.master_core.specs.failover_clean.Intact.{IsIntact, Knows}
+use Rattle.master_core.specs.failover_clean.Memory.{FailMemory}
+use Rattle.master_core.proofs.failover_clean.OpsKeep.{op_fits}
+use Rattle.master_core.specs.master_state.declared.step.Refusal.{Refusal}
+use Rattle.master_core.specs.master_state.declared.step.Refusal.TheVariants as refusal
+use Rattle.master_core.specs.master_state.declared.step.Step.{Step}
+use Rattle.master_core.specs.master_state.declared.step.Step.TheVariants.{Apply, Push, BeginRoll, Compact, BeginClean, Copy, Seal}
+use Rattle.master_core.specs.master_state.declared.step.Step.TheVariants.{Free}
+use Rattle.master_core.specs.master_state.declared.step.StepAnswer.{StepAnswer}
+use Rattle.master_core.specs.master_state.declared.step.StepAnswer.TheVariants.{Applied, Opened, Extended, Closed, Rolling}
+use Rattle.master_core.specs.master_state.declared.step.StepAnswer.TheVariants.{Compacted}
+use Rattle.master_core.specs.master_state.declared.step.StepAnswer.TheVariants.{Begun, Moved, Carried, Dropped, Sealed, Freed}
+use Rattle.master_core.specs.master_state.declared.step.StepAnswer.TheVariants.{Raised, Repaired}
+use Rattle.master_core.specs.master_state.declared.failover.Failover.{Failover}
+use Rattle.master_core.specs.master_state.declared.ledger.Posting.TheVariants as posting
+use Rattle.master_core.specs.master_state.Budget.{survivors_of}
+use Rattle.master_core.specs.master_state.Causes.{dead_segment, survivors_for, command_refusal, step_refusal, unit_now, is_empty}
+use Rattle.master_core.specs.master_state.Data.{MasterData}
+use Rattle.master_core.specs.master_state.Ledger.{forgotten, took_in, shut_in, posted}
+use Rattle.master_core.specs.master_state.Log.{home, mode_of, durable_now, log_of, memory_of}
+use Rattle.master_core.specs.master_state.Steps.{Applies, BeginsRoll, Compacts, BeginsPass, Copies, record_now, rolling_data}
+use Rattle.master_core.specs.master_state.Steps.{sealed_data, lost_data}
+use Rattle.master_core.specs.master_state.Waits.{next_seal}
+use Rattle.master_core.proofs.master_state.Imaging.{other_id}
+use Rattle.master_core.proofs.master_state.Refusals.{is_admitted, passed_early, unit_working, working_parts, may_begin}
+use Rattle.master_core.proofs.master_commands.HeadsInForce.{open_calm}
+use Rattle.master_core.proofs.master_space.Calm.{passes_first, calm_parts}
+use Rattle.master_core.proofs.master_space.SealedCore.{seals_next}
 use Rattle.master.specs.Invariant.{IsWellKept}
 use Rattle.master.specs.Keeps.{Keeps}
 use Rattle.master.specs.Passes.{IsSealOp, Seals, IsFreeOp, Frees}

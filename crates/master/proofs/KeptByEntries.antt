@@ -16,19 +16,19 @@ use Rattle.entry.specs.Text.{text_of, entries_in}
 use Rattle.entry.proofs.ListLemmas.{all_split}
 use Rattle.entry.proofs.TextLemmas.{entries_in-text}
 use Rattle.segment.proofs.RowLemmas.{text_of-append}
-use Rattle.log_model.specs.Ids.{has}
-use Rattle.clean_model.specs.Compaction.{is_place, kept as entry_kept, kept_from as entries_kept}
-use Rattle.clean_model.specs.Memory.{IsAt, Index as EntryIndex}
+use Rattle.log_head.specs.log_model.Ids.{has}
+use Rattle.master_core.specs.clean_model.Compaction.{is_place, kept as entry_kept, kept_from as entries_kept}
+use Rattle.master_core.specs.clean_model.Memory.{IsAt, Index as EntryIndex}
 use Rattle.places.specs.declared.place.Place.{Place}
 use Rattle.places.specs.Relocation.{names}
 use Rattle.places.proofs.Words.{named_found, found_named}
-use Rattle.compactor.specs.Kept.{has_id, kept, kept_from, kept_of, entries_before}
-use Rattle.compactor.specs.Places.{LiesAt, IsAtPlace, keys_in}
-use Rattle.master_state.specs.Data.{MasterData}
-use Rattle.master_state.specs.Invariant.{IsCore}
-use Rattle.master_state.specs.Log.{images_of, find, state_now, position_of, entry_place, memory_of}
-use Rattle.master_state.proofs.Finding.{each_of}
-use Rattle.master_state.proofs.Indexing.{found_lies, key_seen}
+use Rattle.master_core.specs.compactor.Kept.{has_id, kept, kept_from, kept_of, entries_before}
+use Rattle.master_core.specs.compactor.Places.{LiesAt, IsAtPlace, keys_in}
+use Rattle.master_core.specs.master_state.Data.{MasterData}
+use Rattle.master_core.specs.master_state.Invariant.{IsCore}
+use Rattle.master_core.specs.master_state.Log.{images_of, find, state_now, position_of, entry_place, memory_of}
+use Rattle.master_core.proofs.master_state.Finding.{each_of}
+use Rattle.master_core.proofs.master_state.Indexing.{found_lies, key_seen}
 use Rattle.master.proofs.LogSets.{agree}
 
 -- ---- lists

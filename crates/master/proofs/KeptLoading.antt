@@ -2,13 +2,13 @@
 use Rattle.std.proofs.Common.{◌≡◌, ◌⊎◌, ℕ, inl, inr, refl, sym, ap, subst, ◌∙◌}
 use Rattle.std.specs.Prelude.{Result, Ok, Err, IfOk, IfErr, OnErr}
 use Rattle.replica.specs.Picture.{FleetState}
-use Rattle.master_state.specs.declared.step.Refusal.{Refusal}
-use Rattle.master_state.specs.declared.step.Refusal.TheVariants as refusal
-use Rattle.master_state.specs.declared.step.Step.TheVariants.{Push}
-use Rattle.master_state.specs.declared.step.StepAnswer.{StepAnswer}
-use Rattle.master_mending.specs.Mending.{mended_data}
-use Rattle.master_state.specs.Data.{MasterData}
-use Rattle.master_state.specs.Steps.{BeginsRoll, pushed_data}
+use Rattle.master_core.specs.master_state.declared.step.Refusal.{Refusal}
+use Rattle.master_core.specs.master_state.declared.step.Refusal.TheVariants as refusal
+use Rattle.master_core.specs.master_state.declared.step.Step.TheVariants.{Push}
+use Rattle.master_core.specs.master_state.declared.step.StepAnswer.{StepAnswer}
+use Rattle.master_core.specs.master_mending.Mending.{mended_data}
+use Rattle.master_core.specs.master_state.Data.{MasterData}
+use Rattle.master_core.specs.master_state.Steps.{BeginsRoll, pushed_data}
 use Rattle.master.specs.Loading.{KeepsLoading}
 use Rattle.master.specs.Mends.{MendsOn}
 use Rattle.master.specs.Pushes.{Pushes}

@@ -4,32 +4,32 @@ use Rattle.replica.specs.Picture.{FleetState}
 use Rattle.replica.specs.declared.op.TakeFault.TheVariants as take_fault
 use Rattle.versioned_map.specs.declared.command.Record.{Record}
 use Rattle.versioned_map.specs.Versioned.{State}
-use Rattle.clean_model.specs.Tracked.{IsTracked}
-use Rattle.log_model.specs.Data.{Start}
-use Rattle.failover_model.specs.Data.{bare, Mode, FailData, state_of}
-use Rattle.failover_model.specs.Log.{Texts, IsLogHeld}
-use Rattle.failover_model.specs.Runs.{IsThere}
-use Rattle.failover_model.specs.Shown.{Op}
-use Rattle.failover_model.specs.Steps.{rolling, next_start, MayTurn, ended, EndsRoll}
-use Rattle.failover_bytes.specs.Ops.{IsOnFleet, TakesOp, RefusesOp}
-use Rattle.failover_bytes.specs.Text.{IsWholeText}
-use Rattle.failover_clean.specs.Covered.{map_of}
-use Rattle.failover_clean.specs.Fleet.{read_of, HoldsAll, HoldsLoading}
-use Rattle.failover_clean.specs.Memory.{FailMemory, log_set_of}
-use Rattle.failover_clean.specs.Ops.{IsHeadOp}
-use Rattle.failover_clean.specs.Same.{IsSameMemory}
-use Rattle.failover_clean.specs.Steps.{rolled}
-use Rattle.failover_clean.proofs.FleetAnswers.{ok_holds_all, op_is_never_wrong}
-use Rattle.failover_clean.proofs.FleetSteps.{same_holds_all, roll_holds_all, end_holds_all}
-use Rattle.failover_clean.proofs.LoadingFleets.{ok_holds_loading, loading_is_never_wrong, roll_holds_loading}
-use Rattle.failover_clean.proofs.LoadingFleets.{end_holds_loading, same_holds_loading}
+use Rattle.master_core.specs.clean_model.Tracked.{IsTracked}
+use Rattle.log_head.specs.log_model.Data.{Start}
+use Rattle.master_core.specs.failover_model.Data.{bare, Mode, FailData, state_of}
+use Rattle.master_core.specs.failover_model.Log.{Texts, IsLogHeld}
+use Rattle.master_core.specs.failover_model.Runs.{IsThere}
+use Rattle.master_core.specs.failover_model.Shown.{Op}
+use Rattle.master_core.specs.failover_model.Steps.{rolling, next_start, MayTurn, ended, EndsRoll}
+use Rattle.master_core.specs.failover_bytes.Ops.{IsOnFleet, TakesOp, RefusesOp}
+use Rattle.master_core.specs.failover_bytes.Text.{IsWholeText}
+use Rattle.master_core.specs.failover_clean.Covered.{map_of}
+use Rattle.master_core.specs.failover_clean.Fleet.{read_of, HoldsAll, HoldsLoading}
+use Rattle.master_core.specs.failover_clean.Memory.{FailMemory, log_set_of}
+use Rattle.master_core.specs.failover_clean.Ops.{IsHeadOp}
+use Rattle.master_core.specs.failover_clean.Same.{IsSameMemory}
+use Rattle.master_core.specs.failover_clean.Steps.{rolled}
+use Rattle.master_core.proofs.failover_clean.FleetAnswers.{ok_holds_all, op_is_never_wrong}
+use Rattle.master_core.proofs.failover_clean.FleetSteps.{same_holds_all, roll_holds_all, end_holds_all}
+use Rattle.master_core.proofs.failover_clean.LoadingFleets.{ok_holds_loading, loading_is_never_wrong, roll_holds_loading}
+use Rattle.master_core.proofs.failover_clean.LoadingFleets.{end_holds_loading, same_holds_loading}
 use Rattle.std.specs.Prelude.{map}
-use Rattle.master_state.specs.declared.config.Config.{Config}
-use Rattle.master_state.specs.declared.waiting.Waiting.{Waiting}
-use Rattle.master_state.specs.Data.{MasterData}
-use Rattle.master_state.specs.Invariant.{AreApart, IsCore}
-use Rattle.master_state.specs.Loading.{IsBare}
-use Rattle.master_state.specs.Log.{log_of, memory_of}
+use Rattle.master_core.specs.master_state.declared.config.Config.{Config}
+use Rattle.master_core.specs.master_state.declared.waiting.Waiting.{Waiting}
+use Rattle.master_core.specs.master_state.Data.{MasterData}
+use Rattle.master_core.specs.master_state.Invariant.{AreApart, IsCore}
+use Rattle.master_core.specs.master_state.Loading.{IsBare}
+use Rattle.master_core.specs.master_state.Log.{log_of, memory_of}
 use Rattle.master.specs.Invariant.{IsWellKept, IsWellLoaded}
 use Rattle.master.specs.Placed.{IsPlaced}
 

@@ -56,3 +56,7 @@ pub mod MendPushes
 pub mod MendKeeps
 pub mod MendServed
 pub mod MendFirsts
+pub use Rattle.log_head.proofs.log_model
+pub use Rattle.master_core.proofs.failover_model
+pub use Rattle.log_head.proofs as log_head
+pub use Rattle.master_core.proofs.master_state

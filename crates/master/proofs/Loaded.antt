@@ -7,38 +7,38 @@ use Rattle.std.proofs.lemmas.Bool.{eqb-true}
 use Rattle.std.proofs.Math.Bool.{and-false}
 use Rattle.std.proofs.lemmas.List.{length-append}
 use Rattle.std.proofs.lemmas.Option.{slice_get-get_or}
-use Rattle.cleaner.specs.declared.pass.Pass.{Pass as OpenPass}
+use Rattle.master_core.specs.cleaner.declared.pass.Pass.{Pass as OpenPass}
 use Rattle.entry.specs.declared.entry.Object.{Object}
 use Rattle.entry.specs.declared.entry.Entry.{Entry}
 use Rattle.entry.specs.Bag.{IsAmong}
 use Rattle.replica.specs.Picture.{FleetState}
 use Rattle.log_head.specs.Head.{HeadValue}
 use Rattle.log_head.specs.Steps.{with_unit_end}
-use Rattle.log_model.specs.Data.{fewest}
-use Rattle.log_model.specs.Ids.{has}
-use Rattle.failover_model.specs.Data.{Head as FailHead, front, FailData, HasTaken}
-use Rattle.failover_model.specs.Steps.{restored, adopted}
-use Rattle.failover_bytes.specs.Text.{IsWholeText}
-use Rattle.failover_clean.specs.Fleet.{HoldsAll, HoldsLoading}
-use Rattle.failover_clean.specs.Loading.{with_object, object_loaded}
-use Rattle.failover_clean.specs.Memory.{FailMemory}
-use Rattle.failover_clean.specs.Steps.{first_memory}
-use Rattle.failover_clean.proofs.LoadingFleets.{restored_holds_loading, load_holds_loading, finished_holds_all}
-use Rattle.master_state.specs.declared.config.Config.{Config}
-use Rattle.master_state.specs.Budget.{victims_of, is_committing}
-use Rattle.master_state.specs.declared.waiting.Waiting.{Waiting}
-use Rattle.master_state.specs.Causes.{is_pushed, is_done}
-use Rattle.master_state.specs.Config.{config_fault}
-use Rattle.master_state.specs.Data.{MasterData}
-use Rattle.master_state.specs.Images.{images_among}
-use Rattle.master_state.specs.Invariant.{AreApart, IsCore}
-use Rattle.master_state.specs.Loading.{restored_data, IsBare, loaded_unit, MayLoadNow, Loads, Settles}
-use Rattle.master_state.specs.Ledger.{took_in}
-use Rattle.master_state.specs.Log.{placed, fail_config, opening_of, log_of, images_of, rest_now, memory_of}
-use Rattle.master_state.proofs.Imaging.{same_id, other_id, appended_own, appended_other}
-use Rattle.master_commands.proofs.HeadsInForce.{open_headed}
-use Rattle.master_commands.proofs.LoadedCore.{is_admitted, done_parts, pushed_open, pushed_calm, pushed_whole}
-use Rattle.master_state.proofs.Refusals.{has_homes, open_parts, working_parts}
+use Rattle.log_head.specs.log_model.Data.{fewest}
+use Rattle.log_head.specs.log_model.Ids.{has}
+use Rattle.master_core.specs.failover_model.Data.{Head as FailHead, front, FailData, HasTaken}
+use Rattle.master_core.specs.failover_model.Steps.{restored, adopted}
+use Rattle.master_core.specs.failover_bytes.Text.{IsWholeText}
+use Rattle.master_core.specs.failover_clean.Fleet.{HoldsAll, HoldsLoading}
+use Rattle.master_core.specs.failover_clean.Loading.{with_object, object_loaded}
+use Rattle.master_core.specs.failover_clean.Memory.{FailMemory}
+use Rattle.master_core.specs.failover_clean.Steps.{first_memory}
+use Rattle.master_core.proofs.failover_clean.LoadingFleets.{restored_holds_loading, load_holds_loading, finished_holds_all}
+use Rattle.master_core.specs.master_state.declared.config.Config.{Config}
+use Rattle.master_core.specs.master_state.Budget.{victims_of, is_committing}
+use Rattle.master_core.specs.master_state.declared.waiting.Waiting.{Waiting}
+use Rattle.master_core.specs.master_state.Causes.{is_pushed, is_done}
+use Rattle.master_core.specs.master_state.Config.{config_fault}
+use Rattle.master_core.specs.master_state.Data.{MasterData}
+use Rattle.master_core.specs.master_state.Images.{images_among}
+use Rattle.master_core.specs.master_state.Invariant.{AreApart, IsCore}
+use Rattle.master_core.specs.master_state.Loading.{restored_data, IsBare, loaded_unit, MayLoadNow, Loads, Settles}
+use Rattle.master_core.specs.master_state.Ledger.{took_in}
+use Rattle.master_core.specs.master_state.Log.{placed, fail_config, opening_of, log_of, images_of, rest_now, memory_of}
+use Rattle.master_core.proofs.master_state.Imaging.{same_id, other_id, appended_own, appended_other}
+use Rattle.master_core.proofs.master_commands.HeadsInForce.{open_headed}
+use Rattle.master_core.proofs.master_commands.LoadedCore.{is_admitted, done_parts, pushed_open, pushed_calm, pushed_whole}
+use Rattle.master_core.proofs.master_state.Refusals.{has_homes, open_parts, working_parts}
 use Rattle.master.specs.Invariant.{IsWellKept, IsWellLoaded}
 use Rattle.master.specs.Placed.{holders, IsPlaced}
 use Rattle.master.specs.Registry.{IsUnraised}

@@ -5,36 +5,36 @@ use Rattle.std.specs.Prelude.{Option, Some, None, IfSome, IsSome, not, unwrap_or
 use Rattle.std.specs.List.{AllByRecursion}
 use Rattle.std.specs.Option.{option_map, option_map_or, option_to_list}
 use Rattle.std.proofs.lemmas.Bool.{eqb-true}
-use Rattle.cleaner.specs.declared.pass.Pass.{Pass}
+use Rattle.master_core.specs.cleaner.declared.pass.Pass.{Pass}
 use Rattle.entry.specs.declared.entry.Entry.{Entry}
 use Rattle.entry.specs.Bag.{IsAmong}
 use Rattle.entry.proofs.BagLemmas.{among_left, among_right, among_either, among_push, among_last}
 use Rattle.images.specs.Image.{Image}
 use Rattle.images.specs.Sorted.{segment_of}
-use Rattle.compactor.specs.Kept.{has_id}
-use Rattle.compactor.specs.Places.{IsAtPlace}
+use Rattle.master_core.specs.compactor.Kept.{has_id}
+use Rattle.master_core.specs.compactor.Places.{IsAtPlace}
 use Rattle.log_head.specs.declared.head.Roll.{Roll}
 use Rattle.log_head.specs.Log.{head_of, start_of}
-use Rattle.log_model.specs.Data.{Start, ids_of}
-use Rattle.log_model.specs.Ids.{has}
-use Rattle.clean_model.specs.Memory.{new_ids}
-use Rattle.clean_model.proofs.CommitDigest.{all_in, all_out}
-use Rattle.clean_model.proofs.KeptEntries.{has_is, is_has}
-use Rattle.failover_model.specs.Data.{Head as FailHead, Mode, Mends, new_of, is_failing}
-use Rattle.failover_model.specs.Steps.{ids_now}
-use Rattle.failover_clean.specs.Memory.{log_ids}
-use Rattle.failover_clean.proofs.Ids.{now_none, ids_out, in_digest, in_survivors, new_in, new_one}
+use Rattle.log_head.specs.log_model.Data.{Start, ids_of}
+use Rattle.log_head.specs.log_model.Ids.{has}
+use Rattle.master_core.specs.clean_model.Memory.{new_ids}
+use Rattle.master_core.proofs.clean_model.CommitDigest.{all_in, all_out}
+use Rattle.master_core.proofs.clean_model.KeptEntries.{has_is, is_has}
+use Rattle.master_core.specs.failover_model.Data.{Head as FailHead, Mode, Mends, new_of, is_failing}
+use Rattle.master_core.specs.failover_model.Steps.{ids_now}
+use Rattle.master_core.specs.failover_clean.Memory.{log_ids}
+use Rattle.master_core.proofs.failover_clean.Ids.{now_none, ids_out, in_digest, in_survivors, new_in, new_one}
 use Rattle.places.specs.declared.place.Place.{Place}
-use Rattle.master_state.specs.Budget.{survivors_of}
-use Rattle.master_state.specs.declared.failover.Failover.{Failover}
-use Rattle.master_state.specs.declared.failover.Part.{Part}
-use Rattle.master_state.specs.declared.failover.Part.TheVariants as part
-use Rattle.master_state.specs.Data.{MasterData}
-use Rattle.master_state.specs.Images.{new_image_or}
-use Rattle.master_state.specs.Invariant.{IsOpenPass, IsCore}
-use Rattle.master_state.specs.Log.{is_opened, is_headless, calm_mode, new_start, failing_mode, mode_of, log_of}
-use Rattle.master_state.specs.Log.{image_of, images_of, memory_of, log_set_ids}
-use Rattle.master_state.proofs.Imaging.{same_id, ids_in}
+use Rattle.master_core.specs.master_state.Budget.{survivors_of}
+use Rattle.master_core.specs.master_state.declared.failover.Failover.{Failover}
+use Rattle.master_core.specs.master_state.declared.failover.Part.{Part}
+use Rattle.master_core.specs.master_state.declared.failover.Part.TheVariants as part
+use Rattle.master_core.specs.master_state.Data.{MasterData}
+use Rattle.master_core.specs.master_state.Images.{new_image_or}
+use Rattle.master_core.specs.master_state.Invariant.{IsOpenPass, IsCore}
+use Rattle.master_core.specs.master_state.Log.{is_opened, is_headless, calm_mode, new_start, failing_mode, mode_of, log_of}
+use Rattle.master_core.specs.master_state.Log.{image_of, images_of, memory_of, log_set_ids}
+use Rattle.master_core.proofs.master_state.Imaging.{same_id, ids_in}
 use Rattle.master.specs.Valid.{IsGivenUp}
 use Rattle.master.proofs.InForce.{headed_or, start_real, now_headed, now_headless, roll_id, failover_of, new_headed}
 use Rattle.master.proofs.InForce.{new_now, new_unopened, force_headed, force_headless, never_fails, open_or, headed}

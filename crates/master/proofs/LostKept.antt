@@ -3,23 +3,23 @@ use Rattle.std.proofs.Common.{◌≡◌, ℕ, ◌<◌, true, false, refl, sym, s
 use Rattle.replica.specs.Picture.{FleetState}
 use Rattle.replica.specs.Take.{Refuses}
 use Rattle.replica.specs.declared.op.TakeFault.TheVariants as take_fault
-use Rattle.log_model.specs.Ids.{has}
-use Rattle.log_model.specs.Ops.{op_of}
-use Rattle.failover_model.specs.Data.{FailData}
-use Rattle.failover_model.specs.Shown.{Act, On}
-use Rattle.failover_model.specs.Steps.{failing}
-use Rattle.failover_bytes.specs.Ops.{log_op_for}
-use Rattle.failover_clean.specs.Fleet.{HoldsAll, HoldsLoading}
-use Rattle.failover_clean.specs.Loading.{IsLoadingOp}
-use Rattle.failover_clean.specs.Memory.{FailMemory}
-use Rattle.failover_clean.specs.Ops.{IsOp}
-use Rattle.failover_clean.specs.Steps.{stopped}
-use Rattle.failover_clean.proofs.FleetAnswers.{fault_fails_over}
-use Rattle.failover_clean.proofs.LoadingFleets.{fault_fails_loading}
-use Rattle.master_state.specs.Data.{MasterData}
-use Rattle.master_state.specs.Log.{log_of, memory_of}
-use Rattle.master_state.specs.Steps.{lost_data, may_lose}
-use Rattle.master_state.proofs.LostCore.{loses, lost_core}
+use Rattle.log_head.specs.log_model.Ids.{has}
+use Rattle.log_head.specs.log_model.Ops.{op_of}
+use Rattle.master_core.specs.failover_model.Data.{FailData}
+use Rattle.master_core.specs.failover_model.Shown.{Act, On}
+use Rattle.master_core.specs.failover_model.Steps.{failing}
+use Rattle.master_core.specs.failover_bytes.Ops.{log_op_for}
+use Rattle.master_core.specs.failover_clean.Fleet.{HoldsAll, HoldsLoading}
+use Rattle.master_core.specs.failover_clean.Loading.{IsLoadingOp}
+use Rattle.master_core.specs.failover_clean.Memory.{FailMemory}
+use Rattle.master_core.specs.failover_clean.Ops.{IsOp}
+use Rattle.master_core.specs.failover_clean.Steps.{stopped}
+use Rattle.master_core.proofs.failover_clean.FleetAnswers.{fault_fails_over}
+use Rattle.master_core.proofs.failover_clean.LoadingFleets.{fault_fails_loading}
+use Rattle.master_core.specs.master_state.Data.{MasterData}
+use Rattle.master_core.specs.master_state.Log.{log_of, memory_of}
+use Rattle.master_core.specs.master_state.Steps.{lost_data, may_lose}
+use Rattle.master_core.proofs.master_state.LostCore.{loses, lost_core}
 use Rattle.master.proofs.Counting.{AreUnfailed, counted, kept_unfailed, loading_unfailed}
 use Rattle.master.proofs.Lasting.{Lasts, IsKeptAs, all_lasts, loading_lasts}
 use Rattle.master.proofs.LostLog.{log_lost, may_fail}

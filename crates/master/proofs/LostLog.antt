@@ -4,15 +4,15 @@ use Rattle.std.specs.Prelude.{Option, Some, None, not, if◌then◌else◌}
 use Rattle.std.specs.Option.{option_map_or}
 use Rattle.log_head.specs.declared.head.Roll.{Roll}
 use Rattle.log_head.specs.Log.{start_of}
-use Rattle.failover_model.specs.Data.{Calm, Rolls, Mends, durable_of}
-use Rattle.failover_model.specs.Steps.{failing, MayFail, new_heads}
-use Rattle.master_state.specs.declared.failover.Failover.{Failover}
-use Rattle.master_state.specs.Data.{MasterData}
-use Rattle.master_state.specs.Ledger.{took_in, counts_in, shut_in}
-use Rattle.master_state.specs.Log.{calm_mode, durable_now, fail_config, in_force, is_headless, is_opened, log_of}
-use Rattle.master_state.specs.Log.{mode_of, opening_of}
-use Rattle.master_state.specs.Steps.{lost_data, may_lose, new_heads_in}
-use Rattle.master_state.proofs.LostCore.{Loses, loses}
+use Rattle.master_core.specs.failover_model.Data.{Calm, Rolls, Mends, durable_of}
+use Rattle.master_core.specs.failover_model.Steps.{failing, MayFail, new_heads}
+use Rattle.master_core.specs.master_state.declared.failover.Failover.{Failover}
+use Rattle.master_core.specs.master_state.Data.{MasterData}
+use Rattle.master_core.specs.master_state.Ledger.{took_in, counts_in, shut_in}
+use Rattle.master_core.specs.master_state.Log.{calm_mode, durable_now, fail_config, in_force, is_headless, is_opened, log_of}
+use Rattle.master_core.specs.master_state.Log.{mode_of, opening_of}
+use Rattle.master_core.specs.master_state.Steps.{lost_data, may_lose, new_heads_in}
+use Rattle.master_core.proofs.master_state.LostCore.{Loses, loses}
 use Rattle.master.proofs.InForce.{mode_calm, never_fails, none_head, real_head}
 
 module _ (d : MasterData) (may : Loses d) where

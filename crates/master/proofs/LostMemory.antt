@@ -6,32 +6,32 @@ use Rattle.std.specs.List.{AllByRecursion}
 use Rattle.std.specs.Option.{option_map, option_map_or}
 use Rattle.std.proofs.lemmas.Bool.{lt-ltb, ltb-true, ltb-false}
 use Rattle.std.proofs.lemmas.Option.{same_Some}
-use Rattle.cleaner.specs.declared.pass.Pass.{Pass as OpenPass}
-use Rattle.cleaner.specs.Passes.{images_in, rest_of}
-use Rattle.cleaner.proofs.Ends.{rest_same}
+use Rattle.master_core.specs.cleaner.declared.pass.Pass.{Pass as OpenPass}
+use Rattle.master_core.specs.cleaner.Passes.{images_in, rest_of}
+use Rattle.master_core.proofs.cleaner.Ends.{rest_same}
 use Rattle.entry.specs.declared.entry.Entry.{Entry}
 use Rattle.entry.specs.declared.key.Key.{Key}
 use Rattle.entry.specs.Bag.{IsAmong}
 use Rattle.entry.proofs.BagLemmas.{among_left, among_right, among_either}
 use Rattle.places.specs.declared.place.Place.{Place}
 use Rattle.log_head.specs.declared.head.Roll.{Roll}
-use Rattle.log_model.specs.Ids.{has}
-use Rattle.clean_model.specs.Memory.{Place as EntryPlace, Pass}
-use Rattle.failover_clean.specs.Memory.{FailMemory, Spot}
-use Rattle.failover_clean.specs.Steps.{stopped}
-use Rattle.master_state.specs.declared.config.Config.{Config}
-use Rattle.master_state.specs.declared.waiting.Waiting.{Waiting}
-use Rattle.master_state.specs.Budget.{victims_of, survivors_of, is_committing}
-use Rattle.master_state.specs.Data.{MasterData}
-use Rattle.master_state.specs.Invariant.{IsCore, IsRollOf}
-use Rattle.master_state.specs.Log.{home, entry_place, find, image_of, images_of, memory_of, position_of, rest_now}
-use Rattle.master_state.specs.Log.{place_in, spots_from, spots_in, working}
-use Rattle.master_state.specs.Steps.{less_by, lost_data, lost_image, lost_waiting, may_lose, still_waits}
-use Rattle.master_state.proofs.Homes.{home_before, home_behind, homes_apart, place_in_none, place_in_some, working_many}
-use Rattle.master_state.proofs.Imaging.{ids_in, other_id}
-use Rattle.master_state.proofs.LogIds.{no_segment}
-use Rattle.master_state.proofs.LostCore.{Loses, loses, find_lost, image_then, lost_recount, roll_not_closed}
-use Rattle.master_state.proofs.Recounts.{ids_recounted, images_recounted}
+use Rattle.log_head.specs.log_model.Ids.{has}
+use Rattle.master_core.specs.clean_model.Memory.{Place as EntryPlace, Pass}
+use Rattle.master_core.specs.failover_clean.Memory.{FailMemory, Spot}
+use Rattle.master_core.specs.failover_clean.Steps.{stopped}
+use Rattle.master_core.specs.master_state.declared.config.Config.{Config}
+use Rattle.master_core.specs.master_state.declared.waiting.Waiting.{Waiting}
+use Rattle.master_core.specs.master_state.Budget.{victims_of, survivors_of, is_committing}
+use Rattle.master_core.specs.master_state.Data.{MasterData}
+use Rattle.master_core.specs.master_state.Invariant.{IsCore, IsRollOf}
+use Rattle.master_core.specs.master_state.Log.{home, entry_place, find, image_of, images_of, memory_of, position_of, rest_now}
+use Rattle.master_core.specs.master_state.Log.{place_in, spots_from, spots_in, working}
+use Rattle.master_core.specs.master_state.Steps.{less_by, lost_data, lost_image, lost_waiting, may_lose, still_waits}
+use Rattle.master_core.proofs.master_state.Homes.{home_before, home_behind, homes_apart, place_in_none, place_in_some, working_many}
+use Rattle.master_core.proofs.master_state.Imaging.{ids_in, other_id}
+use Rattle.master_core.proofs.master_state.LogIds.{no_segment}
+use Rattle.master_core.proofs.master_state.LostCore.{Loses, loses, find_lost, image_then, lost_recount, roll_not_closed}
+use Rattle.master_core.proofs.master_state.Recounts.{ids_recounted, images_recounted}
 use Rattle.master.proofs.Models.{IsModel, map_among, among_map, nothing_mapped}
 use Rattle.master.proofs.Victims.{never_both, victim_below}
 

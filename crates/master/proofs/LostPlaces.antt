@@ -13,19 +13,19 @@ use Rattle.images.specs.Image.{Image}
 use Rattle.log_head.specs.declared.head.Roll.{Roll}
 use Rattle.log_head.specs.Head.{IsRollValue}
 use Rattle.log_head.specs.Steps.{counts_without}
-use Rattle.log_model.specs.Ids.{has, without}
-use Rattle.master_state.specs.declared.config.Config.{Config}
-use Rattle.master_state.specs.declared.failover.Failover.{Failover}
-use Rattle.master_state.specs.declared.waiting.Waiting.{Waiting}
-use Rattle.master_state.specs.Data.{MasterData}
-use Rattle.master_state.specs.Invariant.{AreApart, IsCore}
-use Rattle.master_state.specs.Ledger.{took_in, counts_in, shut_in}
-use Rattle.master_state.specs.Log.{home, is_headless, is_opened, place_in, placed, working}
-use Rattle.master_state.specs.Steps.{halted, less_by, lost_data, lost_image, lost_waiting, may_lose}
-use Rattle.master_state.specs.Steps.{place_of, still_waits}
-use Rattle.master_state.proofs.Homes.{without_more, working_many, homes_apart, placed_without, home_before, home_behind}
-use Rattle.master_state.proofs.Homes.{place_in_at, place_in_none, place_in_some}
-use Rattle.master_state.proofs.LostCore.{Loses, loses, lost_recount, lost_within, none_less}
+use Rattle.log_head.specs.log_model.Ids.{has, without}
+use Rattle.master_core.specs.master_state.declared.config.Config.{Config}
+use Rattle.master_core.specs.master_state.declared.failover.Failover.{Failover}
+use Rattle.master_core.specs.master_state.declared.waiting.Waiting.{Waiting}
+use Rattle.master_core.specs.master_state.Data.{MasterData}
+use Rattle.master_core.specs.master_state.Invariant.{AreApart, IsCore}
+use Rattle.master_core.specs.master_state.Ledger.{took_in, counts_in, shut_in}
+use Rattle.master_core.specs.master_state.Log.{home, is_headless, is_opened, place_in, placed, working}
+use Rattle.master_core.specs.master_state.Steps.{halted, less_by, lost_data, lost_image, lost_waiting, may_lose}
+use Rattle.master_core.specs.master_state.Steps.{place_of, still_waits}
+use Rattle.master_core.proofs.master_state.Homes.{without_more, working_many, homes_apart, placed_without, home_before, home_behind}
+use Rattle.master_core.proofs.master_state.Homes.{place_in_at, place_in_none, place_in_some}
+use Rattle.master_core.proofs.master_state.LostCore.{Loses, loses, lost_recount, lost_within, none_less}
 use Rattle.master.specs.Placed.{closed_by, closed_now, IsPlaced}
 
 -- ---- the homes that are left

@@ -5,32 +5,32 @@ use Rattle.std.specs.Prelude.{Option, Some, None, slice_get, ◌==◌, not, is_n
 use Rattle.std.specs.Option.{option_map, option_map_or}
 use Rattle.std.proofs.lemmas.Bool.{eqb-true}
 use Rattle.std.proofs.lemmas.Option.{same_Some}
-use Rattle.cleaner.specs.declared.pass.Pass.{Pass}
+use Rattle.master_core.specs.cleaner.declared.pass.Pass.{Pass}
 use Rattle.images.specs.Image.{Image, closed_image}
 use Rattle.log_head.specs.declared.head.Roll.{Roll}
 use Rattle.log_head.specs.Log.{start_of}
 use Rattle.log_head.specs.Steps.{in_force}
 use Rattle.log_head.proofs.RollLog.{head_in_force}
 use Rattle.log_head.proofs.Rolls.{rolls, zeros_length}
-use Rattle.log_model.specs.Data.{Head as LogHead, Start}
-use Rattle.log_model.specs.Ids.{has, without}
-use Rattle.log_model.specs.Steps.{no_units}
-use Rattle.failover_model.specs.Data.{Calm, Rolls, Repairs, FailData}
-use Rattle.failover_model.specs.Steps.{ended, mended, EndsRoll}
-use Rattle.master_mending.specs.declared.mending.Mend.TheVariants as mend
-use Rattle.master_mending.specs.Mending.{mended_data, first_lost, repaired_data, with_part}
-use Rattle.master_space.proofs.RollEnds.{closed_images}
-use Rattle.master_state.specs.declared.failover.Failover.{Failover}
-use Rattle.master_state.specs.declared.failover.Part.TheVariants as part
-use Rattle.master_state.specs.declared.ledger.Posting.TheVariants as posting
-use Rattle.master_state.specs.Budget.{is_committing}
-use Rattle.master_state.specs.Data.{MasterData}
-use Rattle.master_state.specs.Images.{with_closed}
-use Rattle.master_state.specs.Invariant.{IsCore}
-use Rattle.master_state.specs.Ledger.{shut_in}
-use Rattle.master_state.specs.Log.{home, placed, is_opened, log_of, is_headless}
-use Rattle.master_state.specs.Steps.{pass_ended, roll_ended}
-use Rattle.master_state.proofs.Imaging.{same_roll}
+use Rattle.log_head.specs.log_model.Data.{Head as LogHead, Start}
+use Rattle.log_head.specs.log_model.Ids.{has, without}
+use Rattle.log_head.specs.log_model.Steps.{no_units}
+use Rattle.master_core.specs.failover_model.Data.{Calm, Rolls, Repairs, FailData}
+use Rattle.master_core.specs.failover_model.Steps.{ended, mended, EndsRoll}
+use Rattle.master_core.specs.master_mending.declared.mending.Mend.TheVariants as mend
+use Rattle.master_core.specs.master_mending.Mending.{mended_data, first_lost, repaired_data, with_part}
+use Rattle.master_core.proofs.master_space.RollEnds.{closed_images}
+use Rattle.master_core.specs.master_state.declared.failover.Failover.{Failover}
+use Rattle.master_core.specs.master_state.declared.failover.Part.TheVariants as part
+use Rattle.master_core.specs.master_state.declared.ledger.Posting.TheVariants as posting
+use Rattle.master_core.specs.master_state.Budget.{is_committing}
+use Rattle.master_core.specs.master_state.Data.{MasterData}
+use Rattle.master_core.specs.master_state.Images.{with_closed}
+use Rattle.master_core.specs.master_state.Invariant.{IsCore}
+use Rattle.master_core.specs.master_state.Ledger.{shut_in}
+use Rattle.master_core.specs.master_state.Log.{home, placed, is_opened, log_of, is_headless}
+use Rattle.master_core.specs.master_state.Steps.{pass_ended, roll_ended}
+use Rattle.master_core.proofs.master_state.Imaging.{same_roll}
 use Rattle.master.specs.Mends.{IsMended, IsOnward}
 use Rattle.master.specs.Placed.{closed_by, holders, IsPlaced, is_opening}
 use Rattle.master.proofs.Ended.{same_model, apart_then, ended_model}

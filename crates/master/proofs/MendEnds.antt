@@ -1,23 +1,23 @@
 -- What is shown of the data after a push of a failover, by how the log and memory go on.
 use Rattle.std.proofs.Common.{◌≡◌, ◌⊎◌, false, true}
 use Rattle.std.specs.Prelude.{ℕ, ◌≤◌, length, Some}
-use Rattle.cleaner.specs.declared.pass.Pass.{Pass as OpenPass}
+use Rattle.master_core.specs.cleaner.declared.pass.Pass.{Pass as OpenPass}
 use Rattle.entry.specs.Bag.{IsAmong}
 use Rattle.entry.specs.Text.{text_of}
-use Rattle.log_model.specs.Data.{Start}
-use Rattle.failover_model.specs.Data.{Repairs, FailData}
-use Rattle.failover_model.specs.Steps.{ended, EndsRoll}
-use Rattle.failover_bytes.specs.Text.{entries_for}
-use Rattle.failover_clean.specs.Loading.{IsLoadingOp}
-use Rattle.failover_clean.specs.Memory.{Spot, text_in}
-use Rattle.failover_clean.specs.Steps.{finished}
-use Rattle.master_mending.specs.declared.mending.Mend.{Mend}
-use Rattle.master_mending.specs.declared.mending.Mend.TheVariants as mend
-use Rattle.master_mending.specs.Mending.{mended_data, IsNextMend}
-use Rattle.master_state.specs.Budget.{victims_of, is_committing}
-use Rattle.master_state.specs.Data.{MasterData}
-use Rattle.master_state.specs.Invariant.{AreApart, IsCore}
-use Rattle.master_state.specs.Log.{log_of, memory_of, images_of}
+use Rattle.log_head.specs.log_model.Data.{Start}
+use Rattle.master_core.specs.failover_model.Data.{Repairs, FailData}
+use Rattle.master_core.specs.failover_model.Steps.{ended, EndsRoll}
+use Rattle.master_core.specs.failover_bytes.Text.{entries_for}
+use Rattle.master_core.specs.failover_clean.Loading.{IsLoadingOp}
+use Rattle.master_core.specs.failover_clean.Memory.{Spot, text_in}
+use Rattle.master_core.specs.failover_clean.Steps.{finished}
+use Rattle.master_core.specs.master_mending.declared.mending.Mend.{Mend}
+use Rattle.master_core.specs.master_mending.declared.mending.Mend.TheVariants as mend
+use Rattle.master_core.specs.master_mending.Mending.{mended_data, IsNextMend}
+use Rattle.master_core.specs.master_state.Budget.{victims_of, is_committing}
+use Rattle.master_core.specs.master_state.Data.{MasterData}
+use Rattle.master_core.specs.master_state.Invariant.{AreApart, IsCore}
+use Rattle.master_core.specs.master_state.Log.{log_of, memory_of, images_of}
 use Rattle.master.specs.Mends.{IsMended, IsMendOp}
 use Rattle.master.specs.Placed.{IsPlaced}
 use Rattle.master.proofs.Counting.{AreUnfailed}

@@ -5,8 +5,8 @@ use Rattle.std.specs.Prelude.{Option, Some, None, IsSome, Err, if◌then◌else�
 use Rattle.std.specs.Option.{option_map, option_map_or}
 use Rattle.std.proofs.lemmas.List.{take_all}
 use Rattle.std.proofs.lemmas.Option.{same_Some}
-use Rattle.cleaner.specs.declared.pass.Pass.{Pass}
-use Rattle.cleaner.specs.Passes.{is_ready as is_ready_pass}
+use Rattle.master_core.specs.cleaner.declared.pass.Pass.{Pass}
+use Rattle.master_core.specs.cleaner.Passes.{is_ready as is_ready_pass}
 use Rattle.entry.specs.Text.{text_of}
 use Rattle.replica.specs.Op.{OpValue, Open as OpenBytes}
 use Rattle.replica.specs.Picture.{FleetState}
@@ -16,34 +16,34 @@ use Rattle.replica.specs.declared.op.TakeFault.TheVariants as take_fault
 use Rattle.log_head.specs.declared.head.Roll.{Roll}
 use Rattle.log_head.specs.Head.{HeadValue, IsHeadValue}
 use Rattle.log_head.specs.Steps.{lone_start, fresh_head, start_after}
-use Rattle.log_model.specs.Data.{Start}
-use Rattle.failover_model.specs.Data.{bare, Opens, FailData}
-use Rattle.failover_model.specs.Steps.{rolling, next_start, OpensNew}
-use Rattle.failover_bytes.specs.Ops.{TakesOp, RefusesOp}
-use Rattle.failover_bytes.specs.Text.{IsWholeText}
-use Rattle.failover_clean.specs.Memory.{FailMemory}
-use Rattle.failover_clean.specs.Steps.{MayCommit, commit_start, rolled}
-use Rattle.clean_model.specs.Intact.{IsCommit}
-use Rattle.failover_clean.proofs.FleetSteps.{commit_holds_all}
-use Rattle.master_mending.specs.declared.mending.Mend.TheVariants as mend
-use Rattle.master_mending.specs.declared.turning.NewHead.{NewHead}
-use Rattle.master_mending.specs.declared.turning.NewHead.TheVariants as new_head
-use Rattle.master_mending.specs.Mending.{IsNextMend, IsNewHead, MayPut, put_data, turned_data, turn_roll, mended_data}
-use Rattle.master_mending.specs.Mending.{new_id, was_headless, backup_for, segment_for, op_now}
-use Rattle.master_mending.specs.Mending.{opening}
-use Rattle.master_mending.proofs.TurnedCore.{turned_core, turned_next, turned_is}
-use Rattle.master_state.specs.declared.ledger.Posting.TheVariants as posting
-use Rattle.master_state.specs.declared.step.Refusal.{Refusal}
-use Rattle.master_state.specs.declared.step.Refusal.TheVariants as refusal
-use Rattle.master_state.specs.declared.step.Step.TheVariants.{Push}
-use Rattle.master_state.specs.declared.step.StepAnswer.TheVariants.{Opened}
-use Rattle.master_state.specs.Budget.{is_ready, may_turn, victims_of, survivors_of}
-use Rattle.master_state.specs.Data.{MasterData}
-use Rattle.master_state.specs.Invariant.{IsCore}
-use Rattle.master_state.specs.Loading.{IsBare}
-use Rattle.master_state.specs.Log.{home, log_of, memory_of}
-use Rattle.master_state.specs.Steps.{halted, listed_in, next_now, start_now}
-use Rattle.master_state.proofs.Posted.{halted_core}
+use Rattle.log_head.specs.log_model.Data.{Start}
+use Rattle.master_core.specs.failover_model.Data.{bare, Opens, FailData}
+use Rattle.master_core.specs.failover_model.Steps.{rolling, next_start, OpensNew}
+use Rattle.master_core.specs.failover_bytes.Ops.{TakesOp, RefusesOp}
+use Rattle.master_core.specs.failover_bytes.Text.{IsWholeText}
+use Rattle.master_core.specs.failover_clean.Memory.{FailMemory}
+use Rattle.master_core.specs.failover_clean.Steps.{MayCommit, commit_start, rolled}
+use Rattle.master_core.specs.clean_model.Intact.{IsCommit}
+use Rattle.master_core.proofs.failover_clean.FleetSteps.{commit_holds_all}
+use Rattle.master_core.specs.master_mending.declared.mending.Mend.TheVariants as mend
+use Rattle.master_core.specs.master_mending.declared.turning.NewHead.{NewHead}
+use Rattle.master_core.specs.master_mending.declared.turning.NewHead.TheVariants as new_head
+use Rattle.master_core.specs.master_mending.Mending.{IsNextMend, IsNewHead, MayPut, put_data, turned_data, turn_roll, mended_data}
+use Rattle.master_core.specs.master_mending.Mending.{new_id, was_headless, backup_for, segment_for, op_now}
+use Rattle.master_core.specs.master_mending.Mending.{opening}
+use Rattle.master_core.proofs.master_mending.TurnedCore.{turned_core, turned_next, turned_is}
+use Rattle.master_core.specs.master_state.declared.ledger.Posting.TheVariants as posting
+use Rattle.master_core.specs.master_state.declared.step.Refusal.{Refusal}
+use Rattle.master_core.specs.master_state.declared.step.Refusal.TheVariants as refusal
+use Rattle.master_core.specs.master_state.declared.step.Step.TheVariants.{Push}
+use Rattle.master_core.specs.master_state.declared.step.StepAnswer.TheVariants.{Opened}
+use Rattle.master_core.specs.master_state.Budget.{is_ready, may_turn, victims_of, survivors_of}
+use Rattle.master_core.specs.master_state.Data.{MasterData}
+use Rattle.master_core.specs.master_state.Invariant.{IsCore}
+use Rattle.master_core.specs.master_state.Loading.{IsBare}
+use Rattle.master_core.specs.master_state.Log.{home, log_of, memory_of}
+use Rattle.master_core.specs.master_state.Steps.{halted, listed_in, next_now, start_now}
+use Rattle.master_core.proofs.master_state.Posted.{halted_core}
 use Rattle.master.specs.Invariant.{IsWellKept, IsWellLoaded, IsServed, StaysServed}
 use Rattle.master.specs.Mends.{MendsOn, first_open, OpensFirst, IsNewValid}
 use Rattle.master.specs.Placed.{IsPlaced}

@@ -3,22 +3,22 @@ use Rattle.std.proofs.Common.{◌≡◌, ℕ, suc, inl, inr, Bool, true, false, 
 use Rattle.std.proofs.Common.{sym, ap, subst, ◌∙◌, arith}
 use Rattle.std.specs.Prelude.{Option, Some, None, IfSome, IsSome, not, if◌then◌else◌}
 use Rattle.std.specs.Option.{option_map_or}
-use Rattle.cleaner.specs.declared.pass.Pass.{Pass}
+use Rattle.master_core.specs.cleaner.declared.pass.Pass.{Pass}
 use Rattle.entry.specs.Text.{text_of}
 use Rattle.log_head.specs.declared.head.Roll.{Roll}
 use Rattle.log_head.specs.Log.{head_of, units_from}
-use Rattle.log_model.specs.Data.{Start}
-use Rattle.failover_model.specs.Data.{Calm, Rolls, Closes, Repairs, FailData}
-use Rattle.failover_model.specs.Steps.{ended, mended, EndsRoll}
-use Rattle.master_mending.specs.declared.mending.Mend.TheVariants as mend
-use Rattle.master_mending.specs.Mending.{mended_data}
-use Rattle.master_state.specs.declared.failover.Failover.{Failover}
-use Rattle.master_state.specs.declared.failover.Part.TheVariants as part
-use Rattle.master_state.specs.Budget.{is_committing}
-use Rattle.master_state.specs.Data.{MasterData}
-use Rattle.master_state.specs.Invariant.{IsCore, IsOpenPass}
-use Rattle.master_state.specs.Log.{is_opened, log_of}
-use Rattle.master_state.proofs.Imaging.{same_roll}
+use Rattle.log_head.specs.log_model.Data.{Start}
+use Rattle.master_core.specs.failover_model.Data.{Calm, Rolls, Closes, Repairs, FailData}
+use Rattle.master_core.specs.failover_model.Steps.{ended, mended, EndsRoll}
+use Rattle.master_core.specs.master_mending.declared.mending.Mend.TheVariants as mend
+use Rattle.master_core.specs.master_mending.Mending.{mended_data}
+use Rattle.master_core.specs.master_state.declared.failover.Failover.{Failover}
+use Rattle.master_core.specs.master_state.declared.failover.Part.TheVariants as part
+use Rattle.master_core.specs.master_state.Budget.{is_committing}
+use Rattle.master_core.specs.master_state.Data.{MasterData}
+use Rattle.master_core.specs.master_state.Invariant.{IsCore, IsOpenPass}
+use Rattle.master_core.specs.master_state.Log.{is_opened, log_of}
+use Rattle.master_core.proofs.master_state.Imaging.{same_roll}
 use Rattle.master.proofs.Ended.{same_model}
 use Rattle.master.proofs.InForce.{real_head, none_head}
 use Rattle.master.proofs.MendEnds.{MayMend, IsMendPush}

@@ -1,36 +1,36 @@
 -- A push of a failover that is taken keeps what holds of a master, and of one that is loading.
 use Rattle.std.proofs.Common.{◌≡◌, ℕ, inl, inr, true, refl, sym, ap, subst, ◌∙◌}
 use Rattle.std.specs.Prelude.{Some}
-use Rattle.cleaner.specs.declared.pass.Pass.{Pass}
+use Rattle.master_core.specs.cleaner.declared.pass.Pass.{Pass}
 use Rattle.entry.specs.Bag.{IsAmong}
 use Rattle.entry.proofs.BagLemmas.{among_left}
 use Rattle.replica.specs.Picture.{FleetState}
-use Rattle.log_model.specs.Data.{Start}
-use Rattle.failover_model.specs.Data.{Repairs, FailData}
-use Rattle.failover_model.specs.Log.{Texts, IsLogHeld}
-use Rattle.failover_model.specs.Runs.{IsThere}
-use Rattle.failover_model.specs.Shown.{Op, On, Raise}
-use Rattle.failover_model.specs.Steps.{ended, mended, ids_now, EndsRoll}
-use Rattle.failover_bytes.specs.Ops.{TakesOp, log_op_for}
-use Rattle.failover_bytes.specs.Text.{entries_for}
-use Rattle.failover_clean.specs.Fleet.{read_of, HoldsAll, HoldsLoading}
-use Rattle.failover_clean.specs.Loading.{IsLoadingOp}
-use Rattle.failover_clean.specs.Memory.{Spot, FailMemory, AreImages, text_in, log_ids}
-use Rattle.failover_clean.specs.Steps.{finished}
-use Rattle.failover_clean.proofs.FleetAnswers.{ok_holds_all}
-use Rattle.failover_clean.proofs.FleetSteps.{mend_holds_all}
-use Rattle.failover_clean.proofs.Ids.{now_others}
-use Rattle.failover_clean.proofs.LoadingFleets.{ok_holds_loading, repair_holds_loading, mend_holds_loading}
-use Rattle.failover_clean.proofs.TextsIn.{image_text}
-use Rattle.log_model.specs.Ops.{op_of}
-use Rattle.master_mending.specs.declared.mending.Mend.{Mend}
-use Rattle.master_mending.specs.declared.mending.Mend.TheVariants as mend
-use Rattle.master_mending.specs.Mending.{IsNextMend, IsLater, IsOnReplica, mended_data, backup_for, segment_for}
-use Rattle.master_mending.specs.Mending.{replica_for}
-use Rattle.master_state.specs.Budget.{victims_of}
-use Rattle.master_state.specs.Data.{MasterData}
-use Rattle.master_state.specs.Invariant.{AreApart, IsCore}
-use Rattle.master_state.specs.Log.{images_of, log_of, memory_of}
+use Rattle.log_head.specs.log_model.Data.{Start}
+use Rattle.master_core.specs.failover_model.Data.{Repairs, FailData}
+use Rattle.master_core.specs.failover_model.Log.{Texts, IsLogHeld}
+use Rattle.master_core.specs.failover_model.Runs.{IsThere}
+use Rattle.master_core.specs.failover_model.Shown.{Op, On, Raise}
+use Rattle.master_core.specs.failover_model.Steps.{ended, mended, ids_now, EndsRoll}
+use Rattle.master_core.specs.failover_bytes.Ops.{TakesOp, log_op_for}
+use Rattle.master_core.specs.failover_bytes.Text.{entries_for}
+use Rattle.master_core.specs.failover_clean.Fleet.{read_of, HoldsAll, HoldsLoading}
+use Rattle.master_core.specs.failover_clean.Loading.{IsLoadingOp}
+use Rattle.master_core.specs.failover_clean.Memory.{Spot, FailMemory, AreImages, text_in, log_ids}
+use Rattle.master_core.specs.failover_clean.Steps.{finished}
+use Rattle.master_core.proofs.failover_clean.FleetAnswers.{ok_holds_all}
+use Rattle.master_core.proofs.failover_clean.FleetSteps.{mend_holds_all}
+use Rattle.master_core.proofs.failover_clean.Ids.{now_others}
+use Rattle.master_core.proofs.failover_clean.LoadingFleets.{ok_holds_loading, repair_holds_loading, mend_holds_loading}
+use Rattle.master_core.proofs.failover_clean.TextsIn.{image_text}
+use Rattle.log_head.specs.log_model.Ops.{op_of}
+use Rattle.master_core.specs.master_mending.declared.mending.Mend.{Mend}
+use Rattle.master_core.specs.master_mending.declared.mending.Mend.TheVariants as mend
+use Rattle.master_core.specs.master_mending.Mending.{IsNextMend, IsLater, IsOnReplica, mended_data, backup_for, segment_for}
+use Rattle.master_core.specs.master_mending.Mending.{replica_for}
+use Rattle.master_core.specs.master_state.Budget.{victims_of}
+use Rattle.master_core.specs.master_state.Data.{MasterData}
+use Rattle.master_core.specs.master_state.Invariant.{AreApart, IsCore}
+use Rattle.master_core.specs.master_state.Log.{images_of, log_of, memory_of}
 use Rattle.master.specs.Mends.{IsMended}
 use Rattle.master.proofs.Counting.{held_unfailed}
 use Rattle.master.proofs.Ended.{segments_in}

@@ -12,25 +12,25 @@ use Rattle.log_head.specs.Log.{head_of, start_of}
 use Rattle.log_head.specs.Next.{units_of}
 use Rattle.log_head.proofs.HeadLog.{count_is}
 use Rattle.log_head.proofs.Rolls.{rolls}
-use Rattle.log_model.specs.Data.{Start, entries_of}
-use Rattle.log_model.specs.Ids.{has, without}
-use Rattle.log_model.specs.Steps.{units_between}
-use Rattle.failover_model.specs.Data.{Head, front, bare, Closes, FailData, IsHome}
-use Rattle.failover_model.specs.Shown.{Act, Open, Extend, Close, Seal, Op, On, Raise}
-use Rattle.failover_model.specs.Steps.{with_taken, with_count, Extends, OpensNew, Replaces, Raises, ClosesOld}
-use Rattle.failover_model.specs.Text.{length_of}
-use Rattle.failover_clean.specs.Memory.{text_in}
-use Rattle.master_mending.specs.declared.mending.Mend.{Mend}
-use Rattle.master_mending.specs.declared.mending.Mend.TheVariants as mend
-use Rattle.master_mending.specs.Mending.{backup_for, segment_for, opened_more, raised_data}
-use Rattle.master_state.specs.declared.failover.Failover.{Failover}
-use Rattle.master_state.specs.declared.failover.Part.{Part}
-use Rattle.master_state.specs.declared.failover.Part.TheVariants as part
-use Rattle.master_state.specs.Data.{MasterData}
-use Rattle.master_state.specs.Invariant.{IsCore}
-use Rattle.master_state.specs.Ledger.{took_in, counts_in, shut_in}
-use Rattle.master_state.specs.Log.{home, placed, is_headless, log_of, memory_of}
-use Rattle.master_state.specs.Steps.{pushed_data}
+use Rattle.log_head.specs.log_model.Data.{Start, entries_of}
+use Rattle.log_head.specs.log_model.Ids.{has, without}
+use Rattle.log_head.specs.log_model.Steps.{units_between}
+use Rattle.master_core.specs.failover_model.Data.{Head, front, bare, Closes, FailData, IsHome}
+use Rattle.master_core.specs.failover_model.Shown.{Act, Open, Extend, Close, Seal, Op, On, Raise}
+use Rattle.master_core.specs.failover_model.Steps.{with_taken, with_count, Extends, OpensNew, Replaces, Raises, ClosesOld}
+use Rattle.master_core.specs.failover_model.Text.{length_of}
+use Rattle.master_core.specs.failover_clean.Memory.{text_in}
+use Rattle.master_core.specs.master_mending.declared.mending.Mend.{Mend}
+use Rattle.master_core.specs.master_mending.declared.mending.Mend.TheVariants as mend
+use Rattle.master_core.specs.master_mending.Mending.{backup_for, segment_for, opened_more, raised_data}
+use Rattle.master_core.specs.master_state.declared.failover.Failover.{Failover}
+use Rattle.master_core.specs.master_state.declared.failover.Part.{Part}
+use Rattle.master_core.specs.master_state.declared.failover.Part.TheVariants as part
+use Rattle.master_core.specs.master_state.Data.{MasterData}
+use Rattle.master_core.specs.master_state.Invariant.{IsCore}
+use Rattle.master_core.specs.master_state.Ledger.{took_in, counts_in, shut_in}
+use Rattle.master_core.specs.master_state.Log.{home, placed, is_headless, log_of, memory_of}
+use Rattle.master_core.specs.master_state.Steps.{pushed_data}
 use Rattle.master.specs.Placed.{holders, IsPlaced}
 use Rattle.master.proofs.Counting.{AreUnfailed}
 use Rattle.master.proofs.InForce.{real_head, force_headed}

@@ -9,19 +9,19 @@ use Rattle.images.specs.Image.{Image}
 use Rattle.log_head.specs.declared.head.Roll.{Roll}
 use Rattle.log_head.specs.declared.next.Next.TheVariants as next
 use Rattle.log_head.specs.Head.{IsLagging}
-use Rattle.log_model.specs.Ids.{without}
-use Rattle.failover_model.specs.Steps.{with_taken}
-use Rattle.master_mending.specs.Mending.{opened_more, raised_data}
-use Rattle.master_state.specs.declared.failover.Failover.{Failover}
-use Rattle.master_state.specs.declared.failover.Part.TheVariants as part
-use Rattle.master_state.specs.declared.ledger.Posting.{Posting}
-use Rattle.master_state.specs.declared.ledger.Posting.TheVariants as posting
-use Rattle.master_state.specs.Data.{MasterData}
-use Rattle.master_state.specs.Invariant.{IsCore}
-use Rattle.master_state.specs.Ledger.{took_in, counts_in}
-use Rattle.master_state.specs.Log.{home, placed, is_headless}
-use Rattle.master_state.specs.Steps.{pushed_data}
-use Rattle.master_state.proofs.Imaging.{same_id, other_id}
+use Rattle.log_head.specs.log_model.Ids.{without}
+use Rattle.master_core.specs.failover_model.Steps.{with_taken}
+use Rattle.master_core.specs.master_mending.Mending.{opened_more, raised_data}
+use Rattle.master_core.specs.master_state.declared.failover.Failover.{Failover}
+use Rattle.master_core.specs.master_state.declared.failover.Part.TheVariants as part
+use Rattle.master_core.specs.master_state.declared.ledger.Posting.{Posting}
+use Rattle.master_core.specs.master_state.declared.ledger.Posting.TheVariants as posting
+use Rattle.master_core.specs.master_state.Data.{MasterData}
+use Rattle.master_core.specs.master_state.Invariant.{IsCore}
+use Rattle.master_core.specs.master_state.Ledger.{took_in, counts_in}
+use Rattle.master_core.specs.master_state.Log.{home, placed, is_headless}
+use Rattle.master_core.specs.master_state.Steps.{pushed_data}
+use Rattle.master_core.proofs.master_state.Imaging.{same_id, other_id}
 use Rattle.master.specs.Placed.{IsPlaced}
 use Rattle.master.proofs.MendOps.{at_part, as_part}
 use Rattle.master.proofs.NextOps.{roll_of}

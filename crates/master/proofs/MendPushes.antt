@@ -12,23 +12,23 @@ use Rattle.log_head.specs.Log.{head_of, start_of}
 use Rattle.log_head.specs.Next.{units_of}
 use Rattle.log_head.proofs.HeadLog.{end_is, front_is, part_is, count_is}
 use Rattle.log_head.proofs.Rolls.{rolls}
-use Rattle.log_model.specs.Data.{start_entries}
-use Rattle.log_model.specs.Ops.{op_of}
-use Rattle.failover_model.specs.Data.{front, bare}
-use Rattle.failover_model.specs.Shown.{Open, On}
-use Rattle.failover_bytes.specs.Ops.{act_for, log_op_for}
-use Rattle.failover_bytes.proofs.Texts.{length_is}
-use Rattle.master_mending.specs.declared.mending.Mend.{Mend}
-use Rattle.master_mending.specs.declared.mending.Mend.TheVariants as mend
-use Rattle.master_mending.specs.Mending.{IsNextMend, IsLater, IsOnReplica, was_headless, backup_for}
-use Rattle.master_mending.specs.Mending.{segment_for, replica_for, op_now}
-use Rattle.master_mending.proofs.Changed.{own, was_is, headless_is}
-use Rattle.master_mending.proofs.Sought.{is_other, fewer}
-use Rattle.master_state.specs.declared.failover.Failover.{Failover}
-use Rattle.master_state.specs.declared.failover.Part.{Part}
-use Rattle.master_state.specs.declared.failover.Part.TheVariants as part
-use Rattle.master_state.specs.Data.{MasterData}
-use Rattle.master_state.specs.Invariant.{IsCore, IsFailover}
+use Rattle.log_head.specs.log_model.Data.{start_entries}
+use Rattle.log_head.specs.log_model.Ops.{op_of}
+use Rattle.master_core.specs.failover_model.Data.{front, bare}
+use Rattle.master_core.specs.failover_model.Shown.{Open, On}
+use Rattle.master_core.specs.failover_bytes.Ops.{act_for, log_op_for}
+use Rattle.master_core.proofs.failover_bytes.Texts.{length_is}
+use Rattle.master_core.specs.master_mending.declared.mending.Mend.{Mend}
+use Rattle.master_core.specs.master_mending.declared.mending.Mend.TheVariants as mend
+use Rattle.master_core.specs.master_mending.Mending.{IsNextMend, IsLater, IsOnReplica, was_headless, backup_for}
+use Rattle.master_core.specs.master_mending.Mending.{segment_for, replica_for, op_now}
+use Rattle.master_core.proofs.master_mending.Changed.{own, was_is, headless_is}
+use Rattle.master_core.proofs.master_mending.Sought.{is_other, fewer}
+use Rattle.master_core.specs.master_state.declared.failover.Failover.{Failover}
+use Rattle.master_core.specs.master_state.declared.failover.Part.{Part}
+use Rattle.master_core.specs.master_state.declared.failover.Part.TheVariants as part
+use Rattle.master_core.specs.master_state.Data.{MasterData}
+use Rattle.master_core.specs.master_state.Invariant.{IsCore, IsFailover}
 use Rattle.master.proofs.InForce.{real_head, others_in}
 use Rattle.master.proofs.MendCloses.{close_push}
 use Rattle.master.proofs.MendEnds.{MayMend, IsMendPush}

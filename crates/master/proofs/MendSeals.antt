@@ -4,7 +4,7 @@ use Rattle.std.proofs.Common.{sym, ap, subst, ◌∙◌, arith}
 use Rattle.std.specs.Prelude.{Option, Some, None, IsSome, ◌==◌, not, is_none, unwrap_or, if◌then◌else◌}
 use Rattle.std.specs.List.{AllByRecursion}
 use Rattle.std.proofs.lemmas.Bool.{eqb-true, eqb-false}
-use Rattle.clean_model.proofs.CommitDigest.{all_in}
+use Rattle.master_core.proofs.clean_model.CommitDigest.{all_in}
 use Rattle.entry.specs.declared.entry.Entry.{Entry}
 use Rattle.entry.specs.Bag.{IsAmong}
 use Rattle.entry.specs.Text.{IsSegment, text_of}
@@ -13,27 +13,27 @@ use Rattle.images.specs.Images.{AreWithin}
 use Rattle.images.specs.Sorted.{segment_of, replicas_of, changed}
 use Rattle.images.specs.Steps.{more_replicas}
 use Rattle.log_head.specs.Log.{head_of}
-use Rattle.log_model.specs.Ids.{has, without}
-use Rattle.failover_model.specs.Data.{Calm, Rolls, FailData}
-use Rattle.failover_model.specs.Steps.{with_taken, mended, MayRepair}
-use Rattle.failover_bytes.specs.Text.{entries_for, IsWholeText}
-use Rattle.failover_clean.specs.Memory.{text_in}
-use Rattle.failover_clean.specs.Ops.{RepairsImage}
-use Rattle.master_mending.specs.declared.mending.Mend.{Mend}
-use Rattle.master_mending.specs.declared.mending.Mend.TheVariants as mend
-use Rattle.master_mending.specs.Mending.{first_lost, IsNextMend}
-use Rattle.master_mending.proofs.Sought.{is_other, held, fewer, older, image_is, has_image, segment_there}
-use Rattle.master_state.specs.declared.failover.Failover.{Failover}
-use Rattle.master_state.specs.declared.failover.Part.TheVariants as part
-use Rattle.master_state.specs.declared.ledger.Posting.TheVariants as posting
-use Rattle.master_state.specs.Budget.{survivors_of}
-use Rattle.master_state.specs.Data.{MasterData}
-use Rattle.master_state.specs.Invariant.{IsCore}
-use Rattle.master_state.specs.Ledger.{took_in}
-use Rattle.master_state.specs.Log.{home, placed, is_opened, is_headless, image_of, images_of, log_of, memory_of}
-use Rattle.master_state.proofs.Imaging.{ids_in}
-use Rattle.master_state.proofs.LogIds.{closed_rise}
-use Rattle.master_state.proofs.Refusals.{sizes_of}
+use Rattle.log_head.specs.log_model.Ids.{has, without}
+use Rattle.master_core.specs.failover_model.Data.{Calm, Rolls, FailData}
+use Rattle.master_core.specs.failover_model.Steps.{with_taken, mended, MayRepair}
+use Rattle.master_core.specs.failover_bytes.Text.{entries_for, IsWholeText}
+use Rattle.master_core.specs.failover_clean.Memory.{text_in}
+use Rattle.master_core.specs.failover_clean.Ops.{RepairsImage}
+use Rattle.master_core.specs.master_mending.declared.mending.Mend.{Mend}
+use Rattle.master_core.specs.master_mending.declared.mending.Mend.TheVariants as mend
+use Rattle.master_core.specs.master_mending.Mending.{first_lost, IsNextMend}
+use Rattle.master_core.proofs.master_mending.Sought.{is_other, held, fewer, older, image_is, has_image, segment_there}
+use Rattle.master_core.specs.master_state.declared.failover.Failover.{Failover}
+use Rattle.master_core.specs.master_state.declared.failover.Part.TheVariants as part
+use Rattle.master_core.specs.master_state.declared.ledger.Posting.TheVariants as posting
+use Rattle.master_core.specs.master_state.Budget.{survivors_of}
+use Rattle.master_core.specs.master_state.Data.{MasterData}
+use Rattle.master_core.specs.master_state.Invariant.{IsCore}
+use Rattle.master_core.specs.master_state.Ledger.{took_in}
+use Rattle.master_core.specs.master_state.Log.{home, placed, is_opened, is_headless, image_of, images_of, log_of, memory_of}
+use Rattle.master_core.proofs.master_state.Imaging.{ids_in}
+use Rattle.master_core.proofs.master_state.LogIds.{closed_rise}
+use Rattle.master_core.proofs.master_state.Refusals.{sizes_of}
 use Rattle.master.specs.Mends.{IsMended}
 use Rattle.master.specs.Placed.{closed_by, holders, IsPlaced, is_opening}
 use Rattle.master.proofs.Ended.{same_model}

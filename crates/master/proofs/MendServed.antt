@@ -3,7 +3,7 @@ use Rattle.std.proofs.Common.{◌≡◌, ℕ, suc, ◌<◌, inl, inr, Bool, true
 use Rattle.std.proofs.Common.{subst, ◌∙◌}
 use Rattle.std.specs.Prelude.{Option, Some, None, IsSome, is_none, ◌==◌, if◌then◌else◌}
 use Rattle.std.specs.Option.{option_map_or}
-use Rattle.cleaner.specs.declared.pass.Pass.{Pass}
+use Rattle.master_core.specs.cleaner.declared.pass.Pass.{Pass}
 use Rattle.replica.specs.Picture.{FleetState}
 use Rattle.replica.specs.Registry.{RefusesRaise}
 use Rattle.replica.specs.Take.{Refuses}
@@ -13,31 +13,31 @@ use Rattle.images.specs.Sorted.{changed}
 use Rattle.images.specs.Steps.{more_replicas}
 use Rattle.log_head.specs.declared.head.Roll.{Roll}
 use Rattle.log_head.specs.Steps.{with_closed_replica, old_image}
-use Rattle.log_model.specs.Ids.{has}
-use Rattle.failover_model.specs.Data.{FailData, Repairs}
-use Rattle.failover_model.specs.Shown.{Op, On, Raise}
-use Rattle.failover_bytes.specs.Ops.{TakesOp}
-use Rattle.failover_clean.specs.Fleet.{HoldsAll, HoldsLoading}
-use Rattle.failover_clean.specs.Loading.{IsLoadingOp}
-use Rattle.failover_clean.specs.Ops.{IsOp}
-use Rattle.failover_clean.proofs.FleetSteps.{finish_holds_all}
-use Rattle.master_mending.specs.declared.mending.Mend.{Mend}
-use Rattle.master_mending.specs.declared.mending.Mend.TheVariants as mend
-use Rattle.master_mending.specs.Mending.{IsInPart, IsNextMend, IsLater, IsOnReplica, mended_data, backup_for}
-use Rattle.master_mending.specs.Mending.{segment_for, replica_for, was_headless, first_lost, repaired_data, with_part}
-use Rattle.master_mending.specs.Mending.{closed_more}
-use Rattle.master_state.specs.declared.failover.Part.{Part}
-use Rattle.master_state.specs.declared.failover.Part.TheVariants as part
-use Rattle.master_state.specs.declared.ledger.Posting.TheVariants as posting
-use Rattle.master_state.specs.declared.step.Refusal.TheVariants.{Halted, Nothing}
-use Rattle.master_state.specs.declared.step.Step.TheVariants.{Push}
-use Rattle.master_state.specs.Causes.{push_refusal}
-use Rattle.master_state.specs.Data.{MasterData}
-use Rattle.master_state.specs.Images.{with_closed}
-use Rattle.master_state.specs.Invariant.{IsCore}
-use Rattle.master_state.specs.Loading.{IsBare}
-use Rattle.master_state.specs.Log.{home, log_of, memory_of}
-use Rattle.master_state.specs.Steps.{refusal_of, failed_data, roll_ended, closed_data}
+use Rattle.log_head.specs.log_model.Ids.{has}
+use Rattle.master_core.specs.failover_model.Data.{FailData, Repairs}
+use Rattle.master_core.specs.failover_model.Shown.{Op, On, Raise}
+use Rattle.master_core.specs.failover_bytes.Ops.{TakesOp}
+use Rattle.master_core.specs.failover_clean.Fleet.{HoldsAll, HoldsLoading}
+use Rattle.master_core.specs.failover_clean.Loading.{IsLoadingOp}
+use Rattle.master_core.specs.failover_clean.Ops.{IsOp}
+use Rattle.master_core.proofs.failover_clean.FleetSteps.{finish_holds_all}
+use Rattle.master_core.specs.master_mending.declared.mending.Mend.{Mend}
+use Rattle.master_core.specs.master_mending.declared.mending.Mend.TheVariants as mend
+use Rattle.master_core.specs.master_mending.Mending.{IsInPart, IsNextMend, IsLater, IsOnReplica, mended_data, backup_for}
+use Rattle.master_core.specs.master_mending.Mending.{segment_for, replica_for, was_headless, first_lost, repaired_data, with_part}
+use Rattle.master_core.specs.master_mending.Mending.{closed_more}
+use Rattle.master_core.specs.master_state.declared.failover.Part.{Part}
+use Rattle.master_core.specs.master_state.declared.failover.Part.TheVariants as part
+use Rattle.master_core.specs.master_state.declared.ledger.Posting.TheVariants as posting
+use Rattle.master_core.specs.master_state.declared.step.Refusal.TheVariants.{Halted, Nothing}
+use Rattle.master_core.specs.master_state.declared.step.Step.TheVariants.{Push}
+use Rattle.master_core.specs.master_state.Causes.{push_refusal}
+use Rattle.master_core.specs.master_state.Data.{MasterData}
+use Rattle.master_core.specs.master_state.Images.{with_closed}
+use Rattle.master_core.specs.master_state.Invariant.{IsCore}
+use Rattle.master_core.specs.master_state.Loading.{IsBare}
+use Rattle.master_core.specs.master_state.Log.{home, log_of, memory_of}
+use Rattle.master_core.specs.master_state.Steps.{refusal_of, failed_data, roll_ended, closed_data}
 use Rattle.master.specs.Invariant.{IsServed, StaysServed}
 use Rattle.master.specs.Mends.{IsMendOp, MendsOn, mend_answer}
 use Rattle.master.specs.Steps.{IsPushOp, Declines}

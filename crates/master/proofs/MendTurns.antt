@@ -6,8 +6,8 @@ use Rattle.std.specs.List.{AllByRecursion}
 use Rattle.std.specs.Option.{option_map}
 use Rattle.std.proofs.lemmas.Bool.{eqb-true}
 use Rattle.std.proofs.lemmas.Option.{same_Some}
-use Rattle.cleaner.specs.declared.pass.Pass.{Pass}
-use Rattle.cleaner.specs.Passes.{images_in}
+use Rattle.master_core.specs.cleaner.declared.pass.Pass.{Pass}
+use Rattle.master_core.specs.cleaner.Passes.{images_in}
 use Rattle.entry.specs.declared.key.Key.{Key}
 use Rattle.entry.specs.declared.entry.Entry.{Entry}
 use Rattle.entry.specs.Bag.{IsAmong}
@@ -19,33 +19,33 @@ use Rattle.log_head.specs.Log.{head_of, start_of, HasLens}
 use Rattle.log_head.specs.Steps.{lone_start, start_after}
 use Rattle.log_head.proofs.RollLog.{start_is, start_after_has}
 use Rattle.log_head.proofs.Rolls.{rolls}
-use Rattle.log_model.specs.Data.{Start, digest_for, lens_next, start_entries}
-use Rattle.log_model.specs.Ids.{has as has_id, without}
-use Rattle.clean_model.specs.Intact.{IsCommit}
-use Rattle.clean_model.specs.Memory.{Place as EntryPlace}
-use Rattle.failover_model.specs.Data.{bare, front_entries, Mends, Opens}
-use Rattle.failover_model.specs.Steps.{rolling, next_start, len_now}
-use Rattle.failover_bytes.specs.Text.{IsWholeText}
-use Rattle.failover_clean.specs.Memory.{FailMemory}
-use Rattle.failover_clean.specs.Steps.{rolled}
-use Rattle.master_mending.specs.declared.mending.Mend.TheVariants as mend
-use Rattle.master_mending.specs.Mending.{IsNextMend, turned_data, turn_roll}
-use Rattle.master_mending.proofs.Changed.{own}
-use Rattle.master_space.proofs.RollLaws.{next_is, next_id, is_commit}
-use Rattle.master_state.specs.declared.failover.Failover.{Failover}
-use Rattle.master_state.specs.declared.failover.Part.TheVariants as part
-use Rattle.master_state.specs.declared.ledger.Posting.TheVariants as posting
-use Rattle.master_state.specs.Budget.{victims_of, survivors_of, is_ready}
-use Rattle.master_state.specs.Data.{MasterData}
-use Rattle.master_state.specs.Invariant.{IsCore, IsFirst, IsOpenPass}
-use Rattle.master_state.specs.Ledger.{took_in}
-use Rattle.master_state.specs.Log.{log_of, memory_of, state_now, image_of, images_of, find, entry_place}
-use Rattle.master_state.specs.Steps.{listed_in, start_now, next_now}
-use Rattle.master_state.proofs.Beginning.{lone_has}
-use Rattle.master_state.proofs.Finding.{each_of, index_of}
-use Rattle.master_state.proofs.Imaging.{same_id, rolled_own, rolled_other, rolled_grow}
-use Rattle.master_state.proofs.Indexing.{Grow, found_grown}
-use Rattle.master_state.proofs.LogIds.{no_segment, no_next, no_head}
+use Rattle.log_head.specs.log_model.Data.{Start, digest_for, lens_next, start_entries}
+use Rattle.log_head.specs.log_model.Ids.{has as has_id, without}
+use Rattle.master_core.specs.clean_model.Intact.{IsCommit}
+use Rattle.master_core.specs.clean_model.Memory.{Place as EntryPlace}
+use Rattle.master_core.specs.failover_model.Data.{bare, front_entries, Mends, Opens}
+use Rattle.master_core.specs.failover_model.Steps.{rolling, next_start, len_now}
+use Rattle.master_core.specs.failover_bytes.Text.{IsWholeText}
+use Rattle.master_core.specs.failover_clean.Memory.{FailMemory}
+use Rattle.master_core.specs.failover_clean.Steps.{rolled}
+use Rattle.master_core.specs.master_mending.declared.mending.Mend.TheVariants as mend
+use Rattle.master_core.specs.master_mending.Mending.{IsNextMend, turned_data, turn_roll}
+use Rattle.master_core.proofs.master_mending.Changed.{own}
+use Rattle.master_core.proofs.master_space.RollLaws.{next_is, next_id, is_commit}
+use Rattle.master_core.specs.master_state.declared.failover.Failover.{Failover}
+use Rattle.master_core.specs.master_state.declared.failover.Part.TheVariants as part
+use Rattle.master_core.specs.master_state.declared.ledger.Posting.TheVariants as posting
+use Rattle.master_core.specs.master_state.Budget.{victims_of, survivors_of, is_ready}
+use Rattle.master_core.specs.master_state.Data.{MasterData}
+use Rattle.master_core.specs.master_state.Invariant.{IsCore, IsFirst, IsOpenPass}
+use Rattle.master_core.specs.master_state.Ledger.{took_in}
+use Rattle.master_core.specs.master_state.Log.{log_of, memory_of, state_now, image_of, images_of, find, entry_place}
+use Rattle.master_core.specs.master_state.Steps.{listed_in, start_now, next_now}
+use Rattle.master_core.proofs.master_state.Beginning.{lone_has}
+use Rattle.master_core.proofs.master_state.Finding.{each_of, index_of}
+use Rattle.master_core.proofs.master_state.Imaging.{same_id, rolled_own, rolled_other, rolled_grow}
+use Rattle.master_core.proofs.master_state.Indexing.{Grow, found_grown}
+use Rattle.master_core.proofs.master_state.LogIds.{no_segment, no_next, no_head}
 use Rattle.master.specs.Placed.{IsPlaced}
 use Rattle.master.proofs.InForce.{start_real}
 use Rattle.master.proofs.MendOps.{at_part, as_part, is_at}

@@ -4,8 +4,8 @@ use Rattle.std.proofs.Common.{ap, subst, ◌∙◌, arith}
 use Rattle.std.specs.Prelude.{Option, Some, None, is_none, ◌==◌, if◌then◌else◌}
 use Rattle.std.specs.Option.{option_map, option_map_or}
 use Rattle.std.proofs.lemmas.Option.{same_Some}
-use Rattle.cleaner.specs.declared.pass.Pass.{Pass}
-use Rattle.cleaner.specs.Passes.{is_ready as is_ready_pass}
+use Rattle.master_core.specs.cleaner.declared.pass.Pass.{Pass}
+use Rattle.master_core.specs.cleaner.Passes.{is_ready as is_ready_pass}
 use Rattle.images.specs.Sorted.{changed}
 use Rattle.images.specs.Steps.{more_replicas}
 use Rattle.log_head.specs.declared.head.Roll.{Roll}
@@ -13,23 +13,23 @@ use Rattle.log_head.specs.declared.next.Next.TheVariants as next
 use Rattle.log_head.specs.Log.{head_of}
 use Rattle.log_head.specs.Steps.{lone_start, fresh_head}
 use Rattle.log_head.proofs.HeadLog.{count_is}
-use Rattle.log_model.specs.Data.{LogUnit}
-use Rattle.failover_model.specs.Data.{Head as FailHead, Calm, Rolls, Closes, Repairs, FailData, is_failing}
-use Rattle.failover_model.specs.Data.{taken_records, durable_of}
-use Rattle.failover_model.specs.Shown.{Op}
-use Rattle.failover_model.specs.Steps.{ended, mended, with_taken}
-use Rattle.master_mending.specs.declared.mending.Mend.{Mend}
-use Rattle.master_mending.specs.declared.mending.Mend.TheVariants as mend
-use Rattle.master_mending.specs.Mending.{IsInPart, IsNextMend, was_headless, opening, turned_data}
-use Rattle.master_mending.specs.Mending.{raised_data, first_lost, repaired_data, with_part, closed_more}
-use Rattle.master_mending.specs.Mending.{mended_data, turn_roll, backup_for}
-use Rattle.master_state.specs.declared.failover.Failover.{Failover}
-use Rattle.master_state.specs.declared.failover.Part.TheVariants as part
-use Rattle.master_state.specs.declared.ledger.Posting.TheVariants as posting
-use Rattle.master_state.specs.Data.{MasterData}
-use Rattle.master_state.specs.Invariant.{IsCore}
-use Rattle.master_state.specs.Log.{home, log_of}
-use Rattle.master_state.specs.Steps.{closed_data}
+use Rattle.log_head.specs.log_model.Data.{LogUnit}
+use Rattle.master_core.specs.failover_model.Data.{Head as FailHead, Calm, Rolls, Closes, Repairs, FailData, is_failing}
+use Rattle.master_core.specs.failover_model.Data.{taken_records, durable_of}
+use Rattle.master_core.specs.failover_model.Shown.{Op}
+use Rattle.master_core.specs.failover_model.Steps.{ended, mended, with_taken}
+use Rattle.master_core.specs.master_mending.declared.mending.Mend.{Mend}
+use Rattle.master_core.specs.master_mending.declared.mending.Mend.TheVariants as mend
+use Rattle.master_core.specs.master_mending.Mending.{IsInPart, IsNextMend, was_headless, opening, turned_data}
+use Rattle.master_core.specs.master_mending.Mending.{raised_data, first_lost, repaired_data, with_part, closed_more}
+use Rattle.master_core.specs.master_mending.Mending.{mended_data, turn_roll, backup_for}
+use Rattle.master_core.specs.master_state.declared.failover.Failover.{Failover}
+use Rattle.master_core.specs.master_state.declared.failover.Part.TheVariants as part
+use Rattle.master_core.specs.master_state.declared.ledger.Posting.TheVariants as posting
+use Rattle.master_core.specs.master_state.Data.{MasterData}
+use Rattle.master_core.specs.master_state.Invariant.{IsCore}
+use Rattle.master_core.specs.master_state.Log.{home, log_of}
+use Rattle.master_core.specs.master_state.Steps.{closed_data}
 use Rattle.master.specs.Mends.{IsMended, IsOnward, IsMendOp}
 use Rattle.master.proofs.InForce.{headed_or, fails, failover_of, force_headed, force_headless}
 use Rattle.master.proofs.PushedRest.{SameRest, closed_rest, same_rest}

@@ -3,9 +3,9 @@ use Rattle.std.proofs.Common.{◌≡◌, ℕ, ◌≤◌, inl, inr, Bool, List, [
 use Rattle.std.specs.Prelude.{Option, Some, None, IfSome, IsSome}
 use Rattle.std.specs.Option.{option_map, option_map_or}
 use Rattle.std.proofs.lemmas.Option.{same_Some}
-use Rattle.cleaner.specs.declared.pass.Pass.{Pass as OpenPass}
-use Rattle.cleaner.specs.Passes.{images_in, rest_of}
-use Rattle.cleaner.proofs.Ends.{rest_same}
+use Rattle.master_core.specs.cleaner.declared.pass.Pass.{Pass as OpenPass}
+use Rattle.master_core.specs.cleaner.Passes.{images_in, rest_of}
+use Rattle.master_core.proofs.cleaner.Ends.{rest_same}
 use Rattle.entry.specs.declared.key.Key.{Key}
 use Rattle.entry.specs.declared.entry.Object.{Object}
 use Rattle.entry.specs.declared.entry.Tombstone.{Tombstone}
@@ -14,26 +14,26 @@ use Rattle.entry.specs.declared.entry.Entry.TheVariants as entry
 use Rattle.entry.specs.Bag.{IsAmong}
 use Rattle.entry.specs.Meaning.{Versioned, object_at}
 use Rattle.places.specs.declared.place.Place.{Place}
-use Rattle.compactor.specs.Places.{IsAtPlace}
+use Rattle.master_core.specs.compactor.Places.{IsAtPlace}
 use Rattle.replica.specs.Picture.{FleetState}
-use Rattle.clean_model.specs.Memory.{Place as EntryPlace, Index, Images, Pass, IsAt, StandsAt, SegmentHas}
-use Rattle.clean_model.specs.Memory.{new_ids}
-use Rattle.clean_model.specs.Tracked.{IsTracked}
-use Rattle.failover_model.specs.Data.{FailData, new_of}
-use Rattle.failover_model.specs.Log.{Texts}
-use Rattle.failover_model.specs.Steps.{ids_now}
-use Rattle.failover_clean.specs.Covered.{map_of}
-use Rattle.failover_clean.specs.Fleet.{HoldsAll}
-use Rattle.failover_clean.specs.Memory.{Spot, FailMemory, log_ids, log_set_of}
-use Rattle.failover_clean.specs.Same.{IsFoundInBoth, IsSameMemory}
-use Rattle.master_state.specs.Budget.{victims_of, survivors_of, is_committing}
-use Rattle.master_state.specs.Data.{MasterData}
-use Rattle.master_state.specs.Index.{LiesFound}
-use Rattle.master_state.specs.Invariant.{IsCore, IsOpenPass}
-use Rattle.master_state.specs.Log.{log_of, state_now, image_of, images_of, find, position_of, entry_place, rest_now}
-use Rattle.master_state.specs.Log.{memory_of}
-use Rattle.master_state.proofs.Finding.{each_of, found_place}
-use Rattle.master_state.proofs.LogIds.{older_image}
+use Rattle.master_core.specs.clean_model.Memory.{Place as EntryPlace, Index, Images, Pass, IsAt, StandsAt, SegmentHas}
+use Rattle.master_core.specs.clean_model.Memory.{new_ids}
+use Rattle.master_core.specs.clean_model.Tracked.{IsTracked}
+use Rattle.master_core.specs.failover_model.Data.{FailData, new_of}
+use Rattle.master_core.specs.failover_model.Log.{Texts}
+use Rattle.master_core.specs.failover_model.Steps.{ids_now}
+use Rattle.master_core.specs.failover_clean.Covered.{map_of}
+use Rattle.master_core.specs.failover_clean.Fleet.{HoldsAll}
+use Rattle.master_core.specs.failover_clean.Memory.{Spot, FailMemory, log_ids, log_set_of}
+use Rattle.master_core.specs.failover_clean.Same.{IsFoundInBoth, IsSameMemory}
+use Rattle.master_core.specs.master_state.Budget.{victims_of, survivors_of, is_committing}
+use Rattle.master_core.specs.master_state.Data.{MasterData}
+use Rattle.master_core.specs.master_state.Index.{LiesFound}
+use Rattle.master_core.specs.master_state.Invariant.{IsCore, IsOpenPass}
+use Rattle.master_core.specs.master_state.Log.{log_of, state_now, image_of, images_of, find, position_of, entry_place, rest_now}
+use Rattle.master_core.specs.master_state.Log.{memory_of}
+use Rattle.master_core.proofs.master_state.Finding.{each_of, found_place}
+use Rattle.master_core.proofs.master_state.LogIds.{older_image}
 use Rattle.master.proofs.KeptByEntries.{stands_by_entries}
 use Rattle.master.proofs.Lasting.{Lasts, all_lasts}
 use Rattle.master.proofs.LogSets.{among_at_place, entry_imaged, imaged, counts_imaged, given_up_none}

@@ -8,7 +8,7 @@ use Rattle.std.proofs.lemmas.Bool.{le-leb, eqb-true}
 use Rattle.std.proofs.lemmas.Bool.Decides.{nat_tests}
 use Rattle.std.proofs.lemmas.List.{length-append, length-set}
 use Rattle.std.proofs.lemmas.Option.{same_Some, slice_get_within}
-use Rattle.cleaner.specs.declared.pass.Pass.{Pass}
+use Rattle.master_core.specs.cleaner.declared.pass.Pass.{Pass}
 use Rattle.entry.specs.declared.entry.Entry.{Entry}
 use Rattle.entry.specs.Text.{Opening, text_of, opening_of as opening_at}
 use Rattle.replica.specs.Op.{ActValue, Open as OpenBytes, Extend as ExtendBytes}
@@ -22,31 +22,31 @@ use Rattle.log_head.specs.Steps.{with_opened_replica, with_all_taken, with_new_r
 use Rattle.log_head.proofs.HeadLog.{end_is, front_is, part_is, count_is}
 use Rattle.log_head.proofs.RollLog.{head_in_force}
 use Rattle.log_head.proofs.Rolls.{rolls, zeros_length}
-use Rattle.log_model.specs.Data.{Head as LogHead, start_entries, entries_of}
-use Rattle.log_model.specs.Ids.{has, without}
-use Rattle.log_model.specs.Ops.{op_of}
-use Rattle.log_model.specs.Steps.{units_between}
-use Rattle.failover_model.specs.Data.{Head, front, bare, Calm, Rolls, FailData, HasTaken, IsHome}
-use Rattle.failover_model.specs.Shown.{Act, Open, Extend, Close, Op, On}
-use Rattle.failover_model.specs.Steps.{with_taken, with_count, ended, EndsRoll, OpensNew, ClosesOld}
-use Rattle.failover_model.specs.Text.{length_of}
-use Rattle.failover_bytes.specs.Ops.{act_for, log_op_for}
-use Rattle.failover_bytes.proofs.Texts.{length_is}
-use Rattle.failover_clean.specs.Ops.{IsHeadOp}
-use Rattle.master_state.specs.declared.failover.Failover.{Failover}
-use Rattle.master_state.specs.declared.ledger.Posting.{Posting}
-use Rattle.master_state.specs.declared.ledger.Posting.TheVariants as posting
-use Rattle.master_state.specs.declared.step.StepAnswer.{StepAnswer}
-use Rattle.master_state.specs.declared.step.StepAnswer.TheVariants.{Applied, Opened, Extended, Closed, Rolling}
-use Rattle.master_state.specs.declared.step.StepAnswer.TheVariants.{Compacted, Begun, Moved, Carried, Dropped}
-use Rattle.master_state.specs.declared.step.StepAnswer.TheVariants.{Sealed, Freed, Raised, Repaired}
-use Rattle.master_state.specs.Data.{MasterData}
-use Rattle.master_state.specs.Images.{with_closed}
-use Rattle.master_state.specs.Invariant.{IsRollOf, IsCore}
-use Rattle.master_state.specs.Ledger.{took_in, counts_in, shut_in, ended_with}
-use Rattle.master_state.specs.Log.{home, placed, fail_config, opening_of, is_opened, failing_mode, log_of}
-use Rattle.master_state.specs.Steps.{pass_ended, roll_ended, closed_data, backup_of, pushed_data}
-use Rattle.master_state.proofs.Imaging.{same_id, other_id}
+use Rattle.log_head.specs.log_model.Data.{Head as LogHead, start_entries, entries_of}
+use Rattle.log_head.specs.log_model.Ids.{has, without}
+use Rattle.log_head.specs.log_model.Ops.{op_of}
+use Rattle.log_head.specs.log_model.Steps.{units_between}
+use Rattle.master_core.specs.failover_model.Data.{Head, front, bare, Calm, Rolls, FailData, HasTaken, IsHome}
+use Rattle.master_core.specs.failover_model.Shown.{Act, Open, Extend, Close, Op, On}
+use Rattle.master_core.specs.failover_model.Steps.{with_taken, with_count, ended, EndsRoll, OpensNew, ClosesOld}
+use Rattle.master_core.specs.failover_model.Text.{length_of}
+use Rattle.master_core.specs.failover_bytes.Ops.{act_for, log_op_for}
+use Rattle.master_core.proofs.failover_bytes.Texts.{length_is}
+use Rattle.master_core.specs.failover_clean.Ops.{IsHeadOp}
+use Rattle.master_core.specs.master_state.declared.failover.Failover.{Failover}
+use Rattle.master_core.specs.master_state.declared.ledger.Posting.{Posting}
+use Rattle.master_core.specs.master_state.declared.ledger.Posting.TheVariants as posting
+use Rattle.master_core.specs.master_state.declared.step.StepAnswer.{StepAnswer}
+use Rattle.master_core.specs.master_state.declared.step.StepAnswer.TheVariants.{Applied, Opened, Extended, Closed, Rolling}
+use Rattle.master_core.specs.master_state.declared.step.StepAnswer.TheVariants.{Compacted, Begun, Moved, Carried, Dropped}
+use Rattle.master_core.specs.master_state.declared.step.StepAnswer.TheVariants.{Sealed, Freed, Raised, Repaired}
+use Rattle.master_core.specs.master_state.Data.{MasterData}
+use Rattle.master_core.specs.master_state.Images.{with_closed}
+use Rattle.master_core.specs.master_state.Invariant.{IsRollOf, IsCore}
+use Rattle.master_core.specs.master_state.Ledger.{took_in, counts_in, shut_in, ended_with}
+use Rattle.master_core.specs.master_state.Log.{home, placed, fail_config, opening_of, is_opened, failing_mode, log_of}
+use Rattle.master_core.specs.master_state.Steps.{pass_ended, roll_ended, closed_data, backup_of, pushed_data}
+use Rattle.master_core.proofs.master_state.Imaging.{same_id, other_id}
 use Rattle.master.specs.Placed.{closed_by, closed_now, holders, is_opening, IsPlaced}
 use Rattle.master.specs.Pushes.{IsAfter, ExtendsNext, IsNextOp, answer_of}
 use Rattle.master.proofs.Counting.{AreUnfailed}

@@ -6,10 +6,10 @@ use Rattle.std.specs.Prelude.{Option, Some, None, IfSome, unwrap_or, ◌==◌, i
 use Rattle.std.specs.List.{AllByRecursion}
 use Rattle.std.specs.Option.{option_map_or}
 use Rattle.std.proofs.lemmas.Bool.{eqb-true}
-use Rattle.cleaner.specs.declared.pass.Pass.{Pass}
-use Rattle.cleaner.specs.Passes.{images_in, survivor_ids, places_on, rest_of, is_at_end}
-use Rattle.cleaner.proofs.Images.{is_victim}
-use Rattle.cleaner.proofs.SurvivorIds.{among_ids}
+use Rattle.master_core.specs.cleaner.declared.pass.Pass.{Pass}
+use Rattle.master_core.specs.cleaner.Passes.{images_in, survivor_ids, places_on, rest_of, is_at_end}
+use Rattle.master_core.proofs.cleaner.Images.{is_victim}
+use Rattle.master_core.proofs.cleaner.SurvivorIds.{among_ids}
 use Rattle.entry.specs.declared.entry.Entry.{Entry}
 use Rattle.entry.specs.Bag.{IsAmong}
 use Rattle.entry.specs.Text.{text_of, IsSegment}
@@ -19,15 +19,15 @@ use Rattle.images.specs.Sorted.{IsWhole, segment_of}
 use Rattle.log_head.specs.declared.head.Roll.{Roll}
 use Rattle.log_head.specs.Head.{HeadValue}
 use Rattle.log_head.specs.Log.{head_of}
-use Rattle.log_model.specs.Data.{ids_of}
-use Rattle.clean_model.proofs.KeptEntries.{has_is}
+use Rattle.log_head.specs.log_model.Data.{ids_of}
+use Rattle.master_core.proofs.clean_model.KeptEntries.{has_is}
 use Rattle.entry.proofs.BagLemmas.{among_last}
-use Rattle.master_state.specs.Budget.{victims_of}
-use Rattle.master_state.specs.Data.{MasterData}
-use Rattle.master_state.specs.Images.{new_image_or, images_among}
-use Rattle.master_state.specs.Invariant.{IsRollOf, IsSurvivor, IsOpenPass, IsCore}
-use Rattle.master_state.specs.Log.{images_of, rest_now}
-use Rattle.master_state.proofs.Imaging.{other_id}
+use Rattle.master_core.specs.master_state.Budget.{victims_of}
+use Rattle.master_core.specs.master_state.Data.{MasterData}
+use Rattle.master_core.specs.master_state.Images.{new_image_or, images_among}
+use Rattle.master_core.specs.master_state.Invariant.{IsRollOf, IsSurvivor, IsOpenPass, IsCore}
+use Rattle.master_core.specs.master_state.Log.{images_of, rest_now}
+use Rattle.master_core.proofs.master_state.Imaging.{other_id}
 use Rattle.master.proofs.Victims.{victim_older}
 
 -- ---- closed segments

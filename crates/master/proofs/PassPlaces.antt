@@ -1,15 +1,15 @@
 -- The places of a new pass, by entries and by offsets.
 use Rattle.std.proofs.Common.{◌≡◌, ℕ, zero, suc, ◌+◌, true, inl, inr, List, [], ◌∷◌, ◌++◌, length, refl, sym, ap, subst}
 use Rattle.std.proofs.Common.{◌∙◌, arith}
-use Rattle.cleaner.specs.Passes.{places_from, places_of}
-use Rattle.cleaner.proofs.Places.{place_at, from_data, from_append}
+use Rattle.master_core.specs.cleaner.Passes.{places_from, places_of}
+use Rattle.master_core.proofs.cleaner.Places.{place_at, from_data, from_append}
 use Rattle.entry.specs.declared.entry.Entry.{Entry}
 use Rattle.entry.specs.Bag.{IsAmong}
 use Rattle.entry.specs.Format.{spelling}
 use Rattle.entry.specs.Text.{text_of, is_data}
 use Rattle.entry.proofs.BagLemmas.{among_left, among_right}
-use Rattle.clean_model.specs.Compaction.{places}
-use Rattle.clean_model.specs.Memory.{IsAt}
+use Rattle.master_core.specs.clean_model.Compaction.{places}
+use Rattle.master_core.specs.clean_model.Memory.{IsAt}
 use Rattle.places.specs.declared.place.Place.{Place}
 
 -- The entry is the one behind these.

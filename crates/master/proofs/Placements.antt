@@ -4,7 +4,7 @@ use Rattle.std.proofs.Common.{◌⊎◌, inl, inr, refl, sym, ap, subst, ◌∙�
 use Rattle.std.specs.Prelude.{Option, Some, None, IfSome, slice_get, ◌==◌, nat_le, nat_lt, not, if◌then◌else◌}
 use Rattle.std.specs.Option.{option_map_or}
 use Rattle.std.proofs.lemmas.Bool.{eqb-true, eqb-false, ltb-true, ltb-false}
-use Rattle.cleaner.specs.declared.pass.Cursor.{Cursor}
+use Rattle.master_core.specs.cleaner.declared.pass.Cursor.{Cursor}
 use Rattle.entry.specs.declared.entry.Entry.{Entry}
 use Rattle.entry.specs.Bag.{IsAmong}
 use Rattle.entry.proofs.BagLemmas.{among_either, among_image}
@@ -16,24 +16,24 @@ use Rattle.log_head.specs.declared.head.UnitEnd.{UnitEnd}
 use Rattle.log_head.specs.Head.{HeadValue}
 use Rattle.log_head.specs.Steps.{with_unit_end}
 use Rattle.log_head.proofs.Rolls.{zeros_length}
-use Rattle.failover_model.specs.Data.{Calm, is_failing}
-use Rattle.log_model.specs.Ids.{without}
-use Rattle.log_model.specs.Steps.{no_units}
-use Rattle.clean_model.proofs.KeptEntries.{has_is}
-use Rattle.master_state.specs.declared.config.Config.{Config}
-use Rattle.master_state.specs.declared.failover.Failover.{Failover}
-use Rattle.master_state.specs.declared.ledger.Posting.{Posting}
-use Rattle.master_state.specs.declared.ledger.Posting.TheVariants as posting
-use Rattle.master_state.specs.Data.{MasterData}
-use Rattle.master_state.specs.Images.{survivor_images}
-use Rattle.master_state.specs.Invariant.{IsRollOf, IsCore}
-use Rattle.master_state.specs.Ledger.{forgotten, took_in, counts_in, shut_in}
-use Rattle.master_state.specs.Loading.{restored_data, settled_data}
-use Rattle.master_state.specs.Log.{home, placed, is_headless, log_of}
-use Rattle.master_state.specs.Steps.{appended, fresh_pass, rolling_data, start_now}
-use Rattle.master_state.proofs.Imaging.{ids_in, same_id, other_id}
-use Rattle.master_state.proofs.LogIds.{no_later}
-use Rattle.master_state.proofs.Rising.{Rise}
+use Rattle.master_core.specs.failover_model.Data.{Calm, is_failing}
+use Rattle.log_head.specs.log_model.Ids.{without}
+use Rattle.log_head.specs.log_model.Steps.{no_units}
+use Rattle.master_core.proofs.clean_model.KeptEntries.{has_is}
+use Rattle.master_core.specs.master_state.declared.config.Config.{Config}
+use Rattle.master_core.specs.master_state.declared.failover.Failover.{Failover}
+use Rattle.master_core.specs.master_state.declared.ledger.Posting.{Posting}
+use Rattle.master_core.specs.master_state.declared.ledger.Posting.TheVariants as posting
+use Rattle.master_core.specs.master_state.Data.{MasterData}
+use Rattle.master_core.specs.master_state.Images.{survivor_images}
+use Rattle.master_core.specs.master_state.Invariant.{IsRollOf, IsCore}
+use Rattle.master_core.specs.master_state.Ledger.{forgotten, took_in, counts_in, shut_in}
+use Rattle.master_core.specs.master_state.Loading.{restored_data, settled_data}
+use Rattle.master_core.specs.master_state.Log.{home, placed, is_headless, log_of}
+use Rattle.master_core.specs.master_state.Steps.{appended, fresh_pass, rolling_data, start_now}
+use Rattle.master_core.proofs.master_state.Imaging.{ids_in, same_id, other_id}
+use Rattle.master_core.proofs.master_state.LogIds.{no_later}
+use Rattle.master_core.proofs.master_state.Rising.{Rise}
 use Rattle.master.specs.Placed.{closed_by, holders, is_opening, IsPlaced}
 use Rattle.master.proofs.InForce.{fails}
 use Rattle.std.specs.List.{AllByRecursion}

@@ -3,14 +3,14 @@ use Rattle.std.proofs.Common.{◌≡◌, ℕ, zero, suc, ◌⊎◌, ◌+◌, ◌
 use Rattle.std.proofs.Common.{length, refl, sym, ap, ◌∙◌, arith}
 use Rattle.std.specs.Prelude.{None, ◌==◌, ◌||◌}
 use Rattle.std.proofs.lemmas.Bool.{cases_eq, eqb-true}
-use Rattle.log_model.specs.Ids.{has, without}
-use Rattle.master_state.specs.declared.config.Config.{Config}
-use Rattle.master_state.specs.Config.{config_fault}
-use Rattle.master_state.specs.Data.{MasterData}
-use Rattle.master_state.specs.Invariant.{IsCore}
-use Rattle.master_state.specs.Log.{home, placed, working}
-use Rattle.master_state.proofs.Homes.{working_many, homes_apart, homes_left, home_works}
-use Rattle.master_state.proofs.Imaging.{same_id}
+use Rattle.log_head.specs.log_model.Ids.{has, without}
+use Rattle.master_core.specs.master_state.declared.config.Config.{Config}
+use Rattle.master_core.specs.master_state.Config.{config_fault}
+use Rattle.master_core.specs.master_state.Data.{MasterData}
+use Rattle.master_core.specs.master_state.Invariant.{IsCore}
+use Rattle.master_core.specs.master_state.Log.{home, placed, working}
+use Rattle.master_core.proofs.master_state.Homes.{working_many, homes_apart, homes_left, home_works}
+use Rattle.master_core.proofs.master_state.Imaging.{same_id}
 
 -- ---- the backups of the first replicas
 

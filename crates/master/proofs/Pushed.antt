@@ -5,7 +5,7 @@ use Rattle.std.specs.Prelude.{Option, Some, None, IfSome, IsSome, ◌==◌, if�
 use Rattle.std.specs.Option.{option_map_or}
 use Rattle.std.proofs.lemmas.Bool.{eqb-true}
 use Rattle.std.proofs.lemmas.Option.{slice_get_within}
-use Rattle.cleaner.specs.declared.pass.Pass.{Pass as OpenPass}
+use Rattle.master_core.specs.cleaner.declared.pass.Pass.{Pass as OpenPass}
 use Rattle.entry.specs.Bag.{IsAmong}
 use Rattle.replica.specs.Op.{OpValue}
 use Rattle.replica.specs.Picture.{FleetState}
@@ -19,34 +19,34 @@ use Rattle.log_head.specs.Log.{start_of}
 use Rattle.log_head.specs.Next.{IsNextPush, replica_of, segment_of}
 use Rattle.log_head.specs.Steps.{with_new_replica}
 use Rattle.log_head.proofs.Rolls.{rolls}
-use Rattle.log_model.specs.Data.{Start}
-use Rattle.log_model.specs.Ids.{has}
-use Rattle.log_model.specs.Ops.{op_of}
-use Rattle.failover_model.specs.Data.{Calm, FailData, IsHome}
-use Rattle.failover_model.specs.Log.{Texts, IsLogHeld}
-use Rattle.failover_model.specs.Shown.{Shown}
-use Rattle.failover_model.specs.Text.{Replica}
-use Rattle.failover_model.specs.Steps.{ended, EndsRoll}
-use Rattle.failover_model.proofs.Lists.{some_is}
-use Rattle.failover_model.proofs.Replicas.{head_only}
-use Rattle.failover_bytes.specs.Ops.{log_op_for}
-use Rattle.failover_clean.specs.Fleet.{read_of}
-use Rattle.failover_clean.specs.Memory.{Spot, FailMemory}
-use Rattle.failover_clean.specs.Ops.{IsHeadOp}
-use Rattle.failover_clean.specs.Steps.{finished}
-use Rattle.master_state.specs.declared.ledger.Posting.{Posting}
-use Rattle.master_state.specs.declared.ledger.Posting.TheVariants as posting
-use Rattle.master_state.specs.declared.step.Step.TheVariants.{Push}
-use Rattle.master_state.specs.declared.waiting.Waiting.{Waiting}
-use Rattle.master_state.specs.Budget.{victims_of, is_committing}
-use Rattle.master_state.specs.Data.{MasterData}
-use Rattle.master_state.specs.Invariant.{AreApart, IsOpenPass, IsCore}
-use Rattle.master_state.specs.Ledger.{ended_with}
-use Rattle.master_state.specs.Log.{log_of, memory_of}
-use Rattle.master_state.specs.Steps.{pass_ended, roll_ended, backup_of, pushed_data}
-use Rattle.master_state.specs.Steps.{refusal_of, failed_data}
-use Rattle.master_state.proofs.Imaging.{same_id, same_roll}
-use Rattle.master_state.proofs.Refusals.{push_passed}
+use Rattle.log_head.specs.log_model.Data.{Start}
+use Rattle.log_head.specs.log_model.Ids.{has}
+use Rattle.log_head.specs.log_model.Ops.{op_of}
+use Rattle.master_core.specs.failover_model.Data.{Calm, FailData, IsHome}
+use Rattle.master_core.specs.failover_model.Log.{Texts, IsLogHeld}
+use Rattle.master_core.specs.failover_model.Shown.{Shown}
+use Rattle.master_core.specs.failover_model.Text.{Replica}
+use Rattle.master_core.specs.failover_model.Steps.{ended, EndsRoll}
+use Rattle.master_core.proofs.failover_model.Lists.{some_is}
+use Rattle.master_core.proofs.failover_model.Replicas.{head_only}
+use Rattle.master_core.specs.failover_bytes.Ops.{log_op_for}
+use Rattle.master_core.specs.failover_clean.Fleet.{read_of}
+use Rattle.master_core.specs.failover_clean.Memory.{Spot, FailMemory}
+use Rattle.master_core.specs.failover_clean.Ops.{IsHeadOp}
+use Rattle.master_core.specs.failover_clean.Steps.{finished}
+use Rattle.master_core.specs.master_state.declared.ledger.Posting.{Posting}
+use Rattle.master_core.specs.master_state.declared.ledger.Posting.TheVariants as posting
+use Rattle.master_core.specs.master_state.declared.step.Step.TheVariants.{Push}
+use Rattle.master_core.specs.master_state.declared.waiting.Waiting.{Waiting}
+use Rattle.master_core.specs.master_state.Budget.{victims_of, is_committing}
+use Rattle.master_core.specs.master_state.Data.{MasterData}
+use Rattle.master_core.specs.master_state.Invariant.{AreApart, IsOpenPass, IsCore}
+use Rattle.master_core.specs.master_state.Ledger.{ended_with}
+use Rattle.master_core.specs.master_state.Log.{log_of, memory_of}
+use Rattle.master_core.specs.master_state.Steps.{pass_ended, roll_ended, backup_of, pushed_data}
+use Rattle.master_core.specs.master_state.Steps.{refusal_of, failed_data}
+use Rattle.master_core.proofs.master_state.Imaging.{same_id, same_roll}
+use Rattle.master_core.proofs.master_state.Refusals.{push_passed}
 use Rattle.master.specs.Placed.{IsPlaced}
 use Rattle.master.specs.Pushes.{IsNextOp, answer_of}
 use Rattle.master.specs.Steps.{IsPushOp, Declines}

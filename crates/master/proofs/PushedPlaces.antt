@@ -5,7 +5,7 @@ use Rattle.std.specs.Prelude.{Option, None, IfSome, slice_get, slice_set, â—Œ==â
 use Rattle.std.specs.Option.{option_map_or}
 use Rattle.std.proofs.lemmas.List.{length-set}
 use Rattle.std.proofs.lemmas.Option.{same_Some, slice_get_within}
-use Rattle.cleaner.specs.declared.pass.Pass.{Pass}
+use Rattle.master_core.specs.cleaner.declared.pass.Pass.{Pass}
 use Rattle.entry.specs.Bag.{IsAmong}
 use Rattle.entry.proofs.ListLemmas.{all_from_among}
 use Rattle.images.specs.Image.{Image, closed_image}
@@ -17,24 +17,24 @@ use Rattle.log_head.specs.Log.{head_of}
 use Rattle.log_head.specs.Next.{IsNextPush, segment_of}
 use Rattle.log_head.specs.Steps.{with_all_taken, with_new_replica}
 use Rattle.log_head.proofs.Rolls.{rolls, zeros_length}
-use Rattle.log_model.specs.Data.{ids_of}
-use Rattle.log_model.specs.Ids.{has, without}
-use Rattle.log_model.specs.Steps.{no_units}
+use Rattle.log_head.specs.log_model.Data.{ids_of}
+use Rattle.log_head.specs.log_model.Ids.{has, without}
+use Rattle.log_head.specs.log_model.Steps.{no_units}
 use Rattle.entry.proofs.BagLemmas.{among_last}
-use Rattle.clean_model.proofs.KeptEntries.{has_is}
-use Rattle.failover_model.specs.Steps.{with_taken}
-use Rattle.master_state.specs.declared.ledger.Posting.{Posting}
-use Rattle.master_state.specs.declared.ledger.Posting.TheVariants as posting
-use Rattle.master_state.specs.Budget.{survivors_of}
-use Rattle.master_state.specs.Data.{MasterData}
-use Rattle.master_state.specs.Images.{staying, all_trimmed}
-use Rattle.master_state.specs.Invariant.{IsOpenPass, IsCore}
-use Rattle.master_state.specs.Ledger.{took_in, counts_in, shut_in, ended_with}
-use Rattle.master_state.specs.Log.{home, placed, is_opened, is_headless}
-use Rattle.master_state.specs.Steps.{pass_ended, roll_ended, backup_of, pushed_data}
-use Rattle.master_state.proofs.Imaging.{ids_in, same_id, other_id}
-use Rattle.master_state.proofs.LogIds.{no_head, none_above, not_closed}
-use Rattle.master_state.proofs.Rising.{has_not}
+use Rattle.master_core.proofs.clean_model.KeptEntries.{has_is}
+use Rattle.master_core.specs.failover_model.Steps.{with_taken}
+use Rattle.master_core.specs.master_state.declared.ledger.Posting.{Posting}
+use Rattle.master_core.specs.master_state.declared.ledger.Posting.TheVariants as posting
+use Rattle.master_core.specs.master_state.Budget.{survivors_of}
+use Rattle.master_core.specs.master_state.Data.{MasterData}
+use Rattle.master_core.specs.master_state.Images.{staying, all_trimmed}
+use Rattle.master_core.specs.master_state.Invariant.{IsOpenPass, IsCore}
+use Rattle.master_core.specs.master_state.Ledger.{took_in, counts_in, shut_in, ended_with}
+use Rattle.master_core.specs.master_state.Log.{home, placed, is_opened, is_headless}
+use Rattle.master_core.specs.master_state.Steps.{pass_ended, roll_ended, backup_of, pushed_data}
+use Rattle.master_core.proofs.master_state.Imaging.{ids_in, same_id, other_id}
+use Rattle.master_core.proofs.master_state.LogIds.{no_head, none_above, not_closed}
+use Rattle.master_core.proofs.master_state.Rising.{has_not}
 use Rattle.master.specs.Placed.{closed_now, holders, IsPlaced}
 use Rattle.master.proofs.Counting.{AreUnfailed}
 use Rattle.master.proofs.InForce.{headed, headless}

@@ -2,15 +2,15 @@
 use Rattle.std.proofs.Common.{◌≡◌, suc, Bool, true, false, List, refl}
 use Rattle.std.specs.Prelude.{Option, Some, None, ◌==◌, if◌then◌else◌}
 use Rattle.std.specs.Option.{option_map_or}
-use Rattle.cleaner.specs.declared.pass.Pass.{Pass as OpenPass}
+use Rattle.master_core.specs.cleaner.declared.pass.Pass.{Pass as OpenPass}
 use Rattle.log_head.specs.declared.head.Roll.{Roll}
 use Rattle.log_head.specs.declared.next.Next.{Next}
 use Rattle.log_head.specs.declared.next.Next.TheVariants as next
 use Rattle.log_head.specs.Steps.{with_new_replica, with_closed_replica, old_image}
-use Rattle.master_state.specs.declared.ledger.Posting.{Posting}
-use Rattle.master_state.specs.Data.{MasterData}
-use Rattle.master_state.specs.Images.{with_closed}
-use Rattle.master_state.specs.Steps.{pass_ended, roll_ended, closed_data, taken_data, ledger_after, pushed_data}
+use Rattle.master_core.specs.master_state.declared.ledger.Posting.{Posting}
+use Rattle.master_core.specs.master_state.Data.{MasterData}
+use Rattle.master_core.specs.master_state.Images.{with_closed}
+use Rattle.master_core.specs.master_state.Steps.{pass_ended, roll_ended, closed_data, taken_data, ledger_after, pushed_data}
 
 -- the configuration, the history and what was loaded are the same, and so is whether a backup failed
 abbrev pub SameRest : MasterData → MasterData → Type 0

@@ -2,18 +2,18 @@
 use Rattle.std.proofs.Common.{◌≡◌, ℕ, List, [], map}
 use Rattle.std.specs.Prelude.{unwrap_or, ◌==◌, if◌then◌else◌, Some}
 use Rattle.std.specs.Option.{option_map, option_map_or}
-use Rattle.cleaner.specs.Passes.{rest_of}
+use Rattle.master_core.specs.cleaner.Passes.{rest_of}
 use Rattle.entry.specs.declared.entry.Entry.{Entry}
-use Rattle.clean_model.specs.Memory.{Place as EntryPlace}
+use Rattle.master_core.specs.clean_model.Memory.{Place as EntryPlace}
 use Rattle.places.specs.declared.place.Place.{Place}
 use Rattle.places.specs.Map.{found}
 use Rattle.images.specs.Image.{Image}
 use Rattle.images.specs.Sorted.{segment_of}
-use Rattle.compactor.specs.Places.{keys_in}
-use Rattle.master_state.specs.Budget.{victims_of, survivors_of, is_committing}
-use Rattle.master_state.specs.Data.{MasterData}
-use Rattle.master_state.specs.Images.{new_image_or}
-use Rattle.master_state.specs.Log.{images_of, position_of, memory_of, spots_in}
+use Rattle.master_core.specs.compactor.Places.{keys_in}
+use Rattle.master_core.specs.master_state.Budget.{victims_of, survivors_of, is_committing}
+use Rattle.master_core.specs.master_state.Data.{MasterData}
+use Rattle.master_core.specs.master_state.Images.{new_image_or}
+use Rattle.master_core.specs.master_state.Log.{images_of, position_of, memory_of, spots_in}
 
 -- the closed segments are others with the same entries
 module _ (d : MasterData) (cs : List Image) (same : (s : ℕ) → segment_of cs s ≡ segment_of d.closed s) where

@@ -6,11 +6,11 @@ use Rattle.replica.specs.declared.op.TakeFault.TheVariants as take_fault
 use Rattle.replica.specs.Picture.{FleetState}
 use Rattle.replica.specs.Retire.{Retires}
 use Rattle.replica.proofs.Retiring.{retire_spares}
-use Rattle.failover_clean.proofs.KeptFleets.{others_leave_all}
-use Rattle.master_state.specs.Data.{MasterData}
-use Rattle.master_state.specs.Log.{log_of, memory_of}
-use Rattle.master_state.specs.Steps.{halted}
-use Rattle.master_state.proofs.Posted.{halted_core}
+use Rattle.master_core.proofs.failover_clean.KeptFleets.{others_leave_all}
+use Rattle.master_core.specs.master_state.Data.{MasterData}
+use Rattle.master_core.specs.master_state.Log.{log_of, memory_of}
+use Rattle.master_core.specs.master_state.Steps.{halted}
+use Rattle.master_core.proofs.master_state.Posted.{halted_core}
 use Rattle.master.specs.Invariant.{IsWellKept}
 use Rattle.master.specs.World.{retired_data}
 use Rattle.master.proofs.LostPlaces.{placed_halted}

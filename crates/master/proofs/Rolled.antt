@@ -6,10 +6,10 @@ use Rattle.std.specs.List.{AllByRecursion}
 use Rattle.std.specs.Option.{option_map, option_map_or}
 use Rattle.std.proofs.lemmas.Bool.{and_parts, eqb-true}
 use Rattle.std.proofs.lemmas.Option.{same_Some}
-use Rattle.cleaner.specs.declared.pass.Pass.{Pass as OpenPass}
-use Rattle.cleaner.specs.Passes.{images_in, survivor_ids, rest_of, is_at_end, is_ready as is_ready_pass}
-use Rattle.cleaner.specs.Seals.{first_lacking}
-use Rattle.cleaner.proofs.Lacking.{none_is_lacking}
+use Rattle.master_core.specs.cleaner.declared.pass.Pass.{Pass as OpenPass}
+use Rattle.master_core.specs.cleaner.Passes.{images_in, survivor_ids, rest_of, is_at_end, is_ready as is_ready_pass}
+use Rattle.master_core.specs.cleaner.Seals.{first_lacking}
+use Rattle.master_core.proofs.cleaner.Lacking.{none_is_lacking}
 use Rattle.entry.specs.declared.key.Key.{Key}
 use Rattle.entry.specs.declared.entry.Entry.{Entry}
 use Rattle.entry.specs.Bag.{IsAmong}
@@ -20,31 +20,31 @@ use Rattle.images.specs.Image.{Image}
 use Rattle.images.specs.Sorted.{segment_of, replicas_of}
 use Rattle.log_head.specs.declared.head.Roll.{Roll}
 use Rattle.log_head.specs.Steps.{start_after, fresh_roll}
-use Rattle.log_model.specs.Data.{Start, start_entries}
-use Rattle.clean_model.specs.Intact.{IsCommit}
-use Rattle.clean_model.specs.Memory.{Place as EntryPlace}
-use Rattle.failover_model.specs.Data.{Head as FailHead, bare, Rolls, FailData}
-use Rattle.failover_model.specs.Steps.{next_start, rolling}
-use Rattle.failover_bytes.specs.Text.{IsWholeText}
-use Rattle.failover_clean.specs.Intact.{IsReady}
-use Rattle.failover_clean.specs.Memory.{FailMemory}
-use Rattle.failover_clean.specs.Steps.{MayCommit, commit_start, rolled}
-use Rattle.failover_clean.proofs.FleetSteps.{commit_holds_all}
-use Rattle.master_state.specs.declared.step.StepAnswer.{StepAnswer}
-use Rattle.master_state.specs.Budget.{victims_of, survivors_of, is_ready, is_committing}
-use Rattle.master_state.specs.Data.{MasterData}
-use Rattle.master_state.specs.Invariant.{IsCore}
-use Rattle.master_state.specs.Loading.{IsBare}
-use Rattle.master_state.specs.Log.{is_opened, log_of, state_now, images_of, find, entry_place, rest_now, memory_of}
-use Rattle.master_state.specs.Steps.{listed_in, start_now, rolling_data, next_now, BeginsRoll, MayRollNow}
-use Rattle.master_commands.proofs.HeadsInForce.{open_opened, open_calm}
-use Rattle.master_commands.proofs.LoadedCore.{rolling_bare}
-use Rattle.master_space.proofs.RollLaws.{next_is}
-use Rattle.master_state.proofs.Finding.{each_of, index_of}
-use Rattle.master_state.proofs.Imaging.{same_id, rolled_own, rolled_other, rolled_grow}
-use Rattle.master_state.proofs.Indexing.{Grow, found_grown}
-use Rattle.master_state.proofs.LogIds.{no_segment, no_next}
-use Rattle.master_state.proofs.Refusals.{may_begin, open_parts}
+use Rattle.log_head.specs.log_model.Data.{Start, start_entries}
+use Rattle.master_core.specs.clean_model.Intact.{IsCommit}
+use Rattle.master_core.specs.clean_model.Memory.{Place as EntryPlace}
+use Rattle.master_core.specs.failover_model.Data.{Head as FailHead, bare, Rolls, FailData}
+use Rattle.master_core.specs.failover_model.Steps.{next_start, rolling}
+use Rattle.master_core.specs.failover_bytes.Text.{IsWholeText}
+use Rattle.master_core.specs.failover_clean.Intact.{IsReady}
+use Rattle.master_core.specs.failover_clean.Memory.{FailMemory}
+use Rattle.master_core.specs.failover_clean.Steps.{MayCommit, commit_start, rolled}
+use Rattle.master_core.proofs.failover_clean.FleetSteps.{commit_holds_all}
+use Rattle.master_core.specs.master_state.declared.step.StepAnswer.{StepAnswer}
+use Rattle.master_core.specs.master_state.Budget.{victims_of, survivors_of, is_ready, is_committing}
+use Rattle.master_core.specs.master_state.Data.{MasterData}
+use Rattle.master_core.specs.master_state.Invariant.{IsCore}
+use Rattle.master_core.specs.master_state.Loading.{IsBare}
+use Rattle.master_core.specs.master_state.Log.{is_opened, log_of, state_now, images_of, find, entry_place, rest_now, memory_of}
+use Rattle.master_core.specs.master_state.Steps.{listed_in, start_now, rolling_data, next_now, BeginsRoll, MayRollNow}
+use Rattle.master_core.proofs.master_commands.HeadsInForce.{open_opened, open_calm}
+use Rattle.master_core.proofs.master_commands.LoadedCore.{rolling_bare}
+use Rattle.master_core.proofs.master_space.RollLaws.{next_is}
+use Rattle.master_core.proofs.master_state.Finding.{each_of, index_of}
+use Rattle.master_core.proofs.master_state.Imaging.{same_id, rolled_own, rolled_other, rolled_grow}
+use Rattle.master_core.proofs.master_state.Indexing.{Grow, found_grown}
+use Rattle.master_core.proofs.master_state.LogIds.{no_segment, no_next}
+use Rattle.master_core.proofs.master_state.Refusals.{may_begin, open_parts}
 use Rattle.master.specs.Invariant.{IsWellKept, IsWellLoaded}
 use Rattle.master.specs.Placed.{IsPlaced}
 use Rattle.master.proofs.InForce.{headed, force_headed, start_real}

@@ -1,9 +1,9 @@
 -- A run goes on by a step.
 use Rattle.std.proofs.Common.{◌≡◌, List, [], ◌∷◌, ◌++◌, refl, sym, subst}
 use Rattle.std.specs.Prelude.{Result}
-use Rattle.master_state.specs.declared.step.Refusal.{Refusal}
-use Rattle.master_state.specs.declared.step.Step.{Step}
-use Rattle.master_state.specs.declared.step.StepAnswer.{StepAnswer}
+use Rattle.master_core.specs.master_state.declared.step.Refusal.{Refusal}
+use Rattle.master_core.specs.master_state.declared.step.Step.{Step}
+use Rattle.master_core.specs.master_state.declared.step.StepAnswer.{StepAnswer}
 use Rattle.master.specs.Steps.{Steps, IsNextStop, IsRun}
 use Rattle.master.specs.World.{World}
 

@@ -4,9 +4,9 @@ use Rattle.std.proofs.Common.{length, refl, sym, ap, subst, ◌∙◌, arith}
 use Rattle.std.specs.Prelude.{Option, Some, None, IfSome, is_none, filter, ◌==◌, if◌then◌else◌}
 use Rattle.std.specs.Option.{option_map_or}
 use Rattle.std.proofs.lemmas.Bool.{and_parts, eqb-true, eqb-false}
-use Rattle.cleaner.specs.declared.pass.Pass.{Pass}
-use Rattle.cleaner.specs.Passes.{survivor_ids, is_at_end}
-use Rattle.cleaner.specs.Seals.{first_lacking}
+use Rattle.master_core.specs.cleaner.declared.pass.Pass.{Pass}
+use Rattle.master_core.specs.cleaner.Passes.{survivor_ids, is_at_end}
+use Rattle.master_core.specs.cleaner.Seals.{first_lacking}
 use Rattle.entry.specs.declared.entry.Header.{Header}
 use Rattle.entry.specs.declared.entry.Role.TheVariants as role
 use Rattle.entry.specs.declared.entry.Entry.{Entry}
@@ -21,38 +21,38 @@ use Rattle.replica.specs.Take.{Takes, Refuses}
 use Rattle.replica.specs.declared.op.TakeFault.{TakeFault}
 use Rattle.replica.specs.declared.op.TakeFault.TheVariants as take_fault
 use Rattle.log_head.specs.declared.head.Roll.{Roll}
-use Rattle.log_model.specs.Ids.{has, without}
-use Rattle.log_model.specs.Ops.{op_of}
-use Rattle.log_model.proofs.Segments.{data_alone}
-use Rattle.clean_model.specs.Intact.{BeginAsSurvivor}
-use Rattle.failover_model.specs.Data.{FailData}
-use Rattle.failover_model.specs.Shown.{Act, Seal as SealAct}
-use Rattle.failover_model.specs.Steps.{with_taken}
-use Rattle.failover_bytes.specs.Ops.{log_op_for}
-use Rattle.failover_bytes.specs.Text.{entries_for, IsWholeText}
-use Rattle.failover_bytes.proofs.Texts.{no_opening}
-use Rattle.failover_clean.specs.Fleet.{HoldsAll}
-use Rattle.failover_clean.specs.Memory.{FailMemory, text_in}
-use Rattle.failover_clean.specs.Ops.{IsOp}
-use Rattle.failover_clean.specs.Steps.{MaySeal, seal_op}
-use Rattle.failover_clean.proofs.FleetAnswers.{ok_holds_all}
-use Rattle.master_state.specs.declared.ledger.Posting.TheVariants as posting
-use Rattle.master_state.specs.declared.step.Step.TheVariants.{Seal}
-use Rattle.master_state.specs.declared.step.StepAnswer.TheVariants.{Sealed as StepSealed}
-use Rattle.master_state.specs.Budget.{survivors_of, is_committing}
-use Rattle.master_state.specs.Causes.{seal_refusal, step_refusal}
-use Rattle.master_state.specs.Data.{MasterData}
-use Rattle.master_state.specs.Invariant.{IsCore}
-use Rattle.master_state.specs.Ledger.{took_in, posted}
-use Rattle.master_state.specs.Log.{log_of, memory_of, images_of, entry_place, home, placed}
-use Rattle.master_state.specs.Steps.{sealed_data, refusal_of, failed_data}
-use Rattle.master_state.specs.Waits.{next_seal}
-use Rattle.master_state.proofs.Imaging.{same_id, other_id}
-use Rattle.master_state.proofs.LogIds.{apart, closed_rise}
-use Rattle.master_state.proofs.Recounts.{one_more, segment_recounted}
-use Rattle.master_state.proofs.Refusals.{sizes_of}
-use Rattle.master_space.proofs.Calm.{passes_first, calm_parts}
-use Rattle.master_space.proofs.SealedCore.{SealsNext, seals_next}
+use Rattle.log_head.specs.log_model.Ids.{has, without}
+use Rattle.log_head.specs.log_model.Ops.{op_of}
+use Rattle.log_head.proofs.log_model.Segments.{data_alone}
+use Rattle.master_core.specs.clean_model.Intact.{BeginAsSurvivor}
+use Rattle.master_core.specs.failover_model.Data.{FailData}
+use Rattle.master_core.specs.failover_model.Shown.{Act, Seal as SealAct}
+use Rattle.master_core.specs.failover_model.Steps.{with_taken}
+use Rattle.master_core.specs.failover_bytes.Ops.{log_op_for}
+use Rattle.master_core.specs.failover_bytes.Text.{entries_for, IsWholeText}
+use Rattle.master_core.proofs.failover_bytes.Texts.{no_opening}
+use Rattle.master_core.specs.failover_clean.Fleet.{HoldsAll}
+use Rattle.master_core.specs.failover_clean.Memory.{FailMemory, text_in}
+use Rattle.master_core.specs.failover_clean.Ops.{IsOp}
+use Rattle.master_core.specs.failover_clean.Steps.{MaySeal, seal_op}
+use Rattle.master_core.proofs.failover_clean.FleetAnswers.{ok_holds_all}
+use Rattle.master_core.specs.master_state.declared.ledger.Posting.TheVariants as posting
+use Rattle.master_core.specs.master_state.declared.step.Step.TheVariants.{Seal}
+use Rattle.master_core.specs.master_state.declared.step.StepAnswer.TheVariants.{Sealed as StepSealed}
+use Rattle.master_core.specs.master_state.Budget.{survivors_of, is_committing}
+use Rattle.master_core.specs.master_state.Causes.{seal_refusal, step_refusal}
+use Rattle.master_core.specs.master_state.Data.{MasterData}
+use Rattle.master_core.specs.master_state.Invariant.{IsCore}
+use Rattle.master_core.specs.master_state.Ledger.{took_in, posted}
+use Rattle.master_core.specs.master_state.Log.{log_of, memory_of, images_of, entry_place, home, placed}
+use Rattle.master_core.specs.master_state.Steps.{sealed_data, refusal_of, failed_data}
+use Rattle.master_core.specs.master_state.Waits.{next_seal}
+use Rattle.master_core.proofs.master_state.Imaging.{same_id, other_id}
+use Rattle.master_core.proofs.master_state.LogIds.{apart, closed_rise}
+use Rattle.master_core.proofs.master_state.Recounts.{one_more, segment_recounted}
+use Rattle.master_core.proofs.master_state.Refusals.{sizes_of}
+use Rattle.master_core.proofs.master_space.Calm.{passes_first, calm_parts}
+use Rattle.master_core.proofs.master_space.SealedCore.{SealsNext, seals_next}
 use Rattle.master.specs.Invariant.{IsWellKept}
 use Rattle.master.specs.Passes.{IsSealOp, Seals}
 use Rattle.master.specs.Placed.{holders, IsPlaced}

@@ -1,7 +1,7 @@
 -- A push keeps a master, and one that is loading.
 use Rattle.std.proofs.Common.{◌≡◌, ℕ, ◌<◌, inl, inr, false, refl, sym, ◌∙◌}
 use Rattle.std.specs.Prelude.{Some, None}
-use Rattle.cleaner.specs.declared.pass.Pass.{Pass as OpenPass}
+use Rattle.master_core.specs.cleaner.declared.pass.Pass.{Pass as OpenPass}
 use Rattle.replica.specs.Op.{OpValue}
 use Rattle.replica.specs.Picture.{FleetState}
 use Rattle.replica.specs.Take.{Takes, Refuses}
@@ -9,22 +9,22 @@ use Rattle.replica.specs.declared.op.TakeFault.{TakeFault}
 use Rattle.replica.specs.declared.op.TakeFault.TheVariants as take_fault
 use Rattle.log_head.specs.declared.next.Next.{Next}
 use Rattle.log_head.specs.Next.{IsNextPush, replica_of, segment_of}
-use Rattle.log_model.specs.Ids.{has}
-use Rattle.log_model.specs.Ops.{op_of}
-use Rattle.failover_model.specs.Data.{Calm}
-use Rattle.failover_bytes.specs.Ops.{log_op_for}
-use Rattle.failover_clean.specs.Fleet.{HoldsAll, HoldsLoading}
-use Rattle.failover_clean.proofs.FleetSteps.{finish_holds_all}
-use Rattle.master_state.specs.declared.step.Refusal.TheVariants.{Halted, Nothing}
-use Rattle.master_state.specs.declared.step.Step.TheVariants.{Push}
-use Rattle.master_state.specs.Causes.{is_done}
-use Rattle.master_state.specs.Data.{MasterData}
-use Rattle.master_state.specs.Invariant.{IsCore}
-use Rattle.master_state.specs.Loading.{IsBare}
-use Rattle.master_state.specs.Log.{log_of, memory_of}
-use Rattle.master_state.specs.Steps.{backup_of, pushed_data, refusal_of, failed_data}
-use Rattle.master_state.proofs.Refusals.{passes, push_passed}
-use Rattle.master_commands.proofs.LoadedCore.{pushed_bare}
+use Rattle.log_head.specs.log_model.Ids.{has}
+use Rattle.log_head.specs.log_model.Ops.{op_of}
+use Rattle.master_core.specs.failover_model.Data.{Calm}
+use Rattle.master_core.specs.failover_bytes.Ops.{log_op_for}
+use Rattle.master_core.specs.failover_clean.Fleet.{HoldsAll, HoldsLoading}
+use Rattle.master_core.proofs.failover_clean.FleetSteps.{finish_holds_all}
+use Rattle.master_core.specs.master_state.declared.step.Refusal.TheVariants.{Halted, Nothing}
+use Rattle.master_core.specs.master_state.declared.step.Step.TheVariants.{Push}
+use Rattle.master_core.specs.master_state.Causes.{is_done}
+use Rattle.master_core.specs.master_state.Data.{MasterData}
+use Rattle.master_core.specs.master_state.Invariant.{IsCore}
+use Rattle.master_core.specs.master_state.Loading.{IsBare}
+use Rattle.master_core.specs.master_state.Log.{log_of, memory_of}
+use Rattle.master_core.specs.master_state.Steps.{backup_of, pushed_data, refusal_of, failed_data}
+use Rattle.master_core.proofs.master_state.Refusals.{passes, push_passed}
+use Rattle.master_core.proofs.master_commands.LoadedCore.{pushed_bare}
 use Rattle.master.specs.Invariant.{IsWellKept, IsWellLoaded, IsServed, StaysServed}
 use Rattle.master.specs.Pushes.{IsNextOp, answer_of}
 use Rattle.master.specs.Steps.{Declines}

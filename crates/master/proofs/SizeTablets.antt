@@ -16,17 +16,17 @@ use Rattle.entry.proofs.BagLemmas.{among_permutation, among_images}
 use Rattle.replica.specs.Picture.{FleetState}
 use Rattle.tablet_will.specs.Parts.{is_in_one}
 use Rattle.tablet_will.specs.Sizes.{are_in_order, are_sizes}
-use Rattle.log_model.specs.Ids.{has}
-use Rattle.clean_model.proofs.KeptEntries.{is_has, has_is}
-use Rattle.clean_model.proofs.Lists.{among_at}
-use Rattle.failover_model.specs.Data.{FailData, state_of}
-use Rattle.failover_clean.specs.Fleet.{read_of, KeepsAll}
-use Rattle.failover_clean.specs.Intact.{IsIntact}
-use Rattle.failover_clean.specs.Memory.{FailMemory, log_ids}
-use Rattle.master_state.specs.Data.{MasterData}
-use Rattle.master_state.specs.Log.{log_of, memory_of, state_now}
-use Rattle.master_state.specs.Sizes.{size_of, AreSizesOf}
-use Rattle.master_space.proofs.LiveObjects.{IsAway, key_among}
+use Rattle.log_head.specs.log_model.Ids.{has}
+use Rattle.master_core.proofs.clean_model.KeptEntries.{is_has, has_is}
+use Rattle.master_core.proofs.clean_model.Lists.{among_at}
+use Rattle.master_core.specs.failover_model.Data.{FailData, state_of}
+use Rattle.master_core.specs.failover_clean.Fleet.{read_of, KeepsAll}
+use Rattle.master_core.specs.failover_clean.Intact.{IsIntact}
+use Rattle.master_core.specs.failover_clean.Memory.{FailMemory, log_ids}
+use Rattle.master_core.specs.master_state.Data.{MasterData}
+use Rattle.master_core.specs.master_state.Log.{log_of, memory_of, state_now}
+use Rattle.master_core.specs.master_state.Sizes.{size_of, AreSizesOf}
+use Rattle.master_core.proofs.master_space.LiveObjects.{IsAway, key_among}
 use Rattle.master.specs.Invariant.{IsWellKept}
 
 -- ---- the keys of the map

@@ -4,24 +4,24 @@ use Rattle.std.specs.Prelude.{Some, None, IsSome, unwrap_or, ◌==◌, if◌then
 use Rattle.std.specs.Option.{option_map}
 use Rattle.std.proofs.lemmas.Option.{same_Some}
 use Rattle.replica.specs.Picture.{FleetState}
-use Rattle.log_model.specs.Data.{Start, start_entries}
-use Rattle.failover_model.specs.Data.{bare, FailData, IsNew}
-use Rattle.failover_model.specs.Steps.{restored, restored_start, MayBegin}
-use Rattle.failover_bytes.specs.Runs.{read_fleet}
-use Rattle.failover_bytes.specs.Segments.{HeadsAreSegments}
-use Rattle.failover_bytes.specs.Spelled.{read_replica}
-use Rattle.failover_bytes.specs.Text.{IsWholeText}
-use Rattle.failover_clean.specs.Fleet.{HoldsAll}
-use Rattle.failover_clean.specs.Steps.{first_memory}
-use Rattle.failover_clean.proofs.FleetSteps.{fresh_holds_all}
-use Rattle.master_state.specs.declared.config.Config.{Config}
-use Rattle.master_state.specs.Config.{config_fault}
-use Rattle.master_state.specs.Data.{fresh_data}
-use Rattle.master_state.specs.Invariant.{IsCore}
-use Rattle.master_state.specs.Loading.{restored_data}
-use Rattle.master_state.specs.Log.{fail_config, log_of, image_of, images_of}
-use Rattle.master_state.proofs.Beginning.{restored_log}
-use Rattle.master_state.proofs.Refusals.{has_homes}
+use Rattle.log_head.specs.log_model.Data.{Start, start_entries}
+use Rattle.master_core.specs.failover_model.Data.{bare, FailData, IsNew}
+use Rattle.master_core.specs.failover_model.Steps.{restored, restored_start, MayBegin}
+use Rattle.master_core.specs.failover_bytes.Runs.{read_fleet}
+use Rattle.master_core.specs.failover_bytes.Segments.{HeadsAreSegments}
+use Rattle.master_core.specs.failover_bytes.Spelled.{read_replica}
+use Rattle.master_core.specs.failover_bytes.Text.{IsWholeText}
+use Rattle.master_core.specs.failover_clean.Fleet.{HoldsAll}
+use Rattle.master_core.specs.failover_clean.Steps.{first_memory}
+use Rattle.master_core.proofs.failover_clean.FleetSteps.{fresh_holds_all}
+use Rattle.master_core.specs.master_state.declared.config.Config.{Config}
+use Rattle.master_core.specs.master_state.Config.{config_fault}
+use Rattle.master_core.specs.master_state.Data.{fresh_data}
+use Rattle.master_core.specs.master_state.Invariant.{IsCore}
+use Rattle.master_core.specs.master_state.Loading.{restored_data}
+use Rattle.master_core.specs.master_state.Log.{fail_config, log_of, image_of, images_of}
+use Rattle.master_core.proofs.master_state.Beginning.{restored_log}
+use Rattle.master_core.proofs.master_state.Refusals.{has_homes}
 use Rattle.master.specs.Invariant.{IsWellKept}
 use Rattle.master.specs.Registry.{IsUnraised}
 use Rattle.master.proofs.HeadTexts.{none_whole}

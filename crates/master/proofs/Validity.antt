@@ -1,9 +1,9 @@
 -- What is kept is valid.
 use Rattle.replica.specs.Picture.{FleetState}
-use Rattle.failover_clean.proofs.KeptFleets.{kept_is_sound, kept_is_covered, kept_is_durable}
-use Rattle.master_state.specs.Data.{MasterData}
-use Rattle.master_state.specs.Log.{log_of, memory_of}
-use Rattle.master_state.proofs.Finding.{indexed}
+use Rattle.master_core.proofs.failover_clean.KeptFleets.{kept_is_sound, kept_is_covered, kept_is_durable}
+use Rattle.master_core.specs.master_state.Data.{MasterData}
+use Rattle.master_core.specs.master_state.Log.{log_of, memory_of}
+use Rattle.master_core.proofs.master_state.Finding.{indexed}
 use Rattle.master.specs.Invariant.{IsWellKept}
 use Rattle.master.specs.Valid.{IsValid}
 use Rattle.master.proofs.Counting.{counted, pushed_all, head_homes, kept_unfailed}

@@ -1,17 +1,17 @@
 -- Where victims and survivors of an open pass are in the log.
 use Rattle.std.proofs.Common.{◌≡◌, ℕ, ◌<◌, true, [], ◌∷◌, sym, subst, ◌∙◌}
 use Rattle.std.specs.Prelude.{Option, Some, None, IfSome}
-use Rattle.cleaner.specs.declared.pass.Pass.{Pass as OpenPass}
+use Rattle.master_core.specs.cleaner.declared.pass.Pass.{Pass as OpenPass}
 use Rattle.entry.specs.Bag.{IsAmong}
 use Rattle.entry.proofs.BagLemmas.{among_left, among_last}
 use Rattle.entry.proofs.ListLemmas.{all_among}
 use Rattle.log_head.specs.Log.{head_of}
-use Rattle.log_model.specs.Data.{ids_of}
-use Rattle.log_model.specs.Ids.{has}
-use Rattle.clean_model.proofs.KeptEntries.{has_is, is_has}
-use Rattle.master_state.specs.Budget.{victims_of, survivors_of}
-use Rattle.master_state.specs.Data.{MasterData}
-use Rattle.master_state.specs.Invariant.{IsCore, IsOpenPass}
+use Rattle.log_head.specs.log_model.Data.{ids_of}
+use Rattle.log_head.specs.log_model.Ids.{has}
+use Rattle.master_core.proofs.clean_model.KeptEntries.{has_is, is_has}
+use Rattle.master_core.specs.master_state.Budget.{victims_of, survivors_of}
+use Rattle.master_core.specs.master_state.Data.{MasterData}
+use Rattle.master_core.specs.master_state.Invariant.{IsCore, IsOpenPass}
 
 module _ (d : MasterData) (core : IsCore d) (s : ℕ) where
   in_others : (o : Option OpenPass) → IfSome o (IsOpenPass d) → IsAmong s (victims_of o)

@@ -1,13 +1,13 @@
 -- What a master keeps, and one that is loading. What it knows, its memory, and the fleet obey the laws of a log.
 use Rattle.std.specs.Prelude.{◌≡◌, ◌≤◌, ◌⊎◌, map, true, false}
 use Rattle.replica.specs.Picture.{FleetState}
-use Rattle.failover_clean.specs.Fleet.{KeepsAll, HoldsAll, HoldsLoading}
-use Rattle.master_state.specs.declared.waiting.Waiting.{Waiting}
-use Rattle.master_state.specs.Causes.{is_done}
-use Rattle.master_state.specs.Data.{MasterData}
-use Rattle.master_state.specs.Invariant.{AreApart, IsCore}
-use Rattle.master_state.specs.Loading.{IsBare}
-use Rattle.master_state.specs.Log.{log_of, memory_of}
+use Rattle.master_core.specs.failover_clean.Fleet.{KeepsAll, HoldsAll, HoldsLoading}
+use Rattle.master_core.specs.master_state.declared.waiting.Waiting.{Waiting}
+use Rattle.master_core.specs.master_state.Causes.{is_done}
+use Rattle.master_core.specs.master_state.Data.{MasterData}
+use Rattle.master_core.specs.master_state.Invariant.{AreApart, IsCore}
+use Rattle.master_core.specs.master_state.Loading.{IsBare}
+use Rattle.master_core.specs.master_state.Log.{log_of, memory_of}
 use Rattle.master.specs.Placed.{IsPlaced}
 
 -- All is intact on the fleet. While it works, the master knows what its backups hold.

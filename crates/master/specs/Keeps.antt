@@ -1,8 +1,8 @@
 -- What steps keep, whatever they answer. They make at most so many takes.
 use Rattle.std.specs.Prelude.{◌≡◌, ℕ, ◌+◌, ◌≤◌, List, ◌++◌}
-use Rattle.failover_model.specs.Data.{durable_of}
+use Rattle.master_core.specs.failover_model.Data.{durable_of}
 use Rattle.versioned_map.specs.declared.command.Record.{Record}
-use Rattle.master_state.specs.Log.{log_of}
+use Rattle.master_core.specs.master_state.Log.{log_of}
 use Rattle.master.specs.World.{World}
 
 pub record Keeps (most : ℕ) (old new : World) : Type 0 where

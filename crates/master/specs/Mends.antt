@@ -6,24 +6,24 @@ use Rattle.replica.specs.Op.{OpValue, Open}
 use Rattle.replica.specs.Picture.{FleetState}
 use Rattle.replica.specs.Take.{Takes, Refuses}
 use Rattle.log_head.specs.Head.{IsHeadValue}
-use Rattle.log_model.specs.Data.{Start}
-use Rattle.failover_model.specs.Data.{Mode, Opens, Repairs, FailData}
-use Rattle.failover_model.specs.Shown.{Op}
-use Rattle.failover_model.specs.Steps.{ended, EndsRoll, mended, rolling, with_taken, MayRepair, Extends, OpensNew}
-use Rattle.failover_model.specs.Steps.{Replaces, Raises, ClosesOld}
-use Rattle.failover_bytes.specs.Ops.{TakesOp}
-use Rattle.failover_clean.specs.Steps.{seal_op}
-use Rattle.master_mending.specs.declared.mending.Mend.{Mend}
-use Rattle.master_mending.specs.declared.mending.Mend.TheVariants as mend
-use Rattle.master_mending.specs.declared.turning.NewHead.{NewHead}
-use Rattle.master_mending.specs.declared.turning.NewHead.TheVariants as new_head
-use Rattle.master_mending.specs.Mending.{IsNextMend, mended_data, segment_for, backup_for, new_text}
-use Rattle.master_state.specs.declared.step.Refusal.{Refusal}
-use Rattle.master_state.specs.declared.step.Refusal.TheVariants as refusal
-use Rattle.master_state.specs.declared.step.StepAnswer.{StepAnswer}
-use Rattle.master_state.specs.declared.step.StepAnswer.TheVariants.{Opened, Extended, Closed, Raised, Repaired}
-use Rattle.master_state.specs.Data.{MasterData}
-use Rattle.master_state.specs.Log.{log_of, memory_of}
+use Rattle.log_head.specs.log_model.Data.{Start}
+use Rattle.master_core.specs.failover_model.Data.{Mode, Opens, Repairs, FailData}
+use Rattle.master_core.specs.failover_model.Shown.{Op}
+use Rattle.master_core.specs.failover_model.Steps.{ended, EndsRoll, mended, rolling, with_taken, MayRepair, Extends, OpensNew}
+use Rattle.master_core.specs.failover_model.Steps.{Replaces, Raises, ClosesOld}
+use Rattle.master_core.specs.failover_bytes.Ops.{TakesOp}
+use Rattle.master_core.specs.failover_clean.Steps.{seal_op}
+use Rattle.master_core.specs.master_mending.declared.mending.Mend.{Mend}
+use Rattle.master_core.specs.master_mending.declared.mending.Mend.TheVariants as mend
+use Rattle.master_core.specs.master_mending.declared.turning.NewHead.{NewHead}
+use Rattle.master_core.specs.master_mending.declared.turning.NewHead.TheVariants as new_head
+use Rattle.master_core.specs.master_mending.Mending.{IsNextMend, mended_data, segment_for, backup_for, new_text}
+use Rattle.master_core.specs.master_state.declared.step.Refusal.{Refusal}
+use Rattle.master_core.specs.master_state.declared.step.Refusal.TheVariants as refusal
+use Rattle.master_core.specs.master_state.declared.step.StepAnswer.{StepAnswer}
+use Rattle.master_core.specs.master_state.declared.step.StepAnswer.TheVariants.{Opened, Extended, Closed, Raised, Repaired}
+use Rattle.master_core.specs.master_state.Data.{MasterData}
+use Rattle.master_core.specs.master_state.Log.{log_of, memory_of}
 use Rattle.master.specs.World.{World}
 
 -- no replica is lost any more, and the failover has ended, or it goes on

@@ -1,19 +1,19 @@
 -- The op that a seal or a free hands to a backup.
 use Rattle.std.specs.Prelude.{◌≡◌, ℕ, None, Some}
-use Rattle.failover_model.specs.Shown.{Op}
-use Rattle.failover_bytes.specs.Ops.{TakesOp}
-use Rattle.failover_bytes.specs.Text.{entries_for}
-use Rattle.failover_clean.specs.Memory.{text_in}
-use Rattle.failover_clean.specs.Steps.{seal_op, free_op}
-use Rattle.master_state.specs.declared.ledger.Posting.TheVariants as posting
-use Rattle.master_state.specs.declared.step.StepAnswer.{StepAnswer}
-use Rattle.master_state.specs.declared.step.StepAnswer.TheVariants.{Sealed, Freed}
-use Rattle.master_state.specs.Causes.{seal_refusal, free_refusal}
-use Rattle.master_state.specs.Data.{MasterData}
-use Rattle.master_state.specs.Ledger.{posted}
-use Rattle.master_state.specs.Log.{home, images_of, memory_of}
-use Rattle.master_state.specs.Steps.{sealed_data, freed_data}
-use Rattle.master_state.specs.Waits.{next_seal, next_free}
+use Rattle.master_core.specs.failover_model.Shown.{Op}
+use Rattle.master_core.specs.failover_bytes.Ops.{TakesOp}
+use Rattle.master_core.specs.failover_bytes.Text.{entries_for}
+use Rattle.master_core.specs.failover_clean.Memory.{text_in}
+use Rattle.master_core.specs.failover_clean.Steps.{seal_op, free_op}
+use Rattle.master_core.specs.master_state.declared.ledger.Posting.TheVariants as posting
+use Rattle.master_core.specs.master_state.declared.step.StepAnswer.{StepAnswer}
+use Rattle.master_core.specs.master_state.declared.step.StepAnswer.TheVariants.{Sealed, Freed}
+use Rattle.master_core.specs.master_state.Causes.{seal_refusal, free_refusal}
+use Rattle.master_core.specs.master_state.Data.{MasterData}
+use Rattle.master_core.specs.master_state.Ledger.{posted}
+use Rattle.master_core.specs.master_state.Log.{home, images_of, memory_of}
+use Rattle.master_core.specs.master_state.Steps.{sealed_data, freed_data}
+use Rattle.master_core.specs.master_state.Waits.{next_seal, next_free}
 use Rattle.master.specs.World.{World}
 
 -- The op seals the next replica of the survivors of the open pass, which go one after the other: the survivor's image

@@ -6,13 +6,13 @@ use Rattle.std.specs.Option.{option_map_or}
 use Rattle.entry.specs.Bag.{IsAmong}
 use Rattle.images.specs.Image.{Image}
 use Rattle.log_head.specs.declared.head.Roll.{Roll}
-use Rattle.log_model.specs.Ids.{without}
-use Rattle.master_state.specs.declared.failover.Failover.{Failover}
-use Rattle.master_state.specs.declared.failover.Part.{Part}
-use Rattle.master_state.specs.declared.failover.Part.TheVariants as part
-use Rattle.master_state.specs.Data.{MasterData}
-use Rattle.master_state.specs.Ledger.{took_in, counts_in, shut_in}
-use Rattle.master_state.specs.Log.{home, placed, is_headless}
+use Rattle.log_head.specs.log_model.Ids.{without}
+use Rattle.master_core.specs.master_state.declared.failover.Failover.{Failover}
+use Rattle.master_core.specs.master_state.declared.failover.Part.{Part}
+use Rattle.master_core.specs.master_state.declared.failover.Part.TheVariants as part
+use Rattle.master_core.specs.master_state.Data.{MasterData}
+use Rattle.master_core.specs.master_state.Ledger.{took_in, counts_in, shut_in}
+use Rattle.master_core.specs.master_state.Log.{home, placed, is_headless}
 
 -- how many replicas of the head are closed, by a roll that was under way as a failover began, until that makes its own
 abbrev pub closed_in : Part → ℕ → ℕ

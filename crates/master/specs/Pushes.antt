@@ -3,18 +3,18 @@ use Rattle.std.specs.Prelude.{◌≡◌, ◌⊎◌, ℕ, length, true, false, No
 use Rattle.log_head.specs.declared.next.Next.{Next}
 use Rattle.log_head.specs.declared.next.Next.TheVariants as next
 use Rattle.log_head.specs.Head.{IsLagging}
-use Rattle.log_model.specs.Data.{Start}
-use Rattle.log_model.specs.Ids.{has}
-use Rattle.failover_model.specs.Data.{Calm, FailData}
-use Rattle.failover_model.specs.Shown.{Op, On, Raise}
-use Rattle.failover_model.specs.Steps.{ended, EndsRoll, Extends, OpensNew, ClosesOld}
-use Rattle.failover_bytes.specs.Ops.{TakesOp}
-use Rattle.master_state.specs.declared.step.StepAnswer.{StepAnswer}
-use Rattle.master_state.specs.declared.step.StepAnswer.TheVariants.{Opened, Extended, Closed}
-use Rattle.master_state.specs.Budget.{victims_of}
-use Rattle.master_state.specs.Data.{MasterData}
-use Rattle.master_state.specs.Log.{home, log_of, image_of}
-use Rattle.master_state.specs.Steps.{pushed_data}
+use Rattle.log_head.specs.log_model.Data.{Start}
+use Rattle.log_head.specs.log_model.Ids.{has}
+use Rattle.master_core.specs.failover_model.Data.{Calm, FailData}
+use Rattle.master_core.specs.failover_model.Shown.{Op, On, Raise}
+use Rattle.master_core.specs.failover_model.Steps.{ended, EndsRoll, Extends, OpensNew, ClosesOld}
+use Rattle.master_core.specs.failover_bytes.Ops.{TakesOp}
+use Rattle.master_core.specs.master_state.declared.step.StepAnswer.{StepAnswer}
+use Rattle.master_core.specs.master_state.declared.step.StepAnswer.TheVariants.{Opened, Extended, Closed}
+use Rattle.master_core.specs.master_state.Budget.{victims_of}
+use Rattle.master_core.specs.master_state.Data.{MasterData}
+use Rattle.master_core.specs.master_state.Log.{home, log_of, image_of}
+use Rattle.master_core.specs.master_state.Steps.{pushed_data}
 use Rattle.master.specs.World.{World}
 
 -- the op is on this backup's replica of the segment

@@ -4,10 +4,10 @@ use Rattle.std.specs.Option.{option_map}
 use Rattle.entry.specs.Text.{text_of}
 use Rattle.replica.specs.Picture.{AreLabelsOf, left_on}
 use Rattle.log_head.specs.Head.{digest_of}
-use Rattle.master_state.specs.Budget.{used_seglets, free_seglets}
-use Rattle.master_state.specs.Data.{MasterData}
-use Rattle.master_state.specs.Log.{image_of, state_now}
-use Rattle.master_state.specs.Sizes.{AreSizesOf}
+use Rattle.master_core.specs.master_state.Budget.{used_seglets, free_seglets}
+use Rattle.master_core.specs.master_state.Data.{MasterData}
+use Rattle.master_core.specs.master_state.Log.{image_of, state_now}
+use Rattle.master_core.specs.master_state.Sizes.{AreSizesOf}
 use Rattle.master.specs.declared.showing.Look.{Look}
 use Rattle.master.specs.declared.showing.Look.TheVariants.{Digest, Room, Image, Sizes, Holdings}
 use Rattle.master.specs.declared.showing.Shown.{Shown}

@@ -1,25 +1,25 @@
 -- What a step makes of a master and its fleet, and what many steps do.
 use Rattle.std.specs.Prelude.{◌≡◌, ◌⊎◌, ℕ, ◌<◌, ◌≤◌, Bool, true, false, List, [], ◌∷◌, Result, Ok, Err, Some, None}
-use Rattle.failover_model.specs.Data.{FailData, durable_of}
-use Rattle.failover_model.specs.Shown.{Op}
-use Rattle.failover_model.specs.Runs.{IsOn}
-use Rattle.failover_bytes.specs.Ops.{RefusesOp}
+use Rattle.master_core.specs.failover_model.Data.{FailData, durable_of}
+use Rattle.master_core.specs.failover_model.Shown.{Op}
+use Rattle.master_core.specs.failover_model.Runs.{IsOn}
+use Rattle.master_core.specs.failover_bytes.Ops.{RefusesOp}
 use Rattle.replica.specs.declared.op.TakeFault.TheVariants as take_fault
-use Rattle.master_state.specs.declared.step.Refusal.{Refusal}
-use Rattle.master_state.specs.declared.step.Refusal.TheVariants as refusal
-use Rattle.master_state.specs.declared.step.Step.{Step}
-use Rattle.master_state.specs.declared.step.Step.TheVariants.{Apply, Push, BeginRoll, Compact, BeginClean, Copy, Seal}
-use Rattle.master_state.specs.declared.step.Step.TheVariants.{Free}
-use Rattle.master_state.specs.declared.step.StepAnswer.{StepAnswer}
-use Rattle.master_state.specs.Causes.{command_refusal, roll_refusal, compact_refusal, push_refusal, clean_refusal}
-use Rattle.master_state.specs.Causes.{copy_refusal}
-use Rattle.master_state.specs.Causes.{seal_refusal, free_refusal}
-use Rattle.master_state.specs.Log.{log_of}
-use Rattle.master_state.specs.Budget.{may_turn}
-use Rattle.master_state.specs.Steps.{Applies, BeginsRoll, Compacts, BeginsPass, Copies, halted, may_lose, lost_data}
-use Rattle.master_mending.specs.declared.mending.Mend.{Mend}
-use Rattle.master_mending.specs.declared.mending.Mend.TheVariants as mend
-use Rattle.master_mending.specs.Mending.{IsNextMend, turned_data}
+use Rattle.master_core.specs.master_state.declared.step.Refusal.{Refusal}
+use Rattle.master_core.specs.master_state.declared.step.Refusal.TheVariants as refusal
+use Rattle.master_core.specs.master_state.declared.step.Step.{Step}
+use Rattle.master_core.specs.master_state.declared.step.Step.TheVariants.{Apply, Push, BeginRoll, Compact, BeginClean, Copy, Seal}
+use Rattle.master_core.specs.master_state.declared.step.Step.TheVariants.{Free}
+use Rattle.master_core.specs.master_state.declared.step.StepAnswer.{StepAnswer}
+use Rattle.master_core.specs.master_state.Causes.{command_refusal, roll_refusal, compact_refusal, push_refusal, clean_refusal}
+use Rattle.master_core.specs.master_state.Causes.{copy_refusal}
+use Rattle.master_core.specs.master_state.Causes.{seal_refusal, free_refusal}
+use Rattle.master_core.specs.master_state.Log.{log_of}
+use Rattle.master_core.specs.master_state.Budget.{may_turn}
+use Rattle.master_core.specs.master_state.Steps.{Applies, BeginsRoll, Compacts, BeginsPass, Copies, halted, may_lose, lost_data}
+use Rattle.master_core.specs.master_mending.declared.mending.Mend.{Mend}
+use Rattle.master_core.specs.master_mending.declared.mending.Mend.TheVariants as mend
+use Rattle.master_core.specs.master_mending.Mending.{IsNextMend, turned_data}
 use Rattle.master.specs.Mends.{IsMendOp, MendsOn}
 use Rattle.master.specs.Keeps.{Keeps}
 use Rattle.master.specs.Passes.{IsSealOp, Seals, IsFreeOp, Frees}

@@ -3,17 +3,17 @@ use Rattle.std.specs.Prelude.{◌≡◌, ◌≤◌, ◌⊎◌, ◌↔◌, ℕ, l
 use Rattle.entry.specs.Bag.{IsAmong}
 use Rattle.replica.specs.Picture.{FleetState}
 use Rattle.versioned_map.specs.History.{IsLegal}
-use Rattle.failover_model.specs.Data.{Mends, durable_of}
-use Rattle.failover_bytes.specs.Choice.{Counts, IsNewestCounted, newest_opened}
-use Rattle.failover_bytes.specs.Sound.{IsSoundInBytes}
-use Rattle.failover_clean.specs.Covered.{IsCovered}
-use Rattle.failover_clean.specs.Fleet.{CountsDurable, read_of, shown_for}
-use Rattle.failover_clean.specs.Memory.{log_ids}
-use Rattle.master_state.specs.Budget.{used_seglets}
-use Rattle.master_state.specs.Causes.{is_done}
-use Rattle.master_state.specs.Config.{config_fault}
-use Rattle.master_state.specs.Data.{MasterData}
-use Rattle.master_state.specs.Log.{opening_of, log_of, state_now, durable_now, image_of, memory_of, IsIndexed}
+use Rattle.master_core.specs.failover_model.Data.{Mends, durable_of}
+use Rattle.master_core.specs.failover_bytes.Choice.{Counts, IsNewestCounted, newest_opened}
+use Rattle.master_core.specs.failover_bytes.Sound.{IsSoundInBytes}
+use Rattle.master_core.specs.failover_clean.Covered.{IsCovered}
+use Rattle.master_core.specs.failover_clean.Fleet.{CountsDurable, read_of, shown_for}
+use Rattle.master_core.specs.failover_clean.Memory.{log_ids}
+use Rattle.master_core.specs.master_state.Budget.{used_seglets}
+use Rattle.master_core.specs.master_state.Causes.{is_done}
+use Rattle.master_core.specs.master_state.Config.{config_fault}
+use Rattle.master_core.specs.master_state.Data.{MasterData}
+use Rattle.master_core.specs.master_state.Log.{opening_of, log_of, state_now, durable_now, image_of, memory_of, IsIndexed}
 use Rattle.master.specs.Placed.{IsPlaced}
 
 -- the first head, if a backup's failure has kept it from being open: a new one takes its place

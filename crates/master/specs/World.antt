@@ -4,8 +4,8 @@ use Rattle.replica.specs.Take.{limited}
 use Rattle.replica.specs.declared.op.TakeFault.{TakeFault}
 use Rattle.replica.specs.declared.op.TakeFault.TheVariants as take_fault
 use Rattle.std.specs.Prelude.{ℕ, Result, Err}
-use Rattle.master_state.specs.Data.{MasterData}
-use Rattle.master_state.specs.Steps.{halted}
+use Rattle.master_core.specs.master_state.Data.{MasterData}
+use Rattle.master_core.specs.master_state.Steps.{halted}
 
 -- what a clause sees of a master
 pub record MasterValue (F : Type 0) : Type 0 where

@@ -2,9 +2,9 @@
 
 ghost use Rattle.std.specs.Prelude.{◌≡◌, None, true, IfOk, IfErr, OnErr};
 ghost use Rattle.tablet_will.specs.Sizes.{are_sizes};
-ghost use Rattle.master_space.specs.Choosing.{chosen, next_step, pending_step, NeedsChoice};
-ghost use Rattle.master_state.specs.Log.{state_now};
-ghost use Rattle.master_state.specs.Sizes.{AreSizesOf};
+ghost use Rattle.master_core.specs.master_space.Choosing.{chosen, next_step, pending_step, NeedsChoice};
+ghost use Rattle.master_core.specs.master_state.Log.{state_now};
+ghost use Rattle.master_core.specs.master_state.Sizes.{AreSizesOf};
 ghost use Rattle.master.specs.Steps.{Accepts, Declines};
 ghost use Rattle.master.specs.World.{world};
 

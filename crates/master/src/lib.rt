@@ -25,6 +25,7 @@ mod showing;
 pub use history::{CommandRef, History, RecordRef, ReplyRef, ValueRef};
 pub use loading::Loading;
 pub use master::Master;
+pub use master_core;
 pub use master_core::{
     Config, ConfigFault, Core, KeyHasher, PassFault, Refusal, Secret, Step, StepAnswer, Survivors,
 };

@@ -2,9 +2,9 @@
 
 ghost use Rattle.std.specs.Prelude.{◌≡◌, ◌≤◌, ℕ, None, true, false, IfOk, IfErr, OnOk, OnErr};
 ghost use Rattle.entry.specs.View.{shown_object};
-ghost use Rattle.master_state.specs.Causes.{is_done};
-ghost use Rattle.master_state.specs.Config.{config_fault};
-ghost use Rattle.master_state.specs.Loading.{restored_data, IsNewObject, Loads, Settles};
+ghost use Rattle.master_core.specs.master_state.Causes.{is_done};
+ghost use Rattle.master_core.specs.master_state.Config.{config_fault};
+ghost use Rattle.master_core.specs.master_state.Loading.{restored_data, IsNewObject, Loads, Settles};
 ghost use Rattle.master.specs.Loading.{IsNewEntry, LoadsEntry, DeclinesLoad, KeepsLoading};
 ghost use Rattle.master.specs.Registry.{IsUnraised};
 ghost use Rattle.master.specs.Steps.{Accepts, Declines};

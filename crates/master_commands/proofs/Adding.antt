@@ -16,9 +16,9 @@ use Rattle.entry.proofs.BagLemmas.{among_either}
 use Rattle.places.specs.declared.place.Held.{Held}
 use Rattle.places.specs.declared.place.Place.{Place}
 use Rattle.places.specs.Map.{Places}
-use Rattle.cleaner.specs.declared.pass.Pass.{Pass as OpenPass}
-use Rattle.cleaner.specs.Laws.{KeepsNoMore}
-use Rattle.cleaner.specs.Passes.{images_in, rest_of, ids_in as log_ids, IsPass}
+use Rattle.master_state.specs.cleaner.declared.pass.Pass.{Pass as OpenPass}
+use Rattle.master_state.specs.cleaner.Laws.{KeepsNoMore}
+use Rattle.master_state.specs.cleaner.Passes.{images_in, rest_of, ids_in as log_ids, IsPass}
 use Rattle.segment.proofs.RowLemmas.{text_of-append}
 use Rattle.versioned_map.specs.declared.command.Command.{Command}
 use Rattle.versioned_map.specs.declared.command.Record.{Record}
@@ -32,16 +32,16 @@ use Rattle.log_head.specs.Head.{HeadValue, IsHeadValue, is_open, digest_of}
 use Rattle.log_head.specs.Log.{head_of, IsImageOf}
 use Rattle.log_head.proofs.HeadLog.{head_is, image_with_unit}
 use Rattle.log_head.proofs.RollLog.{digest_is}
-use Rattle.log_model.specs.Data.{Head, ids_of}
-use Rattle.log_model.specs.Ids.{all_inserted, without}
-use Rattle.log_model.specs.Log.{AreBelow}
-use Rattle.log_model.specs.Steps.{with_unit}
-use Rattle.failover_model.specs.Data.{Calm}
-use Rattle.failover_model.specs.Steps.{applied}
+use Rattle.log_head.specs.log_model.Data.{Head, ids_of}
+use Rattle.log_head.specs.log_model.Ids.{all_inserted, without}
+use Rattle.log_head.specs.log_model.Log.{AreBelow}
+use Rattle.log_head.specs.log_model.Steps.{with_unit}
+use Rattle.master_state.specs.failover_model.Data.{Calm}
+use Rattle.master_state.specs.failover_model.Steps.{applied}
 use Rattle.master_commands.specs.declared.change.Change.{Change}
 use Rattle.master_state.specs.declared.step.StepAnswer.TheVariants.{Applied}
 use Rattle.images.specs.Images.{count_of}
-use Rattle.cleaner.specs.Seals.{first_lacking}
+use Rattle.master_state.specs.cleaner.Seals.{first_lacking}
 use Rattle.master_state.specs.declared.failover.Failover.{Failover}
 use Rattle.master_state.specs.Budget.{head_seglets, used_seglets, newest_digest, is_working}
 use Rattle.master_state.specs.Budget.{victims_of, survivors_of, is_committing}
@@ -50,7 +50,7 @@ use Rattle.master_commands.specs.Change.{unit_of_change, safe_of_change, IsJudge
 use Rattle.master_state.specs.Steps.{appended, reply_now, record_now, Applies, Fits, MayApplyNow}
 use Rattle.master_state.specs.Data.{MasterData}
 use Rattle.master_state.specs.Images.{images_among}
-use Rattle.compactor.specs.Places.{keys_in}
+use Rattle.master_state.specs.compactor.Places.{keys_in}
 use Rattle.master_state.specs.Index.{LiesFound}
 use Rattle.master_state.specs.Invariant.{IsIndex, IsFirst, IsRollOf, IsOpenPass, IsFailover, NameBelow, IsCore}
 use Rattle.master_state.specs.Log.{opening_of, is_headless, in_force, mode_of, log_of, state_now, held_now}
@@ -65,7 +65,7 @@ use Rattle.master_commands.proofs.Indexed.{keeps_others}
 use Rattle.master_state.proofs.Holding.{kept_again}
 use Rattle.master_state.proofs.Naming.{dead_below}
 use Rattle.master_state.proofs.Passing.{GoesOn, goes_on as goes_on_pass, victim_below}
-use Rattle.cleaner.proofs.Ends.{rest_segment}
+use Rattle.master_state.proofs.cleaner.Ends.{rest_segment}
 use Rattle.master_state.proofs.Refusals.{IsAdmitted, is_admitted, passed_early, unit_fits, unit_working, working_parts}
 use Rattle.master_state.proofs.Refusals.{open_parts}
 

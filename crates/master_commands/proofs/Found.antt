@@ -7,7 +7,7 @@ use Rattle.entry.specs.declared.entry.Entry.{Entry}
 use Rattle.entry.specs.declared.view.ObjectRef.{ObjectRef}
 use Rattle.entry.specs.Meaning.{versioned}
 use Rattle.entry.specs.View.{shown_object}
-use Rattle.compactor.specs.Places.{object_there}
+use Rattle.master_state.specs.compactor.Places.{object_there}
 use Rattle.places.specs.declared.place.Place.{Place}
 use Rattle.places.specs.Map.{Places}
 use Rattle.master_state.specs.Index.{FindsObject, place_found, object_found}

@@ -27,7 +27,7 @@ use Rattle.versioned_map.proofs.Keys.{key_eq-tells}
 use Rattle.master_commands.specs.declared.change.Change.{Change}
 use Rattle.master_commands.specs.declared.change.Change.TheVariants as change
 use Rattle.master_commands.specs.Change.{unit_of_change, IsChangeOf}
-use Rattle.compactor.specs.Places.{IsAtPlace, keys_in}
+use Rattle.master_state.specs.compactor.Places.{IsAtPlace, keys_in}
 use Rattle.master_commands.specs.Index.{IsMoved}
 use Rattle.master_commands.proofs.Changes.{unmet, undeleted, clashes}
 use Rattle.master_state.proofs.Indexing.{Grow, Indexes, key_seen, kept_grown, found_grown, index_grown, index_set}

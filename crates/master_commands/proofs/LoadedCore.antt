@@ -8,10 +8,10 @@ use Rattle.std.specs.List.{AllByRecursion}
 use Rattle.std.proofs.lemmas.Bool.{and_parts, not-false, eqb-true, leb-true}
 use Rattle.std.proofs.lemmas.List.{append-nil}
 use Rattle.std.proofs.lemmas.Option.{same_Some}
-use Rattle.cleaner.specs.declared.pass.Pass.{Pass as OpenPass}
-use Rattle.cleaner.specs.Passes.{is_ready as is_ready_pass}
-use Rattle.cleaner.specs.Seals.{first_lacking}
-use Rattle.compactor.specs.Places.{IsAtPlace, keys_in}
+use Rattle.master_state.specs.cleaner.declared.pass.Pass.{Pass as OpenPass}
+use Rattle.master_state.specs.cleaner.Passes.{is_ready as is_ready_pass}
+use Rattle.master_state.specs.cleaner.Seals.{first_lacking}
+use Rattle.master_state.specs.compactor.Places.{IsAtPlace, keys_in}
 use Rattle.entry.specs.declared.key.Key.{Key}
 use Rattle.entry.specs.declared.entry.Object.{Object}
 use Rattle.entry.specs.declared.entry.Entry.{Entry}
@@ -35,13 +35,13 @@ use Rattle.log_head.specs.Steps.{with_unit_end, settled, with_new_replica, with_
 use Rattle.log_head.proofs.Rolls.{zeros_length}
 use Rattle.log_head.proofs.RollLog.{digest_is}
 use Rattle.log_head.proofs.SettledLog.{settled_is, image_settled}
-use Rattle.failover_model.specs.Data.{Calm}
-use Rattle.failover_model.specs.Steps.{adopted}
-use Rattle.failover_clean.specs.Loading.{with_object}
-use Rattle.log_model.specs.Data.{Head, fewest, ids_of}
-use Rattle.log_model.specs.Ids.{all_inserted}
-use Rattle.log_model.specs.Log.{AreBelow, IsWhole}
-use Rattle.log_model.proofs.Counts.{fewest_below}
+use Rattle.master_state.specs.failover_model.Data.{Calm}
+use Rattle.master_state.specs.failover_model.Steps.{adopted}
+use Rattle.master_state.specs.failover_clean.Loading.{with_object}
+use Rattle.log_head.specs.log_model.Data.{Head, fewest, ids_of}
+use Rattle.log_head.specs.log_model.Ids.{all_inserted}
+use Rattle.log_head.specs.log_model.Log.{AreBelow, IsWhole}
+use Rattle.log_head.proofs.log_model.Counts.{fewest_below}
 use Rattle.versioned_map.specs.declared.command.Record.{Record}
 use Rattle.versioned_map.specs.History.{commands_of, IsLegal}
 use Rattle.versioned_map.specs.Versioned.{State, after, with_contents}

@@ -6,7 +6,7 @@ use Rattle.entry.specs.declared.entry.Object.{Object}
 use Rattle.entry.specs.declared.entry.Entry.{Entry}
 use Rattle.entry.specs.declared.entry.Entry.TheVariants as entry
 use Rattle.entry.specs.Meaning.{Versioned, versioned}
-use Rattle.compactor.specs.Places.{object_there}
+use Rattle.master_state.specs.compactor.Places.{object_there}
 use Rattle.master_commands.specs.declared.change.Change.{Change}
 use Rattle.master_commands.specs.declared.change.Change.TheVariants as change
 use Rattle.versioned_map.specs.declared.command.Command.{Command}

@@ -8,7 +8,7 @@ ghost use Rattle.places.specs.Hashing.{hash_of};
 ghost use Rattle.places.specs.Map.{AreKept};
 ghost use Rattle.master_commands.specs.Change.{creates, puts};
 ghost use Rattle.master_state.specs.Images.{images_among};
-ghost use Rattle.compactor.specs.Places.{object_in, object_there, keys_in};
+ghost use Rattle.master_state.specs.compactor.Places.{object_in, object_there, keys_in};
 ghost use Rattle.master_state.specs.Index.{FindsObject};
 ghost use Rattle.master_commands.specs.Index.{IsMoved};
 

@@ -3,7 +3,7 @@
 ghost use Rattle.std.specs.Prelude.{◌≡◌, None, Some, IfOk, IfErr, IfSome};
 ghost use Rattle.std.specs.Result.{result_err};
 ghost use Rattle.entry.specs.View.{shown_object};
-ghost use Rattle.compactor.specs.Places.{object_there};
+ghost use Rattle.master_state.specs.compactor.Places.{object_there};
 ghost use Rattle.places.specs.declared.place.Place.{Place as PlaceValue};
 ghost use Rattle.places.specs.Hashing.{hash_of};
 ghost use Rattle.versioned_map.specs.Command.{command_key};

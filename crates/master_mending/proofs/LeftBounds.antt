@@ -7,7 +7,7 @@ use Rattle.std.specs.Option.{option_map_or}
 use Rattle.std.proofs.Math.Nat.{mul-suc, mul-le-mul_left}
 use Rattle.std.proofs.lemmas.Bool.{ltb-true, ltb-false}
 use Rattle.std.proofs.lemmas.List.{length-append}
-use Rattle.cleaner.specs.Seals.{first_lacking}
+use Rattle.master_state.specs.cleaner.Seals.{first_lacking}
 use Rattle.images.specs.Image.{Image}
 use Rattle.images.specs.Sorted.{replicas_of}
 use Rattle.log_head.specs.declared.head.Roll.{Roll}
@@ -15,8 +15,8 @@ use Rattle.log_head.specs.Head.{digest_of}
 use Rattle.log_head.specs.Log.{head_of, start_of}
 use Rattle.log_head.proofs.RollLog.{digest_is}
 use Rattle.log_head.proofs.Rolls.{rolls}
-use Rattle.log_model.specs.Data.{ids_of}
-use Rattle.log_model.proofs.Lengths.{ids_listed}
+use Rattle.log_head.specs.log_model.Data.{ids_of}
+use Rattle.log_head.proofs.log_model.Lengths.{ids_listed}
 use Rattle.master_state.specs.declared.failover.Failover.{Failover}
 use Rattle.master_state.specs.declared.failover.Part.{Part}
 use Rattle.master_state.specs.declared.failover.Part.TheVariants as part

@@ -4,9 +4,9 @@ use Rattle.std.proofs.Common.{ap, subst, ◌∙◌, arith}
 use Rattle.std.specs.Prelude.{Option, Some, None, ◌==◌, if◌then◌else◌}
 use Rattle.std.specs.Option.{option_map_or}
 use Rattle.std.proofs.lemmas.Bool.{eqb-true}
-use Rattle.cleaner.specs.declared.pass.Pass.{Pass}
-use Rattle.cleaner.specs.Passes.{survivor_ids}
-use Rattle.clean_model.proofs.CommitDigest.{all_out, without_from}
+use Rattle.master_state.specs.cleaner.declared.pass.Pass.{Pass}
+use Rattle.master_state.specs.cleaner.Passes.{survivor_ids}
+use Rattle.master_state.proofs.clean_model.CommitDigest.{all_out, without_from}
 use Rattle.entry.specs.Bag.{IsAmong}
 use Rattle.entry.proofs.ListLemmas.{all_among}
 use Rattle.images.specs.Image.{Image, closed_image}
@@ -14,8 +14,8 @@ use Rattle.images.specs.Sorted.{replicas_of, added}
 use Rattle.images.proofs.Replicas.{replicas_added}
 use Rattle.log_head.specs.declared.head.Roll.{Roll}
 use Rattle.log_head.specs.Log.{head_of, start_of}
-use Rattle.log_model.specs.Data.{ids_of}
-use Rattle.log_model.specs.Ids.{has, all_inserted, without}
+use Rattle.log_head.specs.log_model.Data.{ids_of}
+use Rattle.log_head.specs.log_model.Ids.{has, all_inserted, without}
 use Rattle.master_state.specs.Data.{MasterData}
 use Rattle.master_state.specs.Images.{staying}
 use Rattle.master_state.specs.Invariant.{IsCore, IsOpenPass, listed_now, listed_with}

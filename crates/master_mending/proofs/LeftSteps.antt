@@ -7,10 +7,10 @@ use Rattle.std.specs.Option.{option_map, option_map_or}
 use Rattle.std.proofs.lemmas.Bool.{and_parts, eqb-true}
 use Rattle.std.proofs.lemmas.List.{length-append, length-set}
 use Rattle.std.proofs.lemmas.Option.{same_Some}
-use Rattle.cleaner.specs.declared.pass.Pass.{Pass}
-use Rattle.cleaner.specs.Passes.{survivor_ids, is_at_end, is_ready as is_ready_pass}
-use Rattle.cleaner.specs.Seals.{first_lacking}
-use Rattle.cleaner.proofs.Lacking.{seal_adds_one, none_is_lacking}
+use Rattle.master_state.specs.cleaner.declared.pass.Pass.{Pass}
+use Rattle.master_state.specs.cleaner.Passes.{survivor_ids, is_at_end, is_ready as is_ready_pass}
+use Rattle.master_state.specs.cleaner.Seals.{first_lacking}
+use Rattle.master_state.proofs.cleaner.Lacking.{seal_adds_one, none_is_lacking}
 use Rattle.entry.specs.Bag.{IsAmong}
 use Rattle.images.specs.Image.{Image, closed_image}
 use Rattle.images.specs.Sorted.{replicas_of, added, changed}
@@ -21,8 +21,8 @@ use Rattle.log_head.specs.Log.{head_of, start_of}
 use Rattle.log_head.specs.Steps.{lone_start, fresh_head, in_force}
 use Rattle.log_head.proofs.RollLog.{start_is, digest_is}
 use Rattle.log_head.proofs.Rolls.{rolls}
-use Rattle.log_model.specs.Data.{Start, Head}
-use Rattle.log_model.specs.Ids.{without}
+use Rattle.log_head.specs.log_model.Data.{Start, Head}
+use Rattle.log_head.specs.log_model.Ids.{without}
 use Rattle.master_state.specs.declared.failover.Failover.{Failover}
 use Rattle.master_state.specs.declared.failover.Part.TheVariants as part
 use Rattle.master_state.specs.declared.ledger.Posting.TheVariants as posting

@@ -7,7 +7,7 @@ use Rattle.std.proofs.lemmas.Bool.{eqb-true, ltb-true, ltb-false}
 use Rattle.std.proofs.lemmas.Option.{same_Some}
 use Rattle.master_state.proofs.Imaging.{same_id}
 use Rattle.std.specs.Option.{option_map_or}
-use Rattle.cleaner.specs.Seals.{first_lacking}
+use Rattle.master_state.specs.cleaner.Seals.{first_lacking}
 use Rattle.entry.specs.declared.digest.Digest.TheVariants as digest
 use Rattle.entry.specs.Text.{Opening, opening_of, listed_ids}
 use Rattle.images.specs.Image.{Image}

@@ -5,7 +5,7 @@ use Rattle.std.specs.Prelude.{◌==◌, nat_lt, if◌then◌else◌}
 use Rattle.entry.specs.Bag.{IsAmong}
 use Rattle.images.specs.Image.{Image}
 use Rattle.images.specs.Sorted.{replicas_of}
-use Rattle.log_model.specs.Ids.{has, inserted, all_inserted, without}
+use Rattle.log_head.specs.log_model.Ids.{has, inserted, all_inserted, without}
 use Rattle.master_mending.specs.Left.{lost_of}
 
 -- which of a segment's replicas are lost, the head's apart

@@ -2,7 +2,7 @@
 use Rattle.std.proofs.Common.{◌≡◌, ℕ, suc, Bool, true, false, List, [], ◌∷◌, refl, sym, ap, subst, ◌∙◌}
 use Rattle.std.specs.Prelude.{Option, Some, None, IfSome, is_none, ◌==◌, if◌then◌else◌}
 use Rattle.std.specs.Option.{option_map}
-use Rattle.cleaner.specs.Seals.{first_lacking}
+use Rattle.master_state.specs.cleaner.Seals.{first_lacking}
 use Rattle.entry.specs.declared.entry.Entry.{Entry}
 use Rattle.log_head.specs.declared.head.Roll.{Roll}
 use Rattle.log_head.specs.Head.{HeadValue, IsHeadValue}

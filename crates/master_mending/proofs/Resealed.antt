@@ -7,12 +7,12 @@ use Rattle.std.specs.List.{AllByRecursion}
 use Rattle.std.specs.Option.{option_map, option_map_or, option_to_list}
 use Rattle.std.proofs.lemmas.Bool.{eqb-true}
 use Rattle.std.proofs.lemmas.List.Sums.{sum_by-cons}
-use Rattle.cleaner.specs.declared.pass.Pass.{Pass}
-use Rattle.cleaner.specs.Passes.{images_in, survivor_ids}
-use Rattle.cleaner.proofs.Ends.{pass_agrees}
-use Rattle.clean_model.proofs.KeptEntries.{has_is}
-use Rattle.compactor.specs.Kept.{kept}
-use Rattle.compactor.specs.Places.{keys_in}
+use Rattle.master_state.specs.cleaner.declared.pass.Pass.{Pass}
+use Rattle.master_state.specs.cleaner.Passes.{images_in, survivor_ids}
+use Rattle.master_state.proofs.cleaner.Ends.{pass_agrees}
+use Rattle.master_state.proofs.clean_model.KeptEntries.{has_is}
+use Rattle.master_space.specs.compactor.Kept.{kept}
+use Rattle.master_space.specs.compactor.Places.{keys_in}
 use Rattle.entry.specs.declared.entry.Entry.{Entry}
 use Rattle.entry.specs.Bag.{IsAmong}
 use Rattle.entry.specs.Text.{IsSegment}
@@ -25,7 +25,7 @@ use Rattle.images.proofs.Finding.{image_changed_is, ids_changed}
 use Rattle.images.proofs.Replicas.{replicas_changed}
 use Rattle.log_head.specs.declared.head.Roll.{Roll}
 use Rattle.log_head.specs.Log.{head_of}
-use Rattle.log_model.specs.Ids.{has}
+use Rattle.log_head.specs.log_model.Ids.{has}
 use Rattle.places.specs.Map.{AreKept, found}
 use Rattle.master_state.specs.declared.failover.Failover.{Failover}
 use Rattle.master_state.specs.Budget.{used_seglets, whole_seglets, seglets_of, has_abandoned, survivors_of}

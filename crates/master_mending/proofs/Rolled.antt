@@ -2,7 +2,7 @@
 use Rattle.std.proofs.Common.{◌≡◌, ℕ, suc, true, false, [], refl, sym, ap, subst, ◌∙◌}
 use Rattle.std.specs.Prelude.{Option, Some, None, IfSome, is_some}
 use Rattle.std.specs.Option.{option_map_or}
-use Rattle.cleaner.specs.declared.pass.Pass.{Pass}
+use Rattle.master_state.specs.cleaner.declared.pass.Pass.{Pass}
 use Rattle.log_head.specs.declared.head.Roll.{Roll}
 use Rattle.log_head.specs.Head.{IsHeadValue}
 use Rattle.log_head.specs.Steps.{with_new_replica}

@@ -3,8 +3,8 @@ use Rattle.std.proofs.Common.{◌≡◌, inl, inr, ℕ, ◌<◌, Bool, true, fal
 use Rattle.std.proofs.Common.{arith}
 use Rattle.std.specs.Prelude.{Option, Some, None, IsSome, ◌==◌}
 use Rattle.std.specs.Option.{option_map}
-use Rattle.cleaner.proofs.Lacking.{lacking_is_one}
-use Rattle.clean_model.proofs.CommitDigest.{all_in}
+use Rattle.master_state.proofs.cleaner.Lacking.{lacking_is_one}
+use Rattle.master_state.proofs.clean_model.CommitDigest.{all_in}
 use Rattle.entry.specs.declared.entry.Entry.{Entry}
 use Rattle.entry.specs.Bag.{IsAmong}
 use Rattle.entry.proofs.ListLemmas.{all_among}

@@ -9,16 +9,16 @@ use Rattle.std.specs.Option.{option_map_or}
 use Rattle.std.proofs.Math.Nat.{mul-div-le}
 use Rattle.std.proofs.lemmas.Bool.{and_parts, leb-true}
 use Rattle.std.proofs.lemmas.List.FromFn.{length-range_with_len}
-use Rattle.cleaner.specs.declared.pass.Pass.{Pass}
-use Rattle.cleaner.specs.Passes.{survivor_ids}
+use Rattle.master_state.specs.cleaner.declared.pass.Pass.{Pass}
+use Rattle.master_state.specs.cleaner.Passes.{survivor_ids}
 use Rattle.entry.specs.declared.digest.Listed.{Listed}
 use Rattle.entry.specs.Limits.{ids_in}
 use Rattle.entry.proofs.ListLemmas.{all_from_among}
 use Rattle.log_head.specs.Head.{digest_of}
 use Rattle.log_head.specs.Log.{head_of}
 use Rattle.log_head.proofs.RollLog.{digest_is}
-use Rattle.log_model.specs.Data.{ids_of}
-use Rattle.log_model.specs.Ids.{has, all_inserted, without}
+use Rattle.log_head.specs.log_model.Data.{ids_of}
+use Rattle.log_head.specs.log_model.Ids.{has, all_inserted, without}
 use Rattle.master_state.specs.declared.failover.Failover.{Failover}
 use Rattle.master_state.specs.Budget.{most_segments, victims_of, survivors_of, is_ready, may_turn, turn_listed}
 use Rattle.master_state.specs.Budget.{turn_need}

@@ -9,10 +9,10 @@ use Rattle.std.specs.Option.{option_map, option_map_or, option_to_list}
 use Rattle.std.proofs.Math.Nat.{mul-div-le}
 use Rattle.std.proofs.lemmas.Bool.{and_parts, leb-true}
 use Rattle.std.proofs.lemmas.List.{append-nil, length-append}
-use Rattle.cleaner.specs.declared.pass.Pass.{Pass}
-use Rattle.cleaner.specs.Passes.{images_in, survivor_ids, is_ready as is_ready_pass}
-use Rattle.cleaner.proofs.Ends.{rest_segment}
-use Rattle.compactor.specs.Kept.{has_id}
+use Rattle.master_state.specs.cleaner.declared.pass.Pass.{Pass}
+use Rattle.master_state.specs.cleaner.Passes.{images_in, survivor_ids, is_ready as is_ready_pass}
+use Rattle.master_state.proofs.cleaner.Ends.{rest_segment}
+use Rattle.master_space.specs.compactor.Kept.{has_id}
 use Rattle.entry.specs.declared.entry.Entry.{Entry}
 use Rattle.entry.specs.declared.entry.Entry.TheVariants as entry
 use Rattle.entry.specs.declared.key.Key.{Key}
@@ -27,10 +27,10 @@ use Rattle.log_head.specs.Log.{head_of, units_from, HasLens, IsImageOf}
 use Rattle.log_head.specs.Steps.{lone_start, fresh_head, fresh_roll, start_after}
 use Rattle.log_head.proofs.HeadLog.{head_is, image_fresh}
 use Rattle.log_head.proofs.RollLog.{start_is, opening_is, digest_is, start_after_has}
-use Rattle.log_model.specs.Data.{Start, Head, ids_of, digest_for, start_entries, entries_of}
-use Rattle.log_model.specs.Ids.{has as hold, all_inserted, without}
-use Rattle.log_model.specs.Log.{AreBelow}
-use Rattle.log_model.proofs.Lengths.{ids_listed}
+use Rattle.log_head.specs.log_model.Data.{Start, Head, ids_of, digest_for, start_entries, entries_of}
+use Rattle.log_head.specs.log_model.Ids.{has as hold, all_inserted, without}
+use Rattle.log_head.specs.log_model.Log.{AreBelow}
+use Rattle.log_head.proofs.log_model.Lengths.{ids_listed}
 use Rattle.segment.proofs.UnitLemmas.{head_few}
 use Rattle.master_state.specs.declared.failover.Failover.{Failover}
 use Rattle.master_state.specs.declared.failover.Part.TheVariants as part

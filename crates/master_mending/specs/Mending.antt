@@ -2,9 +2,9 @@
 use Rattle.std.specs.Prelude.{◌≡◌, ◌⊎◌, ℕ, suc, ◌+◌, ◌<◌, ◌==◌, List, [], ◌∷◌, length, true, false, Bool}
 use Rattle.std.specs.Prelude.{Option, Some, None, is_none, if◌then◌else◌}
 use Rattle.std.specs.Option.{option_map, option_map_or}
-use Rattle.cleaner.specs.declared.pass.Pass.{Pass}
-use Rattle.cleaner.specs.Passes.{is_ready as is_ready_pass}
-use Rattle.cleaner.specs.Seals.{first_lacking}
+use Rattle.master_state.specs.cleaner.declared.pass.Pass.{Pass}
+use Rattle.master_state.specs.cleaner.Passes.{is_ready as is_ready_pass}
+use Rattle.master_state.specs.cleaner.Seals.{first_lacking}
 use Rattle.entry.specs.declared.entry.Entry.{Entry}
 use Rattle.entry.specs.Text.{text_of}
 use Rattle.images.specs.Sorted.{changed}
@@ -15,7 +15,7 @@ use Rattle.log_head.specs.Head.{HeadValue, IsLagging, IsRollValue}
 use Rattle.log_head.specs.Log.{head_of}
 use Rattle.log_head.specs.Next.{op_of}
 use Rattle.log_head.specs.Steps.{lone_start, fresh_head, fresh_roll, with_opened_replica, with_new_replica}
-use Rattle.log_model.specs.Data.{Start, start_entries}
+use Rattle.log_head.specs.log_model.Data.{Start, start_entries}
 use Rattle.replica.specs.Op.{OpValue, Open, Seal}
 use Rattle.master_state.specs.declared.failover.Failover.{Failover}
 use Rattle.master_state.specs.declared.failover.Part.{Part}

@@ -1,7 +1,7 @@
 //! Which replicas of a digest's segments are lost.
 
 ghost use Rattle.std.specs.Prelude.{◌≡◌, ◌≤◌, length};
-ghost use Rattle.cleaner.specs.Seals.{first_lacking};
+ghost use Rattle.master_state.specs.cleaner.Seals.{first_lacking};
 ghost use Rattle.log_head.specs.Head.{digest_of};
 ghost use Rattle.log_head.specs.Log.{but_last};
 ghost use Rattle.master_mending.specs.Left.{lost_of};

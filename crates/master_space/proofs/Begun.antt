@@ -19,9 +19,9 @@ use Rattle.log_head.specs.Head.{IsHeadValue}
 use Rattle.log_head.specs.Log.{head_of, HasLens}
 use Rattle.log_head.specs.Steps.{fresh_roll, with_roll}
 use Rattle.log_head.proofs.RollLog.{start_is, opening_is}
-use Rattle.log_model.specs.Data.{Start, digest_for, start_entries}
-use Rattle.log_model.proofs.Lengths.{ids_listed}
-use Rattle.log_model.specs.Ids.{all_inserted}
+use Rattle.log_head.specs.log_model.Data.{Start, digest_for, start_entries}
+use Rattle.log_head.proofs.log_model.Lengths.{ids_listed}
+use Rattle.log_head.specs.log_model.Ids.{all_inserted}
 use Rattle.segment.proofs.UnitLemmas.{head_few}
 use Rattle.std.proofs.Math.Nat.{mul-div-le}
 use Rattle.std.proofs.lemmas.List.{length-append}

@@ -15,7 +15,7 @@ use Rattle.log_head.specs.Head.{HeadValue, IsHeadValue}
 use Rattle.log_head.specs.Log.{head_of}
 use Rattle.log_head.specs.Next.{IsNextPush}
 use Rattle.log_head.specs.Steps.{in_force, with_closed_replica, old_image}
-use Rattle.log_model.specs.Data.{Start}
+use Rattle.log_head.specs.log_model.Data.{Start}
 use Rattle.master_state.specs.declared.failover.Failover.{Failover}
 use Rattle.master_state.specs.declared.failover.Part.TheVariants as part
 use Rattle.master_state.specs.declared.ledger.Posting.{Posting}

@@ -19,8 +19,8 @@ use Rattle.log_head.specs.Head.{digest_of}
 use Rattle.log_head.specs.Log.{head_of}
 use Rattle.log_head.proofs.Digests.{has_any}
 use Rattle.log_head.proofs.RollLog.{digest_is}
-use Rattle.log_model.specs.Data.{ids_of}
-use Rattle.log_model.specs.Ids.{has, all_inserted}
+use Rattle.log_head.specs.log_model.Data.{ids_of}
+use Rattle.log_head.specs.log_model.Ids.{has, all_inserted}
 use Rattle.images.specs.Image.{Image}
 use Rattle.images.specs.Images.{AreWithin}
 use Rattle.images.specs.Sorted.{AreRising, segment_of, replicas_of, changed}

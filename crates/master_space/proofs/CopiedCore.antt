@@ -14,7 +14,7 @@ use Rattle.entry.specs.Format.{IsEntry}
 use Rattle.entry.specs.Text.{text_of, is_data, IsSegment}
 use Rattle.entry.proofs.BagLemmas.{among_push}
 use Rattle.entry.proofs.ListLemmas.{all_among}
-use Rattle.clean_model.specs.Intact.{BeginAsSurvivor, survivor_entries}
+use Rattle.master_state.specs.clean_model.Intact.{BeginAsSurvivor, survivor_entries}
 use Rattle.cleaner.specs.declared.pass.Copied.{Copied}
 use Rattle.cleaner.specs.declared.pass.Pass.{Pass}
 use Rattle.cleaner.specs.KeptLengths.{HasRoomsIn}
@@ -32,8 +32,8 @@ use Rattle.images.specs.Image.{Image}
 use Rattle.images.specs.Sorted.{AreRising, IsWhole, segment_of}
 use Rattle.log_head.specs.declared.head.Roll.{Roll}
 use Rattle.log_head.specs.Log.{head_of}
-use Rattle.log_model.specs.Data.{ids_of}
-use Rattle.log_model.specs.Ids.{has, all_inserted}
+use Rattle.log_head.specs.log_model.Data.{ids_of}
+use Rattle.log_head.specs.log_model.Ids.{has, all_inserted}
 use Rattle.master_state.specs.Budget.{victims_of, survivors_of, used_seglets}
 use Rattle.master_state.specs.Data.{MasterData}
 use Rattle.master_state.specs.Images.{images_among, new_image_or}

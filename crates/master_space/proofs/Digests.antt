@@ -5,8 +5,8 @@ use Rattle.log_head.specs.declared.head.Roll.{Roll}
 use Rattle.log_head.specs.Head.{digest_of}
 use Rattle.log_head.specs.Log.{head_of, start_of}
 use Rattle.log_head.proofs.RollLog.{digest_is}
-use Rattle.log_model.specs.Data.{ids_of}
-use Rattle.log_model.proofs.Lengths.{ids_listed}
+use Rattle.log_head.specs.log_model.Data.{ids_of}
+use Rattle.log_head.proofs.log_model.Lengths.{ids_listed}
 use Rattle.master_state.specs.Data.{MasterData}
 use Rattle.master_state.specs.Invariant.{IsCore, listed_now}
 use Rattle.master_space.proofs.RollEnds.{rolls_of, id_then}

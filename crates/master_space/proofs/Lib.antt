@@ -38,3 +38,4 @@ pub mod LiveCore
 pub mod SizeWalk
 pub mod SizeOrder
 pub mod Awaited
+pub use Rattle.compactor.proofs as compactor

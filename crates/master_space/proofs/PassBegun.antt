@@ -14,8 +14,8 @@ use Rattle.entry.specs.Format.{IsEntry}
 use Rattle.entry.specs.Text.{text_of, IsSegment}
 use Rattle.entry.proofs.ListLemmas.{all_among, all_from_among}
 use Rattle.segment.proofs.UnitLemmas.{length-survivor}
-use Rattle.clean_model.specs.Intact.{survivor_entries}
-use Rattle.clean_model.proofs.KeptEntries.{has_is}
+use Rattle.master_state.specs.clean_model.Intact.{survivor_entries}
+use Rattle.master_state.proofs.clean_model.KeptEntries.{has_is}
 use Rattle.cleaner.specs.declared.pass.Cursor.{Cursor}
 use Rattle.cleaner.specs.declared.pass.Pass.{Pass}
 use Rattle.cleaner.specs.KeptLengths.{survivors_over, HasRoomsIn}
@@ -32,7 +32,7 @@ use Rattle.images.specs.Image.{Image}
 use Rattle.images.specs.Images.{AreWithin}
 use Rattle.images.specs.Sorted.{IsWhole, image_of as image_in, segment_of}
 use Rattle.log_head.specs.declared.head.Roll.{Roll}
-use Rattle.log_model.specs.Ids.{has}
+use Rattle.log_head.specs.log_model.Ids.{has}
 use Rattle.master_state.specs.Causes.{survivors_for}
 use Rattle.master_state.specs.Data.{MasterData}
 use Rattle.master_state.specs.Images.{survivor_image, survivor_images, new_image_or, images_among}

@@ -13,7 +13,7 @@ use Rattle.cleaner.specs.Seals.{first_lacking}
 use Rattle.cleaner.proofs.Lacking.{none_is_lacking}
 use Rattle.cleaner.proofs.Ends.{rest_same, cursor_agrees, rest_segment}
 use Rattle.cleaner.proofs.RoomLaws.{rooms_stay}
-use Rattle.clean_model.specs.Intact.{BeginAsSurvivor}
+use Rattle.master_state.specs.clean_model.Intact.{BeginAsSurvivor}
 use Rattle.compactor.specs.Kept.{has_id}
 use Rattle.compactor.specs.Places.{keys_in}
 use Rattle.entry.specs.declared.entry.Entry.{Entry}
@@ -36,11 +36,11 @@ use Rattle.log_head.specs.Steps.{in_force}
 use Rattle.log_head.proofs.Digests.{has_any}
 use Rattle.log_head.proofs.RollLog.{head_in_force, image_in_force}
 use Rattle.log_head.proofs.Rolls.{rolls}
-use Rattle.log_model.specs.Data.{Start, Head, ids_of}
-use Rattle.log_model.specs.Ids.{has, inserted, all_inserted}
-use Rattle.log_model.specs.Log.{AreBelow}
-use Rattle.log_model.specs.Steps.{new_head}
-use Rattle.log_model.proofs.Lists.{no_units_length}
+use Rattle.log_head.specs.log_model.Data.{Start, Head, ids_of}
+use Rattle.log_head.specs.log_model.Ids.{has, inserted, all_inserted}
+use Rattle.log_head.specs.log_model.Log.{AreBelow}
+use Rattle.log_head.specs.log_model.Steps.{new_head}
+use Rattle.log_head.proofs.log_model.Lists.{no_units_length}
 use Rattle.master_state.specs.declared.failover.Failover.{Failover}
 use Rattle.master_state.specs.declared.ledger.Posting.{Posting}
 use Rattle.master_state.specs.declared.waiting.Waiting.{Waiting}

@@ -21,9 +21,9 @@ use Rattle.log_head.specs.Head.{IsHeadValue, digest_of}
 use Rattle.log_head.specs.Log.{head_of, HasLens}
 use Rattle.log_head.specs.Steps.{start_after, with_roll}
 use Rattle.log_head.proofs.RollLog.{digest_is, start_after_has}
-use Rattle.log_model.specs.Data.{Start, ids_of}
-use Rattle.log_model.proofs.Lengths.{ids_listed}
-use Rattle.log_model.specs.Ids.{has, all_inserted, without}
+use Rattle.log_head.specs.log_model.Data.{Start, ids_of}
+use Rattle.log_head.proofs.log_model.Lengths.{ids_listed}
+use Rattle.log_head.specs.log_model.Ids.{has, all_inserted, without}
 use Rattle.master_state.specs.declared.failover.Failover.{Failover}
 use Rattle.master_state.specs.Budget.{newest_digest, most_segments, whole_seglets, seglets_of, head_seglets}
 use Rattle.master_state.specs.Budget.{used_seglets, free_seglets}

@@ -12,7 +12,7 @@ use Rattle.cleaner.specs.Passes.{survivor_ids, is_at_end, next_seal as next_seal
 use Rattle.cleaner.specs.Seals.{first_lacking}
 use Rattle.cleaner.proofs.Ends.{pass_agrees}
 use Rattle.cleaner.proofs.Lacking.{lacking_is_one, seal_adds_one}
-use Rattle.clean_model.proofs.KeptEntries.{has_is}
+use Rattle.master_state.proofs.clean_model.KeptEntries.{has_is}
 use Rattle.entry.specs.declared.entry.Entry.{Entry}
 use Rattle.entry.specs.Bag.{IsAmong}
 use Rattle.entry.specs.Text.{IsSegment}

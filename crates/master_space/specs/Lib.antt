@@ -1,2 +1,3 @@
 pub mod Choosing
 pub mod Ends
+pub use Rattle.compactor.specs as compactor

@@ -2,7 +2,7 @@
 
 ghost use Rattle.std.specs.Prelude.{◌⊎◌, ◌≡◌, ◌<◌, ◌≤◌, ◌==◌, ◌∷◌, ◌++◌, ◌*◌, ◌+◌, [], ℕ, None, Some, length};
 ghost use Rattle.std.specs.Prelude.{IfOk, IfErr, IfSome, OnOk, OnErr, IsSome, is_none, if◌then◌else◌};
-ghost use Rattle.failover_clean.specs.Steps.{MayBeginClean};
+ghost use Rattle.master_state.specs.failover_clean.Steps.{MayBeginClean};
 ghost use Rattle.cleaner.specs.Passes.{survivor_ids, AreIds};
 ghost use Rattle.entry.specs.Bag.{IsAmong};
 ghost use Rattle.entry.specs.Text.{text_of};

@@ -2,7 +2,7 @@
 
 ghost use Rattle.std.specs.Prelude.{◌≡◌, ◌+◌, ◌≤◌, ◌++◌, ◌&&◌, IfSome, true, length, nat_lt, vec_capacity};
 ghost use Rattle.images.specs.Sorted.{AreRising};
-ghost use Rattle.log_model.specs.Ids.{has};
+ghost use Rattle.log_head.specs.log_model.Ids.{has};
 ghost use Rattle.master_space.specs.Ends.{pass_left, closed_left, waiting_left};
 ghost use Rattle.cleaner.specs.Passes.{survivor_ids, AreIds};
 ghost use Rattle.master_state.specs.Images.{staying, leaving, waiting_for, after_pass, all_trimmed};

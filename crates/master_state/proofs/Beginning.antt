@@ -11,11 +11,11 @@ use Rattle.log_head.specs.Log.{head_of, HasLens, IsImageOf}
 use Rattle.log_head.specs.Steps.{lone_start, fresh_head}
 use Rattle.log_head.proofs.HeadLog.{head_is, image_fresh}
 use Rattle.log_head.proofs.RollLog.{digest_is}
-use Rattle.log_model.specs.Data.{Head, ids_of, digest_for, start_entries}
-use Rattle.log_model.proofs.Lengths.{ids_listed}
-use Rattle.log_model.specs.Log.{AreBelow}
-use Rattle.failover_model.specs.Data.{Calm, Rolls}
-use Rattle.failover_model.specs.Steps.{no_head, restored}
+use Rattle.log_head.specs.log_model.Data.{Head, ids_of, digest_for, start_entries}
+use Rattle.log_head.proofs.log_model.Lengths.{ids_listed}
+use Rattle.log_head.specs.log_model.Log.{AreBelow}
+use Rattle.failover_clean.specs.failover_model.Data.{Calm, Rolls}
+use Rattle.failover_clean.specs.failover_model.Steps.{no_head, restored}
 use Rattle.master_state.specs.declared.config.Config.{Config}
 use Rattle.master_state.specs.Config.{config_fault}
 use Rattle.master_state.specs.Budget.{most_segments}

@@ -18,7 +18,7 @@ use Rattle.log_head.specs.Head.{HeadValue, IsHeadValue, IsRollValue}
 use Rattle.images.specs.Image.{Image}
 use Rattle.master_state.specs.Data.{MasterData}
 use Rattle.master_state.specs.Images.{images_among}
-use Rattle.compactor.specs.Places.{IsAtPlace, object_there, keys_in}
+use Rattle.cleaner.specs.compactor.Places.{IsAtPlace, object_there, keys_in}
 use Rattle.master_state.specs.Index.{LiesFound, place_found, FindsObject, object_found}
 use Rattle.master_state.specs.Invariant.{IsCore}
 use Rattle.master_state.specs.Log.{find, Finds, images_of, IsIndexed, state_now}

@@ -6,7 +6,7 @@ use Rattle.entry.specs.declared.entry.Entry.TheVariants as entry
 use Rattle.places.specs.declared.place.Place.{Place}
 use Rattle.places.specs.Map.{Places}
 use Rattle.places.specs.Relocation.{names}
-use Rattle.compactor.specs.Kept.{kept}
+use Rattle.cleaner.specs.compactor.Kept.{kept}
 
 -- an entry is kept only if it was before, if the index names its place only for keys for which it did before
 pub kept_again : (ids : List ℕ) (old new : Places) (p : Place) (e : Entry)

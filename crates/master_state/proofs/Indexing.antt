@@ -24,7 +24,7 @@ use Rattle.places.specs.Map.{Places, found, AreKept, IsSet}
 use Rattle.places.proofs.Words.{HasKey, all_then, each_told, found_again, kept_again}
 use Rattle.versioned_map.specs.Versioned.{with_contents}
 use Rattle.versioned_map.proofs.Keys.{key_eq-tells}
-use Rattle.compactor.specs.Places.{LiesAt, IsAtPlace, as_object, object_there, keys_in}
+use Rattle.cleaner.specs.compactor.Places.{LiesAt, IsAtPlace, as_object, object_there, keys_in}
 use Rattle.master_state.specs.Index.{LiesFound}
 
 -- ---- what stands in images that grow

@@ -14,3 +14,8 @@ pub mod LogIds
 pub mod Recounts
 pub mod LostCore
 pub mod LostWaits
+pub use Rattle.cleaner.proofs as cleaner
+pub use Rattle.failover_clean.proofs.clean_model
+pub use Rattle.failover_clean.proofs.failover_model
+pub use Rattle.failover_clean.proofs.failover_bytes
+pub use Rattle.failover_clean.proofs as failover_clean

@@ -11,7 +11,7 @@ use Rattle.std.proofs.lemmas.List.Edits.{length-remove}
 use Rattle.cleaner.specs.declared.pass.Pass.{Pass as OpenPass}
 use Rattle.cleaner.specs.Passes.{images_in, survivor_ids, IsPass}
 use Rattle.cleaner.proofs.Ends.{pass_agrees}
-use Rattle.compactor.specs.Kept.{has_id, kept}
+use Rattle.cleaner.specs.compactor.Kept.{has_id, kept}
 use Rattle.entry.specs.declared.entry.Entry.{Entry}
 use Rattle.entry.specs.declared.entry.Entry.TheVariants as entry
 use Rattle.entry.specs.declared.entry.Object.{Object}
@@ -31,8 +31,8 @@ use Rattle.log_head.specs.Log.{head_of, start_of}
 use Rattle.log_head.specs.Steps.{counts_without}
 use Rattle.log_head.proofs.HeadLog.{image_lost}
 use Rattle.log_head.proofs.Losses.{lost_valid}
-use Rattle.log_model.specs.Data.{start_entries}
-use Rattle.log_model.specs.Ids.{has, all_inserted}
+use Rattle.log_head.specs.log_model.Data.{start_entries}
+use Rattle.log_head.specs.log_model.Ids.{has, all_inserted}
 use Rattle.master_state.specs.declared.config.Config.{Config}
 use Rattle.master_state.specs.declared.failover.Failover.{Failover}
 use Rattle.master_state.specs.declared.waiting.Waiting.{Waiting}

@@ -9,7 +9,7 @@ use Rattle.cleaner.specs.declared.fault.PassFault.TheVariants.{Twice}
 use Rattle.cleaner.specs.declared.pass.Pass.{Pass as OpenPass}
 use Rattle.cleaner.specs.KeptLengths.{survivors_over}
 use Rattle.cleaner.specs.Passes.{images_in, is_at_end}
-use Rattle.compactor.specs.Kept.{has_id}
+use Rattle.cleaner.specs.compactor.Kept.{has_id}
 use Rattle.entry.specs.declared.entry.Entry.{Entry}
 use Rattle.entry.specs.Tablet.{have_key}
 use Rattle.entry.specs.Text.{text_of}
@@ -18,7 +18,7 @@ use Rattle.versioned_map.specs.declared.command.Command.TheVariants.{Get, Put, D
 use Rattle.versioned_map.specs.Command.{command_key}
 use Rattle.versioned_map.specs.Represents.{unit_of}
 use Rattle.versioned_map.specs.Versioned.{is_spent}
-use Rattle.log_model.specs.Data.{fewest}
+use Rattle.log_head.specs.log_model.Data.{fewest}
 use Rattle.log_head.specs.declared.head.Roll.{Roll}
 use Rattle.log_head.specs.Head.{HeadValue, is_open, digest_of}
 use Rattle.master_state.specs.declared.step.Refusal.{Refusal}

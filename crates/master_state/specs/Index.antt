@@ -8,7 +8,7 @@ use Rattle.entry.specs.Meaning.{Versioned, versioned, object_at}
 use Rattle.entry.specs.View.{shown_object}
 use Rattle.places.specs.declared.place.Place.{Place}
 use Rattle.places.specs.Map.{Places, found}
-use Rattle.compactor.specs.Places.{IsAtPlace, object_there, keys_in}
+use Rattle.cleaner.specs.compactor.Places.{IsAtPlace, object_there, keys_in}
 
 -- a key's object lies where it is found, and nothing is found of a key that has none
 abbrev pub LiesFound : (ℕ → List Entry) → Key → Option Place → Option Versioned → Type 0

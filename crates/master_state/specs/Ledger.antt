@@ -1,6 +1,6 @@
 -- What a master's backups answered, as the log's model counts it.
 use Rattle.std.specs.Prelude.{ℕ, zero, suc, ◌+◌, ◌==◌, List, [], ◌∷◌, Bool, if◌then◌else◌}
-use Rattle.failover_model.specs.Steps.{with_taken, with_count}
+use Rattle.failover_clean.specs.failover_model.Steps.{with_taken, with_count}
 use Rattle.master_state.specs.declared.ledger.Posting.{Posting}
 use Rattle.master_state.specs.declared.ledger.Posting.TheVariants as posting
 use Rattle.master_state.specs.Data.{MasterData}

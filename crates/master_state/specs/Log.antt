@@ -11,13 +11,13 @@ use Rattle.segment.specs.Bytes.{standing_at}
 use Rattle.versioned_map.specs.declared.command.Command.{Command}
 use Rattle.versioned_map.specs.Command.{command_key}
 use Rattle.versioned_map.specs.Versioned.{State}
-use Rattle.log_model.specs.Data.{records_before}
-use Rattle.clean_model.specs.Memory.{Place as EntryPlace}
-use Rattle.log_model.specs.Data.{Start}
-use Rattle.log_model.specs.Ids.{without}
-use Rattle.failover_model.specs.Data.{Head as FailHead, FailConfig, Mode, Calm, Rolls, Mends, Opens, Closes, Repairs}
-use Rattle.failover_model.specs.Data.{FailData, state_of}
-use Rattle.failover_model.specs.Steps.{no_head}
+use Rattle.log_head.specs.log_model.Data.{records_before}
+use Rattle.failover_clean.specs.clean_model.Memory.{Place as EntryPlace}
+use Rattle.log_head.specs.log_model.Data.{Start}
+use Rattle.log_head.specs.log_model.Ids.{without}
+use Rattle.failover_clean.specs.failover_model.Data.{Head as FailHead, FailConfig, Mode, Calm, Rolls, Mends, Opens, Closes, Repairs}
+use Rattle.failover_clean.specs.failover_model.Data.{FailData, state_of}
+use Rattle.failover_clean.specs.failover_model.Steps.{no_head}
 use Rattle.failover_clean.specs.Memory.{Spot, FailMemory}
 use Rattle.log_head.specs.declared.head.Roll.{Roll}
 use Rattle.log_head.specs.Head.{HeadValue, everywhere}
@@ -33,7 +33,7 @@ use Rattle.places.specs.Map.{found}
 use Rattle.master_state.specs.Data.{MasterData}
 use Rattle.master_state.specs.Ledger.{took_in, counts_in, shut_in}
 use Rattle.master_state.specs.Images.{image_among, images_among}
-use Rattle.compactor.specs.Places.{keys_in}
+use Rattle.cleaner.specs.compactor.Places.{keys_in}
 
 -- ---- placement
 

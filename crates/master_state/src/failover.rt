@@ -1,7 +1,7 @@
 //! What a master keeps of backups that failed, and of the failover that a failure opens.
 
 ghost use Rattle.std.specs.Prelude.{◌≡◌, ◌<◌, ◌∷◌, [], length, true};
-ghost use Rattle.log_model.specs.Ids.{has};
+ghost use Rattle.log_head.specs.log_model.Ids.{has};
 
 use arrayvec::ArrayVec;
 use segment::Segment;

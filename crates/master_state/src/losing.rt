@@ -3,7 +3,7 @@
 ghost use Rattle.std.specs.Prelude.{◌≡◌, ◌+◌, ◌<◌, ◌≤◌, length, map, filter, true, false, None, Some, IfSome};
 ghost use Rattle.std.specs.List.{AllByRecursion};
 ghost use Rattle.images.specs.Images.{ImagesValue};
-ghost use Rattle.log_model.specs.Ids.{has};
+ghost use Rattle.log_head.specs.log_model.Ids.{has};
 ghost use Rattle.master_state.specs.Config.{config_fault};
 ghost use Rattle.master_state.specs.Invariant.{IsCore};
 ghost use Rattle.master_state.specs.Log.{working};

@@ -9,14 +9,14 @@ ghost use Rattle.master_state.specs.Config.{config_fault};
 ghost use Rattle.std.specs.Result.{result_err};
 ghost use Rattle.master_state.specs.Data.{fresh_data};
 ghost use Rattle.master_state.specs.Invariant.{IsCore};
-ghost use Rattle.failover_model.specs.Steps.{restored};
+ghost use Rattle.failover_clean.specs.failover_model.Steps.{restored};
 ghost use Rattle.master_state.specs.Loading.{restored_data, IsBare};
 ghost use Rattle.master_state.specs.Log.{fail_config, log_of, durable_now, image_of, home};
 ghost use Rattle.master_state.specs.Steps.{failed_data, refusal_of, halted, backup_of, ledger_after};
 ghost use Rattle.master_state.specs.Ledger.{posted, ended_with};
 ghost use Rattle.log_head.specs.Next.{replica_of, segment_of};
 ghost use Rattle.std.specs.Prelude.{ℕ, suc, ◌==◌, false};
-ghost use Rattle.log_model.specs.Ids.{has};
+ghost use Rattle.log_head.specs.log_model.Ids.{has};
 
 use crate::config::Config;
 use crate::failover::{Failed, Failover};

@@ -3,8 +3,8 @@
 ghost use Rattle.std.specs.Prelude.{◌≡◌, ◌≤◌, ◌==◌, ℕ, None, IfSome};
 ghost use Rattle.std.specs.List.{list_any};
 ghost use Rattle.backup.specs.State.{fleet_state};
-ghost use Rattle.master.specs.Registry.{IsUnraised};
-ghost use Rattle.master_state.specs.Config.{config_fault};
+ghost use Rattle.recovery.specs.master.Registry.{IsUnraised};
+ghost use Rattle.recovery.specs.master.master_state.Config.{config_fault};
 ghost use Rattle.replica.specs.declared.holding.Holding.{Holding as HoldingValue};
 
 use crate::answers::{Call, passed, run};
@@ -13,8 +13,8 @@ use crate::asks::Ask::{Delete, Get, Push, Put, Roll, Write};
 use crate::comparisons::rebuilt;
 use crate::masters::{config_of, new_master};
 use backup::MemoryFleet;
-use master::{Config, If, Master, Refusal};
-use replay::{Rebuilt, adopt};
+use recovery::master::{Config, If, Master, Refusal};
+use recovery::replay::{Rebuilt, adopt};
 use replica::{Bench, Fleet, Holding};
 use std::alloc::Global;
 

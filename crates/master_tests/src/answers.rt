@@ -5,7 +5,9 @@ use crate::comparisons::{is_the_plain_map, value};
 use crate::masters::new_master_in;
 use backup::MemoryFleet;
 use entry::Size;
-use master::{Command, History, Look, Master, Record, Refusal, Reply, Shown, Step, StepAnswer};
+use recovery::master::{
+    Command, History, Look, Master, Record, Refusal, Reply, Shown, Step, StepAnswer,
+};
 use replica::Label;
 use std::alloc::Global;
 

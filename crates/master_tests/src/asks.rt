@@ -1,7 +1,7 @@
 //! What the tests ask of a master.
 
 use entry::{Key, MAX_VALUE_LEN, Value};
-use master::{Command, If, Step};
+use recovery::master::{Command, If, Step};
 use std::alloc::Global;
 
 /// Pushes, the begin of a roll, or a command on a key. The key is of table 1, if no table is named.

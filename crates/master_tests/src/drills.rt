@@ -5,9 +5,9 @@ use crate::asks::{Ask, steps_of};
 use crate::masters::{TABLETS, new_master};
 use backup::MemoryFleet;
 use entry::{NoMemory, Row, Size};
-use master::{If, Master};
+use recovery::master::{If, Master};
+use recovery::replay::{Objects, Rebuilt};
 use recovery::{Course, Drill, GroupOrder, RecoveryFault, run_drill};
-use replay::{Objects, Rebuilt};
 use std::alloc::Global;
 use tablet_will::{Will, make_will};
 

@@ -10,7 +10,7 @@ use crate::drills::{Life, Order, Recovered, course_of, is_rebuilt};
 use crate::masters::{config_of, new_fleet};
 use backup::MemoryFleet;
 use entry::Tablets;
-use master::{Config, If, Master};
+use recovery::master::{Config, If, Master};
 use recovery::{Course, Drills, End, Lived, run_lives};
 use std::alloc::Global;
 

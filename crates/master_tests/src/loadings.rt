@@ -4,7 +4,7 @@ use crate::answers::{Kind, kind};
 use crate::masters::{config_of, new_fleet};
 use backup::MemoryFleet;
 use entry::SafeVersion;
-use master::{Loading, Master};
+use recovery::master::{Loading, Master};
 use std::alloc::Global;
 
 /// One that has loaded nothing, over a fleet that holds nothing.

@@ -2,11 +2,11 @@
 
 ghost use Rattle.std.specs.Prelude.{◌≡◌, ◌≤◌, ℕ, None, IfSome};
 ghost use Rattle.backup.specs.State.{fleet_state};
-ghost use Rattle.master_state.specs.Config.{config_fault};
+ghost use Rattle.recovery.specs.master.master_state.Config.{config_fault};
 
 use backup::MemoryFleet;
 use entry::{Tablet, Tablets};
-use master::{Config, KeyHasher, Master};
+use recovery::master::{Config, KeyHasher, Master};
 use std::alloc::Global;
 
 /// Four tables, each of one tablet.

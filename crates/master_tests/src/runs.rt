@@ -4,7 +4,7 @@
 use crate::answers::{Call, passed_by_new};
 use crate::asks::Ask;
 use crate::asks::Ask::{Delete, Get, Push, Put, Roll, Write};
-use master::If;
+use recovery::master::If;
 
 /// Two pushes, a put, a get, and three pushes.
 const STEPS: &[Call] = &[

@@ -5,10 +5,10 @@ use Rattle.backup.specs.State.{fleet_state}
 use Rattle.replica.specs.declared.op.TakeFault.{TakeFault}
 use Rattle.replica.specs.declared.op.TakeFault.TheVariants as take_fault
 use Rattle.replica.specs.Picture.{FleetState}
-use Rattle.master_state.specs.Data.{MasterData}
-use Rattle.master_state.specs.Steps.{halted}
-use Rattle.master.specs.Valid.{IsValid}
-use Rattle.master.specs.World.{retired_data}
+use Rattle.node.specs.master.master_state.Data.{MasterData}
+use Rattle.node.specs.master.master_state.Steps.{halted}
+use Rattle.node.specs.master.Valid.{IsValid}
+use Rattle.node.specs.master.World.{retired_data}
 use Rattle.node.specs.declared.node.Node.{Node}
 use Rattle.node.specs.declared.node.Node.TheVariants.{Up, Down, Changing}
 use Rattle.node.specs.Lives.{Left, left_now}

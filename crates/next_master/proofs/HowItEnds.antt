@@ -5,22 +5,22 @@ use Rattle.std.specs.Option.{option_map}
 use Rattle.backup.specs.State.{fleet_state}
 use Rattle.backup.specs.declared.fleet.MemoryFleet.{MemoryFleet}
 use Rattle.command_line.specs.declared.settings.Options.{Options}
-use Rattle.master.specs.Registry.{AreUnraisedAbove}
-use Rattle.master.specs.World.{MasterValue, World, world}
-use Rattle.master_state.specs.declared.config.Config.{Config}
-use Rattle.master_state.specs.Data.{MasterData}
-use Rattle.recovery.specs.declared.recovery.RecoveryFault.TheVariants as fault
-use Rattle.recovery.specs.Succession.{IsSuccessor}
-use Rattle.recovery_plan.specs.declared.fault.PlanFault.TheVariants as plan_fault
-use Rattle.claims.specs.declared.rebuilt.Rebuilt.{Rebuilt}
-use Rattle.replay.specs.Adopting.{IsAdopted, IsAdoptedOn}
+use Rattle.node.specs.master.Registry.{AreUnraisedAbove}
+use Rattle.node.specs.master.World.{MasterValue, World, world}
+use Rattle.node.specs.master.master_state.declared.config.Config.{Config}
+use Rattle.node.specs.master.master_state.Data.{MasterData}
+use Rattle.node.specs.recovery.declared.recovery.RecoveryFault.TheVariants as fault
+use Rattle.node.specs.recovery.Succession.{IsSuccessor}
+use Rattle.node.specs.recovery.recovery_plan.declared.fault.PlanFault.TheVariants as plan_fault
+use Rattle.node.specs.replay.claims.declared.rebuilt.Rebuilt.{Rebuilt}
+use Rattle.node.specs.replay.Adopting.{IsAdopted, IsAdoptedOn}
 use Rattle.replica.specs.declared.op.TakeFault.{TakeFault}
 use Rattle.replica.specs.Picture.{FleetState}
 use Rattle.replica.specs.Retire.{Retires}
 use Rattle.replica.specs.Take.{limited, no_limit}
 use Rattle.replica.proofs.Retiring.{retire_spares}
-use Rattle.answers.specs.declared.answer.Answer.{Answer}
-use Rattle.answers.specs.declared.answer.Answer.TheVariants as answer
+use Rattle.node.specs.answers.declared.answer.Answer.{Answer}
+use Rattle.node.specs.answers.declared.answer.Answer.TheVariants as answer
 use Rattle.node.specs.declared.node.Node.{Node}
 use Rattle.node.specs.declared.node.Node.TheVariants.{Up, Down, Changing}
 use Rattle.next_master.specs.Configuration.{config_of}
@@ -30,7 +30,7 @@ use Rattle.next_master.specs.Recoveries.{fault_answer}
 use Rattle.node.specs.Lives.{Left, Position}
 use Rattle.node.specs.Served.{IsNodeAt, IsOf, fleet_of, is_up, world_of}
 use Rattle.node.proofs.LeastHeads.{IsUnraisedAbove, in_world, unraised_more, with_fleet}
-use Rattle.recovery.proofs.Following.{adopted_still}
+use Rattle.node.proofs.of_recovery.Following.{adopted_still}
 use Rattle.next_master.proofs.Retired.{others_gone, retire_keeps_end, spent_retire}
 
 -- ---- where a node stands

@@ -2,12 +2,12 @@
 use Rattle.std.proofs.Common.{◌≡◌, ◌⊎◌, ◌<◌, ◌∙◌, ℕ, Bool, true, false, refl, sym, ap, inl, inr}
 use Rattle.std.specs.Prelude.{Option, Some, None, not, if◌then◌else◌}
 use Rattle.command_line.specs.declared.settings.Options.{Options}
-use Rattle.master_state.specs.declared.config.Config.{Config}
-use Rattle.master_state.specs.declared.config.ConfigFault.{ConfigFault}
-use Rattle.master_state.specs.declared.config.ConfigFault.TheVariants.{BadBackups, BadStep, BadSegment, BadSeglet}
-use Rattle.master_state.specs.declared.config.ConfigFault.TheVariants.{BadBudget, BadTablets, BadHistory, BadFormat}
-use Rattle.master_state.specs.Config.{config_fault, has_backups, has_budget, has_format, has_history, has_seglet}
-use Rattle.master_state.specs.Config.{has_segment, has_step, has_tablets}
+use Rattle.node.specs.master.master_state.declared.config.Config.{Config}
+use Rattle.node.specs.master.master_state.declared.config.ConfigFault.{ConfigFault}
+use Rattle.node.specs.master.master_state.declared.config.ConfigFault.TheVariants.{BadBackups, BadStep, BadSegment, BadSeglet}
+use Rattle.node.specs.master.master_state.declared.config.ConfigFault.TheVariants.{BadBudget, BadTablets, BadHistory, BadFormat}
+use Rattle.node.specs.master.master_state.Config.{config_fault, has_backups, has_budget, has_format, has_history, has_seglet}
+use Rattle.node.specs.master.master_state.Config.{has_segment, has_step, has_tablets}
 use Rattle.next_master.specs.Configuration.{config_of, later_options}
 use Rattle.node.specs.Told.{IsNextConfig}
 

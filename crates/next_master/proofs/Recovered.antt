@@ -9,31 +9,31 @@ use Rattle.lines.specs.declared.line.ReplayOrder.TheVariants.{Forward, Reverse, 
 use Rattle.entry.specs.declared.entry.Entry.{Entry}
 use Rattle.entry.specs.Bag.{IsAmong}
 use Rattle.entry.specs.Meaning.{IsMeaning, among, contents_of}
-use Rattle.claims.specs.declared.rebuilt.Rebuilt.{Rebuilt}
+use Rattle.node.specs.replay.claims.declared.rebuilt.Rebuilt.{Rebuilt}
 use Rattle.replica.specs.declared.holding.Holding.{Holding}
 use Rattle.replica.specs.Picture.{Picture, FleetState, Shown, left_on, survivors, IsHeld, AreHeld}
 use Rattle.replica.specs.Choice.{IsShownChoice}
 use Rattle.replica.specs.Survival.{IsHomeLeft, HeadSurvives, BothSurvive}
-use Rattle.recovery_plan.specs.declared.fault.PlanFault.TheVariants as plan_fault
-use Rattle.log_model.specs.Ids.{has}
-use Rattle.failover_model.specs.Data.{IsHome}
-use Rattle.failover_model.proofs.Lists.{without_has}
-use Rattle.failover_bytes.specs.Choice.{Counts, IsNewestCounted, newest_opened}
-use Rattle.failover_bytes.specs.Sound.{IsSoundInBytes}
-use Rattle.master_state.specs.declared.config.Config.{Config}
-use Rattle.master_state.specs.Data.{MasterData}
-use Rattle.master_state.specs.Log.{log_of}
-use Rattle.recovery.specs.Orders.{Covers, NamesGroups}
-use Rattle.rebuilding.specs.declared.order.GroupOrder.{GroupOrder}
+use Rattle.node.specs.recovery.recovery_plan.declared.fault.PlanFault.TheVariants as plan_fault
+use Rattle.node.specs.master.log_model.Ids.{has}
+use Rattle.node.specs.master.failover_model.Data.{IsHome}
+use Rattle.node.proofs.of_master.failover_model.Lists.{without_has}
+use Rattle.node.specs.master.failover_bytes.Choice.{Counts, IsNewestCounted, newest_opened}
+use Rattle.node.specs.master.failover_bytes.Sound.{IsSoundInBytes}
+use Rattle.node.specs.master.master_state.declared.config.Config.{Config}
+use Rattle.node.specs.master.master_state.Data.{MasterData}
+use Rattle.node.specs.master.master_state.Log.{log_of}
+use Rattle.node.specs.recovery.Orders.{Covers, NamesGroups}
+use Rattle.node.specs.replay.rebuilding.declared.order.GroupOrder.{GroupOrder}
 use Rattle.tablet_will.specs.declared.part.Part.{Part}
-use Rattle.recovery.specs.Recovered.{Shows, IsRecovered, IsRebuiltFrom, IsRefusedFrom, IsLossOrMemory, IsSomeLoss}
-use Rattle.recovery.specs.Recovered.{IsSomePrefix, IsWant}
-use Rattle.recovery_plan.specs.Planned.{IsPlanFault, NamesLoss}
-use Rattle.recovery.specs.declared.recovery.RecoveryFault.{RecoveryFault}
-use Rattle.recovery.specs.declared.recovery.RecoveryFault.TheVariants as fault
-use Rattle.recovery.proofs.Choices.{bag-of-plan, surviving-choice}
-use Rattle.recovery.proofs.Counting.{orders_name}
-use Rattle.answers.specs.declared.answer.Answer.TheVariants as answer
+use Rattle.node.specs.recovery.Recovered.{Shows, IsRecovered, IsRebuiltFrom, IsRefusedFrom, IsLossOrMemory, IsSomeLoss}
+use Rattle.node.specs.recovery.Recovered.{IsSomePrefix, IsWant}
+use Rattle.node.specs.recovery.recovery_plan.Planned.{IsPlanFault, NamesLoss}
+use Rattle.node.specs.recovery.declared.recovery.RecoveryFault.{RecoveryFault}
+use Rattle.node.specs.recovery.declared.recovery.RecoveryFault.TheVariants as fault
+use Rattle.node.proofs.of_recovery.Choices.{bag-of-plan, surviving-choice}
+use Rattle.node.proofs.of_recovery.Counting.{orders_name}
+use Rattle.node.specs.answers.declared.answer.Answer.TheVariants as answer
 use Rattle.node.specs.declared.node.Node.{Node}
 use Rattle.node.specs.declared.node.Node.TheVariants.{Down}
 use Rattle.next_master.specs.Recoveries.{order_named}

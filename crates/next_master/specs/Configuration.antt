@@ -3,7 +3,7 @@ use Rattle.std.specs.Prelude.{[], ℕ, zero, suc, ◌-◌, ◌^◌, List, ◌∷
 use Rattle.entry.specs.declared.tablet.Tablet.{Tablet}
 use Rattle.tablet_will.specs.declared.part.Part.{Part}
 use Rattle.command_line.specs.declared.settings.Options.{Options}
-use Rattle.master_state.specs.declared.config.Config.{Config}
+use Rattle.node.specs.master.master_state.declared.config.Config.{Config}
 use Rattle.places.specs.Secrets.{fast_hasher}
 
 -- a table as one tablet

@@ -6,11 +6,11 @@ use Rattle.entry.specs.Meaning.{contents_of}
 use Rattle.lines.specs.Grammar.{LineValue}
 use Rattle.versioned_map.specs.History.{IsLegal}
 use Rattle.versioned_map.specs.Versioned.{State}
-use Rattle.master_state.specs.declared.config.Config.{Config}
-use Rattle.master_state.specs.Data.{MasterData}
-use Rattle.claims.specs.declared.rebuilt.Rebuilt.{Rebuilt}
-use Rattle.answers.specs.declared.answer.Answer.{Answer}
-use Rattle.answers.specs.declared.answer.Answer.TheVariants as answer
+use Rattle.node.specs.master.master_state.declared.config.Config.{Config}
+use Rattle.node.specs.master.master_state.Data.{MasterData}
+use Rattle.node.specs.replay.claims.declared.rebuilt.Rebuilt.{Rebuilt}
+use Rattle.node.specs.answers.declared.answer.Answer.{Answer}
+use Rattle.node.specs.answers.declared.answer.Answer.TheVariants as answer
 use Rattle.node.specs.Lives.{Life, life_to, HasLived, Left, IsLeftBy, IsLeftBySpent, Position}
 use Rattle.node.specs.Told.{IsFoundAt, IsNextConfig, IsRecover}
 

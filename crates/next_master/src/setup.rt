@@ -1,14 +1,14 @@
 //! From the command line to a master's configuration.
 
 ghost use Rattle.std.specs.Prelude.{◌≡◌, ◌<◌, None, IfOk, OnErr};
-ghost use Rattle.master_state.specs.Config.{config_fault};
-ghost use Rattle.recovery.specs.Orders.{Covers};
+ghost use Rattle.node.specs.master.master_state.Config.{config_fault};
+ghost use Rattle.node.specs.recovery.Orders.{Covers};
 ghost use Rattle.next_master.specs.Configuration.{config_of, tables_to};
 ghost use Rattle.next_master.specs.Configuration.{later_options, one_partition};
 
 use command_line::Options;
 use entry::{NoMemory, Tablet, Tablets};
-use master::{Config, KeyHasher};
+use node::master::{Config, KeyHasher};
 use std::alloc::Global;
 use tablet_will::{Will, WillFault, make_will};
 

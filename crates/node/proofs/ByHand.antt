@@ -5,41 +5,41 @@ use Rattle.backup.specs.State.{fleet_state}
 use Rattle.backup.specs.declared.fleet.MemoryFleet.{MemoryFleet}
 use Rattle.lines.specs.Grammar.{LineValue}
 use Rattle.lines.specs.Grammar as grammar
-use Rattle.cleaner.specs.declared.pass.Copied.{Copied}
-use Rattle.cleaner.specs.declared.pass.Copied.TheVariants as copied
-use Rattle.master_state.specs.declared.config.Config.{Config}
-use Rattle.master_state.specs.declared.step.Refusal.{Refusal}
-use Rattle.master_state.specs.declared.step.Step.{Step}
-use Rattle.master_state.specs.declared.step.Step.TheVariants.{Apply, Push, BeginRoll, Compact, BeginClean, Copy, Seal}
-use Rattle.master_state.specs.declared.step.Step.TheVariants.{Free}
-use Rattle.master_state.specs.declared.step.StepAnswer.{StepAnswer}
-use Rattle.master_state.specs.declared.step.StepAnswer.TheVariants.{Applied, Extended, Opened, Closed, Rolling}
-use Rattle.master_state.specs.declared.step.StepAnswer.TheVariants.{Compacted, Begun, Moved, Carried, Dropped, Sealed}
-use Rattle.master_state.specs.declared.step.StepAnswer.TheVariants.{Freed, Raised, Repaired}
-use Rattle.failover_model.specs.Data.{FailData}
-use Rattle.failover_model.specs.Shown.{Op}
-use Rattle.master_state.specs.Data.{MasterData}
-use Rattle.master_state.specs.Log.{log_of}
-use Rattle.master_state.specs.Steps.{copy_answer}
-use Rattle.master_mending.specs.declared.mending.Mend.{Mend}
-use Rattle.master_mending.specs.declared.mending.Mend.TheVariants as mend
-use Rattle.master_mending.specs.Mending.{backup_for, segment_for}
-use Rattle.master.specs.Keeps.{Keeps}
-use Rattle.master.specs.Mends.{answer_for}
-use Rattle.master.specs.Pushes.{IsNextOp}
-use Rattle.master.specs.Steps.{Accepts, Declines, Steps}
-use Rattle.master.specs.Valid.{IsValid}
-use Rattle.master.specs.World.{MasterValue, World, world}
+use Rattle.store_clients.specs.master.cleaner.declared.pass.Copied.{Copied}
+use Rattle.store_clients.specs.master.cleaner.declared.pass.Copied.TheVariants as copied
+use Rattle.store_clients.specs.master.master_state.declared.config.Config.{Config}
+use Rattle.store_clients.specs.master.master_state.declared.step.Refusal.{Refusal}
+use Rattle.store_clients.specs.master.master_state.declared.step.Step.{Step}
+use Rattle.store_clients.specs.master.master_state.declared.step.Step.TheVariants.{Apply, Push, BeginRoll, Compact, BeginClean, Copy, Seal}
+use Rattle.store_clients.specs.master.master_state.declared.step.Step.TheVariants.{Free}
+use Rattle.store_clients.specs.master.master_state.declared.step.StepAnswer.{StepAnswer}
+use Rattle.store_clients.specs.master.master_state.declared.step.StepAnswer.TheVariants.{Applied, Extended, Opened, Closed, Rolling}
+use Rattle.store_clients.specs.master.master_state.declared.step.StepAnswer.TheVariants.{Compacted, Begun, Moved, Carried, Dropped, Sealed}
+use Rattle.store_clients.specs.master.master_state.declared.step.StepAnswer.TheVariants.{Freed, Raised, Repaired}
+use Rattle.store_clients.specs.master.failover_model.Data.{FailData}
+use Rattle.store_clients.specs.master.failover_model.Shown.{Op}
+use Rattle.store_clients.specs.master.master_state.Data.{MasterData}
+use Rattle.store_clients.specs.master.master_state.Log.{log_of}
+use Rattle.store_clients.specs.master.master_state.Steps.{copy_answer}
+use Rattle.store_clients.specs.master.master_mending.declared.mending.Mend.{Mend}
+use Rattle.store_clients.specs.master.master_mending.declared.mending.Mend.TheVariants as mend
+use Rattle.store_clients.specs.master.master_mending.Mending.{backup_for, segment_for}
+use Rattle.store_clients.specs.master.Keeps.{Keeps}
+use Rattle.store_clients.specs.master.Mends.{answer_for}
+use Rattle.store_clients.specs.master.Pushes.{IsNextOp}
+use Rattle.store_clients.specs.master.Steps.{Accepts, Declines, Steps}
+use Rattle.store_clients.specs.master.Valid.{IsValid}
+use Rattle.store_clients.specs.master.World.{MasterValue, World, world}
 use Rattle.answers.specs.declared.answer.Answer.{Answer}
 use Rattle.answers.specs.declared.answer.Answer.TheVariants as answer
 use Rattle.node.specs.declared.node.Node.{Node}
 use Rattle.node.specs.declared.node.Node.TheVariants.{Up}
 use Rattle.node.specs.Lives.{Life, life_to, Position}
-use Rattle.driving.specs.Served.{LivesOn}
+use Rattle.answers.specs.driving.Served.{LivesOn}
 use Rattle.node.specs.Served.{AnswersLine, AnswersStep, IsLeftIn, IsNodeAt, IsOf, MakesStep, Refuses, is_up, life_of}
 use Rattle.node.specs.Served.{line_of, step_told}
 use Rattle.node.specs.Told.{IsStepAt, IsStepRefusal, Tells, is_for_master, pushes}
-use Rattle.driving.proofs.AnyStep.{hands_op, makes_no_record, step_goes_on, step_spent}
+use Rattle.answers.proofs.of_driving.AnyStep.{hands_op, makes_no_record, step_goes_on, step_spent}
 use Rattle.node.proofs.Standing.{down_told}
 use Rattle.node.proofs.Steps.{no_step_answered, refused_left, stays, step_at}
 

@@ -7,17 +7,17 @@ use Rattle.std.specs.Prelude.{Option, None, Some, Result, Ok, Err, OnOk, IsTrue}
 use Rattle.backup.specs.State.{fleet_state}
 use Rattle.backup.specs.declared.fleet.MemoryFleet.{MemoryFleet}
 use Rattle.lines.specs.Grammar.{LineValue, Clients}
-use Rattle.store_seat.specs.declared.fault.CallFault.{CallFault}
-use Rattle.store_seat.specs.declared.fault.CallFault.TheVariants as call_fault
-use Rattle.locked_log.specs.Made.{IsMade, made_now}
-use Rattle.failover_model.specs.Data.{durable_of}
-use Rattle.master.specs.Valid.{IsValid}
-use Rattle.master.specs.World.{MasterValue, world}
-use Rattle.master_state.specs.declared.config.Config.{Config}
-use Rattle.master_state.specs.declared.step.Refusal.{Refusal}
-use Rattle.master_state.specs.declared.step.Refusal.TheVariants as refusal
-use Rattle.master_state.specs.Data.{MasterData}
-use Rattle.master_state.specs.Log.{log_of}
+use Rattle.store_clients.specs.locked_log.store_seat.declared.fault.CallFault.{CallFault}
+use Rattle.store_clients.specs.locked_log.store_seat.declared.fault.CallFault.TheVariants as call_fault
+use Rattle.store_clients.specs.locked_log.Made.{IsMade, made_now}
+use Rattle.store_clients.specs.master.failover_model.Data.{durable_of}
+use Rattle.store_clients.specs.master.Valid.{IsValid}
+use Rattle.store_clients.specs.master.World.{MasterValue, world}
+use Rattle.store_clients.specs.master.master_state.declared.config.Config.{Config}
+use Rattle.store_clients.specs.master.master_state.declared.step.Refusal.{Refusal}
+use Rattle.store_clients.specs.master.master_state.declared.step.Refusal.TheVariants as refusal
+use Rattle.store_clients.specs.master.master_state.Data.{MasterData}
+use Rattle.store_clients.specs.master.master_state.Log.{log_of}
 use Rattle.store_clients.specs.Workloads.{AreAccepted}
 use Rattle.versioned_map.specs.declared.command.Record.{Record}
 use Rattle.answers.specs.declared.answer.Answer.{Answer}
@@ -26,7 +26,7 @@ use Rattle.node.specs.declared.node.Node.{Node}
 use Rattle.node.specs.declared.node.Node.TheVariants.{Up}
 use Rattle.node.specs.Counted.{AreUncounted, RunsClients}
 use Rattle.node.specs.Lives.{HasLived, Left, Position, left_now, life_to}
-use Rattle.driving.specs.Served.{IsSpent}
+use Rattle.answers.specs.driving.Served.{IsSpent}
 use Rattle.node.specs.Served.{AnswersLine, IsClientsAnswer, IsClientsRefusal, IsLeftIn, IsNodeAt, IsOf, Lends}
 use Rattle.node.specs.Served.{LivesLonger, MakesClients, Refuses, RefusesCall, RefusesWork, life_of, refusal_answer}
 use Rattle.node.specs.Told.{Tells}

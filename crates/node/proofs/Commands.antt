@@ -7,18 +7,18 @@ use Rattle.lines.specs.Grammar.{LineValue}
 use Rattle.replica.specs.Picture.{FleetState}
 use Rattle.versioned_map.specs.declared.command.Command.{Command}
 use Rattle.versioned_map.specs.declared.command.Reply.{Reply}
-use Rattle.master_state.specs.declared.config.Config.{Config}
-use Rattle.master_state.specs.declared.step.Refusal.{Refusal}
-use Rattle.master_state.specs.declared.step.Refusal.TheVariants as refusal
-use Rattle.master_state.specs.Data.{MasterData}
-use Rattle.master.specs.Valid.{IsValid}
+use Rattle.store_clients.specs.master.master_state.declared.config.Config.{Config}
+use Rattle.store_clients.specs.master.master_state.declared.step.Refusal.{Refusal}
+use Rattle.store_clients.specs.master.master_state.declared.step.Refusal.TheVariants as refusal
+use Rattle.store_clients.specs.master.master_state.Data.{MasterData}
+use Rattle.store_clients.specs.master.Valid.{IsValid}
 use Rattle.answers.specs.declared.answer.Answer.TheVariants as answer
 use Rattle.node.specs.declared.node.Node.{Node}
 use Rattle.node.specs.Lives.{HasLived, life_to, left_now, Position}
-use Rattle.driving.specs.Served.{LivesOn, IsServed, IsUnserved, IsSpent, record_of}
+use Rattle.answers.specs.driving.Served.{LivesOn, IsServed, IsUnserved, IsSpent, record_of}
 use Rattle.node.specs.Served.{IsOf, IsNodeAt, life_of}
 use Rattle.node.specs.Told.{command_of}
-use Rattle.driving.proofs.Pushes.{stops_until}
+use Rattle.answers.proofs.of_driving.Pushes.{stops_until}
 use Rattle.node.proofs.Standing.{Answered, same_opening, still_stands, stands_longer, record_there, lived}
 use Rattle.node.proofs.Standing.{lived_longer}
 

@@ -12,15 +12,15 @@ use Rattle.replica.specs.Take.{limited}
 use Rattle.versioned_map.specs.declared.command.Command.{Command}
 use Rattle.versioned_map.specs.declared.command.Command.TheVariants as command
 use Rattle.versioned_map.specs.declared.command.If.TheVariants.{Any, Absent, Version}
-use Rattle.master_state.specs.declared.config.Config.{Config}
-use Rattle.master_state.specs.declared.step.Step.{Step}
-use Rattle.master_state.specs.declared.step.Step.TheVariants as step
-use Rattle.master_state.specs.Data.{MasterData}
-use Rattle.master.specs.Registry.{AreUnraisedAbove}
-use Rattle.master.specs.World.{MasterValue, World, world}
+use Rattle.store_clients.specs.master.master_state.declared.config.Config.{Config}
+use Rattle.store_clients.specs.master.master_state.declared.step.Step.{Step}
+use Rattle.store_clients.specs.master.master_state.declared.step.Step.TheVariants as step
+use Rattle.store_clients.specs.master.master_state.Data.{MasterData}
+use Rattle.store_clients.specs.master.Registry.{AreUnraisedAbove}
+use Rattle.store_clients.specs.master.World.{MasterValue, World, world}
 use Rattle.answers.specs.declared.answer.Answer.{Answer}
 use Rattle.answers.specs.declared.answer.Answer.TheVariants as answer
-use Rattle.driving.proofs.LeastHeads.{SameLeast, step_least, rolls_leave, cleans_leave, command_leaves}
+use Rattle.answers.proofs.of_driving.LeastHeads.{SameLeast, step_least, rolls_leave, cleans_leave, command_leaves}
 use Rattle.node.specs.declared.node.Node.{Node}
 use Rattle.node.specs.declared.node.Node.TheVariants.{Up, Down, Changing}
 use Rattle.node.specs.Lives.{Position}

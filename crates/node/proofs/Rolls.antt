@@ -5,16 +5,16 @@ use Rattle.std.specs.Prelude.{Some, None}
 use Rattle.lines.specs.Grammar.{LineValue, Roll}
 use Rattle.replica.specs.Picture.{FleetState}
 use Rattle.versioned_map.specs.declared.command.Command.{Command}
-use Rattle.master_state.specs.declared.config.Config.{Config}
-use Rattle.master_state.specs.declared.step.Refusal.{Refusal}
-use Rattle.master_state.specs.declared.step.Refusal.TheVariants as refusal
-use Rattle.master_state.specs.Data.{MasterData}
-use Rattle.master.specs.Valid.{IsValid}
+use Rattle.store_clients.specs.master.master_state.declared.config.Config.{Config}
+use Rattle.store_clients.specs.master.master_state.declared.step.Refusal.{Refusal}
+use Rattle.store_clients.specs.master.master_state.declared.step.Refusal.TheVariants as refusal
+use Rattle.store_clients.specs.master.master_state.Data.{MasterData}
+use Rattle.store_clients.specs.master.Valid.{IsValid}
 use Rattle.answers.specs.declared.answer.Answer.{Answer}
 use Rattle.answers.specs.declared.answer.Answer.TheVariants as answer
 use Rattle.node.specs.declared.node.Node.{Node}
 use Rattle.node.specs.Lives.{Life, life_to, IsLeftBySpent, left_now, Position}
-use Rattle.driving.specs.Served.{LivesOn, IsUnserved, IsSpent, is_of_push}
+use Rattle.answers.specs.driving.Served.{LivesOn, IsUnserved, IsSpent, is_of_push}
 use Rattle.node.specs.Served.{IsOf, IsNodeAt, Refuses, AnswersLine, fleet_of, life_of}
 use Rattle.node.specs.Waits.{LivesSame, StaysAt, WaitsForRoll, MakesRoom}
 use Rattle.node.specs.Told.{command_of, pushes, IsTest, IsStepRefusal, TellsNoStep, Tells}

@@ -13,19 +13,19 @@ use Rattle.versioned_map.specs.History.{IsLegal}
 use Rattle.versioned_map.specs.declared.command.Record.{Record}
 use Rattle.versioned_map.specs.declared.command.Reply.{Reply}
 use Rattle.entry.specs.Meaning.{contents_of}
-use Rattle.failover_model.specs.Data.{durable_of}
-use Rattle.master_state.specs.declared.config.Config.{Config}
-use Rattle.master_state.specs.Data.{Origin, MasterData}
-use Rattle.master_state.specs.Log.{opening_of, log_of}
-use Rattle.master.specs.Valid.{IsValid}
-use Rattle.master.specs.World.{MasterValue}
-use Rattle.master_state.specs.declared.step.Step.{Step}
+use Rattle.store_clients.specs.master.failover_model.Data.{durable_of}
+use Rattle.store_clients.specs.master.master_state.declared.config.Config.{Config}
+use Rattle.store_clients.specs.master.master_state.Data.{Origin, MasterData}
+use Rattle.store_clients.specs.master.master_state.Log.{opening_of, log_of}
+use Rattle.store_clients.specs.master.Valid.{IsValid}
+use Rattle.store_clients.specs.master.World.{MasterValue}
+use Rattle.store_clients.specs.master.master_state.declared.step.Step.{Step}
 use Rattle.answers.specs.declared.answer.Answer.{Answer}
 use Rattle.answers.specs.declared.answer.Answer.TheVariants as answer
 use Rattle.node.specs.declared.node.Node.{Node}
 use Rattle.node.specs.declared.node.Node.TheVariants.{Up, Down, Changing}
 use Rattle.node.specs.Lives.{life_to, HasLived, Left, Position}
-use Rattle.driving.specs.Served.{LivesOn, record_of}
+use Rattle.answers.specs.driving.Served.{LivesOn, record_of}
 use Rattle.node.specs.Served.{IsOf, IsNodeAt, AnswersLine, LivesLonger, MakesClean, MakesStep, is_up, life_of}
 use Rattle.node.specs.Told.{command_of, is_for_master, is_for_none, Tells}
 

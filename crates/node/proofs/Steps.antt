@@ -6,28 +6,28 @@ use Rattle.std.specs.Option.{option_map}
 use Rattle.lines.specs.Grammar.{LineValue, Idle, Roll, BeginRoll, Compact, Push, Clean, Begin, Copy, Seal, Free, Will}
 use Rattle.lines.specs.Grammar.{Hex, Log, Room, Holdings, Stop, Fault, Format, Crash, Lose, Recover, Clients}
 use Rattle.std.specs.declared.alloc.AllocError.{AllocError}
-use Rattle.cleaner.specs.declared.survivors.Survivors.{Survivors}
+use Rattle.store_clients.specs.master.cleaner.declared.survivors.Survivors.{Survivors}
 use Rattle.replica.specs.declared.label.Label.{Label}
 use Rattle.backup.specs.Inventory.{AreRising}
 use Rattle.replica.specs.Picture.{FleetState, AreLabelsOf}
 use Rattle.versioned_map.specs.declared.command.Command.{Command}
 use Rattle.replica.specs.Take.{limited, no_limit}
-use Rattle.master_state.specs.declared.config.Config.{Config}
-use Rattle.master_state.specs.declared.step.Refusal.{Refusal}
-use Rattle.master_state.specs.declared.step.Refusal.TheVariants as refusal
-use Rattle.master_state.specs.declared.step.Step.{Step}
-use Rattle.master_state.specs.declared.step.StepAnswer.{StepAnswer}
-use Rattle.master_state.specs.Data.{MasterData}
-use Rattle.master.specs.Steps.{Steps}
-use Rattle.master.specs.World.{World}
-use Rattle.master.specs.Valid.{IsValid}
+use Rattle.store_clients.specs.master.master_state.declared.config.Config.{Config}
+use Rattle.store_clients.specs.master.master_state.declared.step.Refusal.{Refusal}
+use Rattle.store_clients.specs.master.master_state.declared.step.Refusal.TheVariants as refusal
+use Rattle.store_clients.specs.master.master_state.declared.step.Step.{Step}
+use Rattle.store_clients.specs.master.master_state.declared.step.StepAnswer.{StepAnswer}
+use Rattle.store_clients.specs.master.master_state.Data.{MasterData}
+use Rattle.store_clients.specs.master.Steps.{Steps}
+use Rattle.store_clients.specs.master.World.{World}
+use Rattle.store_clients.specs.master.Valid.{IsValid}
 use Rattle.answers.specs.declared.answer.Answer.{Answer}
 use Rattle.answers.specs.declared.answer.Answer.TheVariants as answer
 use Rattle.node.specs.declared.node.Node.{Node}
 use Rattle.node.specs.Lives.{Life, life_to, HasLived, Left, IsLeftBySpent, Position}
-use Rattle.driving.specs.Cleans.{Cleans}
-use Rattle.driving.specs.Rolls.{Rolls}
-use Rattle.driving.specs.Served.{LivesOn, IsSpent}
+use Rattle.answers.specs.driving.Cleans.{Cleans}
+use Rattle.answers.specs.driving.Rolls.{Rolls}
+use Rattle.answers.specs.driving.Served.{LivesOn, IsSpent}
 use Rattle.node.specs.Served.{IsOf, IsNodeAt, Refuses, fleet_of, life_of, held_answer, IsLeftIn, MakesCommand}
 use Rattle.node.specs.Served.{MakesLine, ShowsFleet, refusal_answer, world_of}
 use Rattle.node.specs.Told.{command_of, pushes, is_for_master, IsStepAt, IsRollAt, IsCleanAt, IsStepRefusal}

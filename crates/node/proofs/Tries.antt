@@ -9,19 +9,19 @@ use Rattle.lines.specs.Grammar.{LineValue}
 use Rattle.versioned_map.specs.declared.command.Command.{Command}
 use Rattle.versioned_map.specs.declared.command.Record.{Record}
 use Rattle.versioned_map.specs.declared.command.Reply.{Reply}
-use Rattle.master_state.specs.declared.step.Refusal.{Refusal}
-use Rattle.master_state.specs.declared.step.Refusal.TheVariants as refusal
-use Rattle.master_state.specs.declared.step.Step.TheVariants.{Apply, Push}
-use Rattle.master_state.specs.Causes.{is_done}
-use Rattle.master_state.specs.Data.{MasterData}
-use Rattle.master.specs.Steps.{Declines}
-use Rattle.master.specs.World.{MasterValue, World, world}
+use Rattle.store_clients.specs.master.master_state.declared.step.Refusal.{Refusal}
+use Rattle.store_clients.specs.master.master_state.declared.step.Refusal.TheVariants as refusal
+use Rattle.store_clients.specs.master.master_state.declared.step.Step.TheVariants.{Apply, Push}
+use Rattle.store_clients.specs.master.master_state.Causes.{is_done}
+use Rattle.store_clients.specs.master.master_state.Data.{MasterData}
+use Rattle.store_clients.specs.master.Steps.{Declines}
+use Rattle.store_clients.specs.master.World.{MasterValue, World, world}
 use Rattle.answers.specs.declared.answer.Answer.{Answer}
 use Rattle.answers.specs.declared.answer.Answer.TheVariants as answer
 use Rattle.node.specs.declared.node.Node.{Node}
 use Rattle.node.specs.declared.node.Node.TheVariants.{Up, Down, Changing}
-use Rattle.driving.specs.Commands.{Tries, TriesAfterRoll}
-use Rattle.driving.specs.Served.{IsServed}
+use Rattle.answers.specs.driving.Commands.{Tries, TriesAfterRoll}
+use Rattle.answers.specs.driving.Served.{IsServed}
 use Rattle.node.specs.Served.{MakesCommand, Refuses}
 use Rattle.node.specs.Told.{command_of}
 use Rattle.node.specs.Waits.{MakesOpen, MakesTry, MakesTryAfterRoll, IsReplyAt}

@@ -12,10 +12,10 @@ use Rattle.entry.specs.Bag.{IsAmong}
 use Rattle.replica.specs.declared.holding.Holding.{Holding}
 use Rattle.replica.specs.declared.label.Label.{Label}
 use Rattle.replica.specs.Picture.{Replica, FleetState, left_on, AreHeld, AreLabelsOf}
-use Rattle.master_state.specs.declared.config.Config.{Config}
-use Rattle.master_state.specs.Data.{MasterData}
-use Rattle.master.specs.Valid.{IsValid}
-use Rattle.recovery.specs.Kept.{is_kept}
+use Rattle.store_clients.specs.master.master_state.declared.config.Config.{Config}
+use Rattle.store_clients.specs.master.master_state.Data.{MasterData}
+use Rattle.store_clients.specs.master.Valid.{IsValid}
+use Rattle.answers.specs.recovery.Kept.{is_kept}
 use Rattle.answers.specs.declared.answer.Answer.TheVariants as answer
 use Rattle.node.specs.declared.node.Node.{Node}
 use Rattle.node.specs.declared.node.Node.TheVariants.{Down}
@@ -23,7 +23,7 @@ use Rattle.node.specs.Lives.{Life, life_to, Left, left_now, is_left, Position}
 use Rattle.node.specs.Served.{IsLeftOf, IsOf, IsNodeAt, AnswersLine, is_up, held_answer}
 use Rattle.node.specs.Told.{AreLeft, AreHeldAt, Tells}
 use Rattle.node.proofs.Standing.{Answered, still_stands, lived_longer, is_up_none}
-use Rattle.driving.specs.GoesOn.{goes_nowhere}
+use Rattle.answers.specs.driving.GoesOn.{goes_nowhere}
 
 -- ---- what backups hold
 

@@ -1,12 +1,12 @@
 -- What clients make of a master, and what their line tells of its life.
 use Rattle.std.specs.Prelude.{◌≡◌, ◌≤◌, ℕ, ◌*◌, take, length, Option, None, Result, IfOk, OnOk}
 use Rattle.lines.specs.Grammar.{LineValue, Clients}
-use Rattle.store_seat.specs.declared.fault.CallFault.{CallFault}
-use Rattle.locked_log.specs.Made.{IsMade, made_now}
-use Rattle.failover_model.specs.Data.{durable_of}
-use Rattle.master.specs.Valid.{IsValid}
-use Rattle.master.specs.World.{World}
-use Rattle.master_state.specs.Log.{log_of}
+use Rattle.store_clients.specs.locked_log.store_seat.declared.fault.CallFault.{CallFault}
+use Rattle.store_clients.specs.locked_log.Made.{IsMade, made_now}
+use Rattle.store_clients.specs.master.failover_model.Data.{durable_of}
+use Rattle.store_clients.specs.master.Valid.{IsValid}
+use Rattle.store_clients.specs.master.World.{World}
+use Rattle.store_clients.specs.master.master_state.Log.{log_of}
 use Rattle.store_clients.specs.Workloads.{AreAccepted}
 use Rattle.node.specs.Lives.{Life, Left, Position}
 

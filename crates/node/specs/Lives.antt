@@ -3,14 +3,14 @@ use Rattle.std.specs.Prelude.{◌≡◌, ℕ, List, [], not, Bool, true, take, O
 use Rattle.replica.specs.Picture.{FleetState, Shown, shown_of}
 use Rattle.versioned_map.specs.declared.command.Record.{Record}
 use Rattle.versioned_map.specs.Versioned.{State}
-use Rattle.master_state.specs.declared.config.Config.{Config}
-use Rattle.master_state.specs.Data.{MasterData}
-use Rattle.log_model.specs.Ids.{has}
-use Rattle.failover_model.specs.Data.{homes}
-use Rattle.failover_bytes.specs.Choice.{newest_opened}
-use Rattle.master_state.specs.Log.{log_of, opening_of}
-use Rattle.master.specs.Valid.{IsValid}
-use Rattle.recovery.specs.Kept.{is_kept}
+use Rattle.store_clients.specs.master.master_state.declared.config.Config.{Config}
+use Rattle.store_clients.specs.master.master_state.Data.{MasterData}
+use Rattle.store_clients.specs.master.log_model.Ids.{has}
+use Rattle.store_clients.specs.master.failover_model.Data.{homes}
+use Rattle.store_clients.specs.master.failover_bytes.Choice.{newest_opened}
+use Rattle.store_clients.specs.master.master_state.Log.{log_of, opening_of}
+use Rattle.store_clients.specs.master.Valid.{IsValid}
+use Rattle.answers.specs.recovery.Kept.{is_kept}
 
 -- the state that a master began with, and its records
 pub record Life : Type 0 where

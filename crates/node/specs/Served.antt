@@ -6,31 +6,31 @@ use Rattle.backup.specs.declared.fleet.MemoryFleet.{MemoryFleet}
 use Rattle.lines.specs.Grammar.{LineValue, Idle, Roll, BeginRoll, Compact, Push, Clean, Begin, Copy, Seal, Free, Will}
 use Rattle.lines.specs.Grammar.{Recover, Hex, Log, Room, Stop, Fault, Crash, Lose, Holdings as HoldingsLine, Clients}
 use Rattle.lines.specs.Grammar.{Format}
-use Rattle.store_seat.specs.declared.fault.CallFault.{CallFault}
-use Rattle.store_seat.specs.declared.fault.CallFault.TheVariants as call_fault
+use Rattle.store_clients.specs.locked_log.store_seat.declared.fault.CallFault.{CallFault}
+use Rattle.store_clients.specs.locked_log.store_seat.declared.fault.CallFault.TheVariants as call_fault
 use Rattle.std.specs.Option.{option_map}
 use Rattle.std.specs.declared.alloc.AllocError.{AllocError}
-use Rattle.cleaner.specs.declared.survivors.Survivors.{Survivors}
+use Rattle.store_clients.specs.master.cleaner.declared.survivors.Survivors.{Survivors}
 use Rattle.replica.specs.declared.label.Label.{Label}
 use Rattle.replica.specs.Picture.{FleetState, AreLabelsOf, left_on, shown_of}
 use Rattle.replica.specs.Take.{limited, no_limit}
 use Rattle.versioned_map.specs.declared.command.Command.{Command}
 use Rattle.versioned_map.specs.declared.command.Record.{Record}
 use Rattle.versioned_map.specs.declared.command.Reply.{Reply}
-use Rattle.failover_model.specs.Data.{homes, durable_of}
-use Rattle.failover_bytes.specs.Choice.{newest_opened}
-use Rattle.master_state.specs.declared.config.Config.{Config}
-use Rattle.master_state.specs.declared.step.Refusal.{Refusal}
-use Rattle.master_state.specs.declared.step.Refusal.TheVariants.{NoMemory, Spent}
-use Rattle.master_state.specs.declared.step.Step.{Step}
-use Rattle.master_state.specs.declared.step.Step.TheVariants as step
-use Rattle.master_state.specs.declared.step.StepAnswer.{StepAnswer}
-use Rattle.master_state.specs.declared.step.StepAnswer.TheVariants as step_answer
-use Rattle.master_state.specs.Data.{MasterData}
-use Rattle.master_state.specs.Log.{opening_of, log_of}
-use Rattle.master.specs.Steps.{Steps}
-use Rattle.master.specs.Valid.{IsValid}
-use Rattle.master.specs.World.{MasterValue, World, limited_world, world}
+use Rattle.store_clients.specs.master.failover_model.Data.{homes, durable_of}
+use Rattle.store_clients.specs.master.failover_bytes.Choice.{newest_opened}
+use Rattle.store_clients.specs.master.master_state.declared.config.Config.{Config}
+use Rattle.store_clients.specs.master.master_state.declared.step.Refusal.{Refusal}
+use Rattle.store_clients.specs.master.master_state.declared.step.Refusal.TheVariants.{NoMemory, Spent}
+use Rattle.store_clients.specs.master.master_state.declared.step.Step.{Step}
+use Rattle.store_clients.specs.master.master_state.declared.step.Step.TheVariants as step
+use Rattle.store_clients.specs.master.master_state.declared.step.StepAnswer.{StepAnswer}
+use Rattle.store_clients.specs.master.master_state.declared.step.StepAnswer.TheVariants as step_answer
+use Rattle.store_clients.specs.master.master_state.Data.{MasterData}
+use Rattle.store_clients.specs.master.master_state.Log.{opening_of, log_of}
+use Rattle.store_clients.specs.master.Steps.{Steps}
+use Rattle.store_clients.specs.master.Valid.{IsValid}
+use Rattle.store_clients.specs.master.World.{MasterValue, World, limited_world, world}
 use Rattle.answers.specs.declared.answer.Answer.{Answer}
 use Rattle.answers.specs.declared.answer.Answer.TheVariants.{Refused, Stopped, Holdings, Reply as Replied, Head}
 use Rattle.answers.specs.declared.answer.Answer.TheVariants.{Opening, Compacted, Extended, Opened, Closed, Begun}
@@ -39,12 +39,12 @@ use Rattle.answers.specs.declared.answer.Answer.TheVariants as answers
 use Rattle.node.specs.declared.node.Node.{Node}
 use Rattle.node.specs.declared.node.Node.TheVariants.{Up, Down, Changing}
 use Rattle.node.specs.Lives.{Life, Left, left_now, is_left, Position}
-use Rattle.driving.specs.Cleans.{Cleans}
-use Rattle.driving.specs.Commands.{RunsCommand}
+use Rattle.answers.specs.driving.Cleans.{Cleans}
+use Rattle.answers.specs.driving.Commands.{RunsCommand}
 use Rattle.node.specs.Counted.{RunsClients}
-use Rattle.driving.specs.Rolls.{Rolls}
+use Rattle.answers.specs.driving.Rolls.{Rolls}
 use Rattle.node.specs.Shows.{ShowsDigest, ShowsRoom, ShowsImage}
-use Rattle.driving.specs.Served.{IsSpent}
+use Rattle.answers.specs.driving.Served.{IsSpent}
 use Rattle.node.specs.Told.{command_of, Tells}
 use Rattle.tablet_will.specs.declared.part.Part.{Part}
 use Rattle.tablet_will.specs.Parts.{Divides}

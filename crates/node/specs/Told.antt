@@ -12,7 +12,7 @@ use Rattle.lines.specs.Grammar.{Hex, Stop, Fault, Crash, Lose, Will, Recover, Ho
 use Rattle.lines.specs.Grammar.{Clients, Format}
 use Rattle.lines.specs.declared.line.ReplayOrder.{ReplayOrder}
 use Rattle.backup.specs.Inventory.{AreRising}
-use Rattle.cleaner.specs.declared.survivors.Survivors.{Survivors}
+use Rattle.store_clients.specs.master.cleaner.declared.survivors.Survivors.{Survivors}
 use Rattle.replica.specs.Choice.{Choice, IsShownChoice, bag_of}
 use Rattle.entry.specs.Bag.{IsAmong}
 use Rattle.replica.specs.declared.holding.Holding.{Holding}
@@ -25,37 +25,37 @@ use Rattle.versioned_map.specs.declared.command.If.TheVariants.{Any, Absent, Ver
 use Rattle.versioned_map.specs.declared.command.Reply.{Reply}
 use Rattle.versioned_map.specs.History.{commands_of}
 use Rattle.versioned_map.specs.Versioned.{after, IsSafeAfter}
-use Rattle.master_state.specs.declared.config.Config.{Config}
-use Rattle.master_state.specs.declared.step.Refusal.{Refusal}
-use Rattle.master_state.specs.declared.step.Refusal.TheVariants as refusal
-use Rattle.master_state.specs.Causes.{command_refusal}
-use Rattle.log_head.specs.Head.{digest_of}
-use Rattle.master_state.specs.declared.step.Step.{Step}
-use Rattle.master_state.specs.declared.step.Step.TheVariants as step
-use Rattle.master_state.specs.declared.step.StepAnswer.{StepAnswer}
-use Rattle.master_state.specs.declared.step.StepAnswer.TheVariants as step_answer
-use Rattle.master_state.specs.Data.{MasterData}
-use Rattle.master.specs.Steps.{Steps}
-use Rattle.master.specs.World.{World}
-use Rattle.master_state.specs.Budget.{used_seglets, free_seglets}
-use Rattle.master_state.specs.Log.{image_of}
-use Rattle.claims.specs.declared.rebuilt.Rebuilt.{Rebuilt}
-use Rattle.recovery.specs.declared.recovery.RecoveryFault.{RecoveryFault}
-use Rattle.recovery.specs.declared.recovery.RecoveryFault.TheVariants as recovery_fault
-use Rattle.recovery.specs.Recovered.{IsLossOrMemory, IsWant}
-use Rattle.recovery_plan.specs.Planned.{IsPlanFault, NamesLoss}
+use Rattle.store_clients.specs.master.master_state.declared.config.Config.{Config}
+use Rattle.store_clients.specs.master.master_state.declared.step.Refusal.{Refusal}
+use Rattle.store_clients.specs.master.master_state.declared.step.Refusal.TheVariants as refusal
+use Rattle.store_clients.specs.master.master_state.Causes.{command_refusal}
+use Rattle.store_clients.specs.master.log_head.Head.{digest_of}
+use Rattle.store_clients.specs.master.master_state.declared.step.Step.{Step}
+use Rattle.store_clients.specs.master.master_state.declared.step.Step.TheVariants as step
+use Rattle.store_clients.specs.master.master_state.declared.step.StepAnswer.{StepAnswer}
+use Rattle.store_clients.specs.master.master_state.declared.step.StepAnswer.TheVariants as step_answer
+use Rattle.store_clients.specs.master.master_state.Data.{MasterData}
+use Rattle.store_clients.specs.master.Steps.{Steps}
+use Rattle.store_clients.specs.master.World.{World}
+use Rattle.store_clients.specs.master.master_state.Budget.{used_seglets, free_seglets}
+use Rattle.store_clients.specs.master.master_state.Log.{image_of}
+use Rattle.answers.specs.claims.declared.rebuilt.Rebuilt.{Rebuilt}
+use Rattle.answers.specs.recovery.declared.recovery.RecoveryFault.{RecoveryFault}
+use Rattle.answers.specs.recovery.declared.recovery.RecoveryFault.TheVariants as recovery_fault
+use Rattle.answers.specs.recovery.Recovered.{IsLossOrMemory, IsWant}
+use Rattle.answers.specs.recovery_plan.Planned.{IsPlanFault, NamesLoss}
 use Rattle.answers.specs.declared.answer.Answer.{Answer}
 use Rattle.answers.specs.declared.answer.Answer.TheVariants as answer
 use Rattle.node.specs.Lives.{Life, life_to, HasLived, Left, is_left, IsLeftBy, IsLeftBySpent, IsHomeOf, Position}
-use Rattle.replay.specs.Adopting.{DeclinesList}
+use Rattle.answers.specs.replay.Adopting.{DeclinesList}
 use Rattle.tablet_will.specs.declared.part.Part.{Part}
 use Rattle.tablet_will.specs.Sizes.{are_limits}
 use Rattle.answers.specs.declared.limits.Limits.{Limits}
 use Rattle.node.specs.Wills.{IsWillOf}
-use Rattle.driving.specs.Cleans.{Cleans}
+use Rattle.answers.specs.driving.Cleans.{Cleans}
 use Rattle.node.specs.Counted.{AsksClients, AreCounted, AreUncounted}
-use Rattle.driving.specs.Rolls.{PushesUntil, Rolls}
-use Rattle.driving.specs.Served.{is_of_push}
+use Rattle.answers.specs.driving.Rolls.{PushesUntil, Rolls}
+use Rattle.answers.specs.driving.Served.{is_of_push}
 
 -- ---- commands
 

@@ -6,23 +6,23 @@ use Rattle.lines.specs.Grammar.{LineValue, Roll}
 use Rattle.versioned_map.specs.declared.command.Command.{Command}
 use Rattle.versioned_map.specs.declared.command.Record.{Record}
 use Rattle.versioned_map.specs.declared.command.Reply.{Reply}
-use Rattle.log_head.specs.Head.{is_open}
-use Rattle.master_state.specs.declared.config.Config.{Config}
-use Rattle.master_state.specs.declared.step.Refusal.{Refusal}
-use Rattle.master_state.specs.declared.step.Refusal.TheVariants.{Rolling}
-use Rattle.master_state.specs.declared.step.Step.TheVariants.{Apply}
-use Rattle.master_state.specs.Data.{MasterData}
-use Rattle.master.specs.Steps.{Declines}
-use Rattle.master.specs.World.{World, world}
+use Rattle.store_clients.specs.master.log_head.Head.{is_open}
+use Rattle.store_clients.specs.master.master_state.declared.config.Config.{Config}
+use Rattle.store_clients.specs.master.master_state.declared.step.Refusal.{Refusal}
+use Rattle.store_clients.specs.master.master_state.declared.step.Refusal.TheVariants.{Rolling}
+use Rattle.store_clients.specs.master.master_state.declared.step.Step.TheVariants.{Apply}
+use Rattle.store_clients.specs.master.master_state.Data.{MasterData}
+use Rattle.store_clients.specs.master.Steps.{Declines}
+use Rattle.store_clients.specs.master.World.{World, world}
 use Rattle.answers.specs.declared.answer.Answer.{Answer}
 use Rattle.answers.specs.declared.answer.Answer.TheVariants as answers
 use Rattle.node.specs.declared.node.Node.{Node}
 use Rattle.node.specs.declared.node.Node.TheVariants.{Up}
 use Rattle.node.specs.declared.tried.Tried.{Tried}
 use Rattle.node.specs.declared.tried.Tried.TheVariants as tried
-use Rattle.driving.specs.Commands.{Tries, TriesAfterRoll}
+use Rattle.answers.specs.driving.Commands.{Tries, TriesAfterRoll}
 use Rattle.node.specs.Lives.{life_to, Position}
-use Rattle.driving.specs.Rolls.{Rolls}
+use Rattle.answers.specs.driving.Rolls.{Rolls}
 use Rattle.node.specs.Served.{AnswersLine, IsLeftIn, IsNodeAt, life_of, refusal_answer, reply_told, world_of}
 use Rattle.node.specs.Told.{command_of, IsTest, TellsNoStep}
 

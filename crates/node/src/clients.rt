@@ -2,22 +2,22 @@
 
 ghost use Rattle.std.specs.Prelude.{◌≡◌, ◌≤◌, ◌<◌, ◌^◌, ◌↔◌, ℕ, true, IfSome, IsTrue};
 ghost use Rattle.backup.specs.declared.fleet.MemoryFleet.{MemoryFleet as FleetValue};
-ghost use Rattle.master.specs.World.{MasterValue};
-ghost use Rattle.master_state.specs.declared.config.Config.{Config};
-ghost use Rattle.driving.specs.Served.{IsSpent};
+ghost use Rattle.store_clients.specs.master.World.{MasterValue};
+ghost use Rattle.store_clients.specs.master.master_state.declared.config.Config.{Config};
+ghost use Rattle.answers.specs.driving.Served.{IsSpent};
 ghost use Rattle.node.specs.Served.{AnswersLine, Lends, MakesClients, RefusesCall, RefusesWork, fleet_of, is_up};
 ghost use Rattle.node.specs.declared.node.Node.TheVariants.{Up as UpValue};
 
 use crate::node::Node;
 use answers::Answer;
 use gate::NoGate;
-use locked_log::CallFault;
-use master::Refusal;
 use replica::Fleet;
 use std::alloc::Global;
 use std::mem::replace;
 use std::sync::Wait;
 use std::thread::Threads;
+use store_clients::locked_log::CallFault;
+use store_clients::master::Refusal;
 use store_clients::{Outcome, Workload, clients_over};
 
 /// What came of the clients of a line.

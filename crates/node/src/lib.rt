@@ -13,6 +13,10 @@ mod node;
 mod tried;
 mod will;
 
+pub use answers;
+pub use answers::{driving, recovery, replay};
 pub use clients::Served;
 pub use node::Node;
+pub use store_clients;
+pub use store_clients::{locked_log, master};
 pub use tried::Tried;

@@ -7,7 +7,7 @@ ghost use Rattle.std.specs.Option.{option_map};
 ghost use Rattle.versioned_map.specs.declared.command.Record.{Record as RecordValue};
 ghost use Rattle.history.specs.View.{shown_command, shown_record};
 ghost use Rattle.answers.specs.Texts.{reply_text};
-ghost use Rattle.master_state.specs.declared.config.Config.{Config};
+ghost use Rattle.store_clients.specs.master.master_state.declared.config.Config.{Config};
 ghost use Rattle.node.specs.Served.{IsDropped, KeepsFleet, fleet_of, is_up};
 ghost use Rattle.node.specs.Served.{AnswersLine, LimitsFleet, LosesMaster, LosesOne, MakesStep, MakesRoll, Refuses};
 ghost use Rattle.node.specs.Served.{AnswersStep, MakesClean, ShowsFleet, held_answer, step_told};
@@ -15,15 +15,17 @@ ghost use Rattle.node.specs.Shows.{ShowsDigest, ShowsImage, ShowsRoom};
 ghost use Rattle.node.specs.Waits.{MakesRoom, MakesOpen, TriesLine, IsReplyAt};
 
 use crate::tried::Tried;
+use answers::driving::{clean_all, roll_all, serve};
 use answers::{Answer, write_reply};
 use backup::MemoryFleet;
-use driving::{clean_all, roll_all, serve};
 use entry::{NoMemory, Row};
-use master::{CommandRef, Look, Master, RecordRef, Refusal, Shown, Step, StepAnswer};
 use replica::{Bench, Fleet, Labels};
 use std::alloc::Global;
 use std::io::{self, Write};
 use std::mem::replace;
+use store_clients::master::{
+    CommandRef, Look, Master, RecordRef, Refusal, Shown, Step, StepAnswer,
+};
 
 /// A fleet, and the master over it if there is one.
 #[derive(Drop)]

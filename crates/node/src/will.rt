@@ -1,7 +1,7 @@
 //! The will is made anew of a master's live objects.
 
 ghost use Rattle.std.specs.Prelude.{◌≡◌, IfOk, IfErr, OnErr};
-ghost use Rattle.master_state.specs.declared.config.Config.{Config};
+ghost use Rattle.store_clients.specs.master.master_state.declared.config.Config.{Config};
 ghost use Rattle.node.specs.Served.{AnswersLine, DividesAnew, HandsOver};
 ghost use Rattle.node.specs.Told.{HasLimits};
 ghost use Rattle.node.specs.Wills.{IsNoWill, MakesWill};
@@ -9,9 +9,9 @@ ghost use Rattle.node.specs.Wills.{IsNoWill, MakesWill};
 use crate::node::Node;
 use answers::{Answer, Limits};
 use entry::Row;
-use master::{Master, Refusal};
 use replica::Fleet;
 use std::alloc::Global;
+use store_clients::master::{Master, Refusal};
 use tablet_will::{Part, Will, WillFault, make_will};
 
 /// Makes the will of a master's live objects in place of another, which stays at a fault. It answers the parts.

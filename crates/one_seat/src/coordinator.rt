@@ -7,11 +7,11 @@ ghost use Rattle.store_lines.specs.Lives.{CanBegin};
 use backup::MemoryFleet;
 use entry::NoMemory;
 use lines::ReplayOrder;
-use master::Config;
-use recovery::{GroupOrder, Rebuilt, RecoveryFault, Will, make_will, recover};
 use replica::{Fleet, Inventory};
-use script::{Answer, Options, configuration};
 use std::alloc::Global;
+use store_lines::master::Config;
+use store_lines::recovery::{GroupOrder, Rebuilt, RecoveryFault, Will, make_will, recover};
+use store_lines::script::{Answer, Options, configuration};
 use store_lines::{FIRST_MASTER, next_config, want};
 
 /// What outlives a master.

@@ -9,14 +9,14 @@ use crate::coordinator::{Coordinator, Inheritance};
 use backup::MemoryFleet;
 use entry::NoMemory;
 use lines::{Line, parse_line};
-use master::{Config, Master, Refusal};
-use recovery::Rebuilt;
-use replay::adopt_list;
 use replica::{Bench, TakeFault};
-use script::{Answer, Options};
 use std::alloc::Global;
 use std::io::{BufRead, Write};
 use std::sync::Wait;
+use store_lines::master::{Config, Master, Refusal};
+use store_lines::recovery::Rebuilt;
+use store_lines::replay::adopt_list;
+use store_lines::script::{Answer, Options};
 use store_lines::{Dialogue, LineFault, tell};
 
 /// Runs lines until a recovery gives a master. None if no line follows.

@@ -4,12 +4,12 @@ use crate::coordinator::Coordinator;
 use backup::MemoryFleet;
 use entry::NoMemory;
 use lines::Line;
-use locked_log::{CallFault, Naming, Receipt, Row, Seat, Store};
-use master::{Command, History, Refusal, Reply, ReplyRef};
-use script::{Answer, Options};
 use std::alloc::Global;
 use std::io::{BufRead, Write};
 use std::sync::Wait;
+use store_lines::locked_log::{CallFault, Naming, Receipt, Row, Seat, Store};
+use store_lines::master::{Command, History, Refusal, Reply, ReplyRef};
+use store_lines::script::{Answer, Options};
 use store_lines::{Dialogue, LineFault, command_of, look_line, refuse, renew, turn_line};
 
 /// A store of one seat, and what the seat was answered.

@@ -7,11 +7,11 @@ use crate::down::wait;
 use crate::living::live;
 use backup::MemoryFleet;
 use entry::NoMemory;
-use master::{Config, Master};
-use script::{Options, ScriptFault};
 use std::alloc::Global;
 use std::io::{BufRead, Write};
 use std::sync::Wait;
+use store_lines::master::{Config, Master};
+use store_lines::script::{Options, ScriptFault};
 use store_lines::{Dialogue, first_master};
 
 /// Runs all lines of the script.

@@ -1,23 +1,23 @@
 //! Runs the lines of one life.
 
 ghost use Rattle.std.specs.Prelude.{◌≡◌, ◌≤◌};
-ghost use Rattle.locked_log.specs.Ends.{IsFresh};
+ghost use Rattle.store_lines.specs.locked_log.Ends.{IsFresh};
 ghost use Rattle.backup.specs.State.{fleet_state};
-ghost use Rattle.locked_log.specs.Made.{IsMade};
-ghost use Rattle.master.specs.World.{world};
+ghost use Rattle.store_lines.specs.locked_log.Made.{IsMade};
+ghost use Rattle.store_lines.specs.master.World.{world};
 ghost use Rattle.store_lines.specs.Lives.{IsOpening};
 
 use crate::coordinator::Coordinator;
 use crate::life::Life;
 use backup::MemoryFleet;
 use lines::parse_line;
-use locked_log::{Blank, Naming, Store};
-use master::Master;
-use script::{Answer, Options, ScriptFault};
 use std::alloc::Global;
 use std::io::{BufRead, Write};
 use std::marker::Brand;
 use std::sync::Wait;
+use store_lines::locked_log::{Blank, Naming, Store};
+use store_lines::master::Master;
+use store_lines::script::{Answer, Options, ScriptFault};
 use store_lines::{Dialogue, Phase, take_all, tell};
 
 /// Runs lines through a store over this master, until the master is dropped or no line follows.

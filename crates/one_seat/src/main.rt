@@ -15,12 +15,14 @@ mod living;
 use clap::Error;
 use clap::error::ErrorKind;
 use lives::run_script;
-use master::Config;
-use script::{ErrorOutput, Options, ScriptFault, configuration, options, report, report_config};
 use std::env;
 use std::io::{self, BufReader, BufWriter, IsTerminal};
 use std::process::ExitCode;
 use std::sync::Wait;
+use store_lines::master::Config;
+use store_lines::script::{
+    ErrorOutput, Options, ScriptFault, configuration, options, report, report_config,
+};
 use store_lines::{Dialogue, FIRST_MASTER};
 
 /// The exit status of a bad command line.

@@ -12,9 +12,9 @@ use Rattle.recovery_plan.specs.declared.chosen.Plan.{Plan}
 use Rattle.recovery_plan.specs.Good.{IsGood}
 use Rattle.recovery_plan.specs.Planned.{IsChoiceOf, IsPlanOf, AgreeOnDigest}
 use Rattle.recovery_plan.proofs.Plans.{all-map}
-use Rattle.log_model.specs.Sound.{IsTextOfSegment}
-use Rattle.failover_model.specs.Data.{FailData}
-use Rattle.failover_bytes.specs.Sound.{IsLeftChoice, IsSoundInBytes}
+use Rattle.replay.specs.master.log_model.Sound.{IsTextOfSegment}
+use Rattle.replay.specs.master.failover_model.Data.{FailData}
+use Rattle.replay.specs.master.failover_bytes.Sound.{IsLeftChoice, IsSoundInBytes}
 use Rattle.recovery.specs.Recovered.{Shows}
 
 -- ---- bags

@@ -7,13 +7,13 @@ use Rattle.replica.specs.Picture.{FleetState}
 use Rattle.replica.specs.Retire.{Retires}
 use Rattle.claims.specs.declared.rebuilt.Rebuilt.{Rebuilt}
 use Rattle.replay.specs.Adopting.{IsAdopted, IsAdoptedOn}
-use Rattle.master_state.specs.declared.config.Config.{Config}
-use Rattle.master_state.specs.declared.step.Refusal.{Refusal}
-use Rattle.master_state.specs.declared.step.Step.{Step}
-use Rattle.master_state.specs.declared.step.StepAnswer.{StepAnswer}
-use Rattle.master_state.specs.Data.{MasterData}
-use Rattle.master.specs.Valid.{IsValid}
-use Rattle.master.specs.World.{World, world_of, retired_data}
+use Rattle.replay.specs.master.master_state.declared.config.Config.{Config}
+use Rattle.replay.specs.master.master_state.declared.step.Refusal.{Refusal}
+use Rattle.replay.specs.master.master_state.declared.step.Step.{Step}
+use Rattle.replay.specs.master.master_state.declared.step.StepAnswer.{StepAnswer}
+use Rattle.replay.specs.master.master_state.Data.{MasterData}
+use Rattle.replay.specs.master.Valid.{IsValid}
+use Rattle.replay.specs.master.World.{World, world_of, retired_data}
 use Rattle.recovery.specs.declared.recovery.RecoveryFault.{RecoveryFault}
 use Rattle.recovery.specs.declared.succession.Course.{Course}
 use Rattle.recovery.specs.declared.succession.NotAdopted.{NotAdopted}

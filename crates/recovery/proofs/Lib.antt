@@ -9,3 +9,4 @@ pub mod Lives
 pub mod Outliving
 pub mod Succeeding
 pub mod Following
+pub use Rattle.replay.proofs.of_driving

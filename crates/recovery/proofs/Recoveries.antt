@@ -5,7 +5,7 @@ use Rattle.entry.specs.Bag.{IsAmong}
 use Rattle.entry.specs.Key.{place_of}
 use Rattle.entry.specs.Meaning.{IsMeaning, IsClean, among, bound_of, contents_of}
 use Rattle.tablet_will.specs.declared.part.Part.{Part}
-use Rattle.division.specs.Division.{AreCovered}
+use Rattle.claims.specs.division.Division.{AreCovered}
 use Rattle.replica.specs.declared.holding.Holding.{Holding}
 use Rattle.replica.specs.Picture.{Shown, survivors}
 use Rattle.replica.specs.Choice.{Choice, bag_of}
@@ -23,9 +23,9 @@ use Rattle.recovery_plan.specs.declared.fault.PlanFault.TheVariants as plan_faul
 use Rattle.recovery_plan.specs.Planned.{IsPlan, IsChoiceOf, IsPlanOf, IsFirstBad, IsPlanFault, NamesLoss}
 use Rattle.entry.proofs.BagLemmas.{among_right}
 use Rattle.versioned_map.specs.History.{commands_of}
-use Rattle.failover_model.specs.Data.{FailData, IsHome, state_after}
-use Rattle.failover_bytes.specs.Choice.{Counts, IsNewestCounted}
-use Rattle.failover_bytes.specs.Sound.{IsSoundInBytes}
+use Rattle.replay.specs.master.failover_model.Data.{FailData, IsHome, state_after}
+use Rattle.replay.specs.master.failover_bytes.Choice.{Counts, IsNewestCounted}
+use Rattle.replay.specs.master.failover_bytes.Sound.{IsSoundInBytes}
 use Rattle.versioned_map.specs.Versioned.{IsSafeAfter}
 use Rattle.versioned_map.proofs.Meanings.{one_contents}
 use Rattle.recovery.specs.Recovered.{Shows, IsRebuiltFrom, IsPlanLoss, IsPlanWant, IsReplayWant, IsSomeLoss}

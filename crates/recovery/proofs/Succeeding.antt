@@ -16,15 +16,15 @@ use Rattle.replica.specs.Take.{effect, with_effect, Takes, Refuses}
 use Rattle.replica.specs.Retire.{freeing, TakesEach, Retires}
 use Rattle.replica.proofs.Retiring.{retire_spares}
 use Rattle.replay.specs.Adopting.{IsAdoptedOn}
-use Rattle.master_state.specs.declared.config.Config.{Config}
-use Rattle.master_state.specs.declared.step.Refusal.{Refusal}
-use Rattle.master_state.specs.declared.step.Step.{Step}
-use Rattle.master_state.specs.declared.step.StepAnswer.{StepAnswer}
-use Rattle.master_state.specs.Data.{Origin}
-use Rattle.master_state.specs.Log.{opening_of}
-use Rattle.master.specs.Steps.{IsRun}
-use Rattle.master.specs.World.{MasterValue, World, world}
-use Rattle.master.proofs.Unraised.{above_on}
+use Rattle.replay.specs.master.master_state.declared.config.Config.{Config}
+use Rattle.replay.specs.master.master_state.declared.step.Refusal.{Refusal}
+use Rattle.replay.specs.master.master_state.declared.step.Step.{Step}
+use Rattle.replay.specs.master.master_state.declared.step.StepAnswer.{StepAnswer}
+use Rattle.replay.specs.master.master_state.Data.{Origin}
+use Rattle.replay.specs.master.master_state.Log.{opening_of}
+use Rattle.replay.specs.master.Steps.{IsRun}
+use Rattle.replay.specs.master.World.{MasterValue, World, world}
+use Rattle.replay.proofs.of_master.Unraised.{above_on}
 use Rattle.recovery.specs.declared.succession.Course.{Course}
 use Rattle.recovery.specs.declared.succession.Lived.{Lived}
 use Rattle.recovery.specs.declared.succession.End.{End}

@@ -5,15 +5,15 @@ use Rattle.claims.specs.declared.rebuilt.Rebuilt.{Rebuilt}
 use Rattle.replica.specs.declared.holding.Holding.{Holding}
 use Rattle.replica.specs.Picture.{FleetState, Shown, AreHeld, shown_of, survivors}
 use Rattle.replica.specs.Survival.{BothSurvive}
-use Rattle.failover_model.specs.Data.{IsHome}
-use Rattle.failover_bytes.specs.Choice.{newest_opened}
-use Rattle.master_state.specs.declared.step.Refusal.{Refusal}
-use Rattle.master_state.specs.declared.step.Step.{Step}
-use Rattle.master_state.specs.declared.step.StepAnswer.{StepAnswer}
-use Rattle.master_state.specs.Log.{log_of}
-use Rattle.master.specs.Steps.{IsRun}
-use Rattle.master.specs.Valid.{IsValid}
-use Rattle.master.specs.World.{World}
+use Rattle.replay.specs.master.failover_model.Data.{IsHome}
+use Rattle.replay.specs.master.failover_bytes.Choice.{newest_opened}
+use Rattle.replay.specs.master.master_state.declared.step.Refusal.{Refusal}
+use Rattle.replay.specs.master.master_state.declared.step.Step.{Step}
+use Rattle.replay.specs.master.master_state.declared.step.StepAnswer.{StepAnswer}
+use Rattle.replay.specs.master.master_state.Log.{log_of}
+use Rattle.replay.specs.master.Steps.{IsRun}
+use Rattle.replay.specs.master.Valid.{IsValid}
+use Rattle.replay.specs.master.World.{World}
 use Rattle.recovery.specs.declared.recovery.RecoveryFault.{RecoveryFault}
 use Rattle.rebuilding.specs.declared.order.GroupOrder.{GroupOrder}
 use Rattle.recovery.specs.Kept.{is_kept}

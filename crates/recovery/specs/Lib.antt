@@ -5,3 +5,8 @@ pub mod Lives
 pub mod Texts
 pub mod Drilled
 pub mod Succession
+pub use Rattle.recovery_plan.specs as recovery_plan
+pub use Rattle.claims.specs as claims
+pub use Rattle.replay.specs as replay
+pub use Rattle.replay.specs.master
+pub use Rattle.replay.specs.driving

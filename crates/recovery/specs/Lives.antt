@@ -8,7 +8,7 @@ use Rattle.versioned_map.specs.declared.command.Command.{Command}
 use Rattle.versioned_map.specs.declared.command.Command.TheVariants.{Get, Put, Delete}
 use Rattle.versioned_map.specs.History.{commands_of}
 use Rattle.versioned_map.specs.Versioned.{State}
-use Rattle.failover_model.specs.Data.{FailData, state_after}
+use Rattle.replay.specs.master.failover_model.Data.{FailData, state_after}
 use Rattle.recovery.specs.Recovered.{IsRecovered}
 
 -- a life, and what was recovered at its end, of how many of its records

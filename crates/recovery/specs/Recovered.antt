@@ -9,7 +9,7 @@ use Rattle.replica.specs.declared.holding.Holding.{Holding}
 use Rattle.replica.specs.Picture.{Shown, IsHeld, survivors}
 use Rattle.replica.specs.Survival.{BothSurvive}
 use Rattle.tablet_will.specs.declared.part.Part.{Part}
-use Rattle.division.specs.Division.{AreCovered}
+use Rattle.claims.specs.division.Division.{AreCovered}
 use Rattle.recovery_plan.specs.declared.chosen.Plan.{Plan}
 use Rattle.recovery_plan.specs.declared.fault.PlanFault.{PlanFault}
 use Rattle.recovery_plan.specs.declared.fault.PlanFault.TheVariants as plan_fault
@@ -23,9 +23,9 @@ use Rattle.rebuilding.specs.Rebuilds.{IsRebuildFault, NamesEach, count_of}
 use Rattle.rebuilding.specs.Turns.{replayed}
 use Rattle.rebuilding.specs.Orders.{order_for}
 use Rattle.versioned_map.specs.History.{commands_of}
-use Rattle.failover_model.specs.Data.{FailData, IsHome, state_after, durable_of}
-use Rattle.failover_bytes.specs.Choice.{Counts, IsNewestCounted}
-use Rattle.failover_bytes.specs.Sound.{IsSoundInBytes}
+use Rattle.replay.specs.master.failover_model.Data.{FailData, IsHome, state_after, durable_of}
+use Rattle.replay.specs.master.failover_bytes.Choice.{Counts, IsNewestCounted}
+use Rattle.replay.specs.master.failover_bytes.Sound.{IsSoundInBytes}
 use Rattle.versioned_map.specs.Versioned.{IsSafeAfter}
 use Rattle.recovery.specs.declared.recovery.RecoveryFault.{RecoveryFault}
 use Rattle.recovery.specs.declared.recovery.RecoveryFault.TheVariants as fault

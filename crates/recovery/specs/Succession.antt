@@ -5,15 +5,15 @@ use Rattle.replica.specs.Retire.{Retires}
 use Rattle.replica.specs.declared.op.TakeFault.{TakeFault}
 use Rattle.claims.specs.declared.rebuilt.Rebuilt.{Rebuilt}
 use Rattle.replay.specs.Adopting.{IsAdopted, IsAdoptedOn, DeclinesList}
-use Rattle.master_state.specs.declared.config.Config.{Config}
-use Rattle.master_state.specs.declared.step.Refusal.{Refusal}
-use Rattle.master_state.specs.declared.step.Step.{Step}
-use Rattle.master_state.specs.declared.step.StepAnswer.{StepAnswer}
-use Rattle.master_state.specs.Log.{log_of}
-use Rattle.master.specs.Registry.{AreUnraisedAbove}
-use Rattle.master.specs.Steps.{IsRun}
-use Rattle.master.specs.Valid.{IsValid}
-use Rattle.master.specs.World.{World, world}
+use Rattle.replay.specs.master.master_state.declared.config.Config.{Config}
+use Rattle.replay.specs.master.master_state.declared.step.Refusal.{Refusal}
+use Rattle.replay.specs.master.master_state.declared.step.Step.{Step}
+use Rattle.replay.specs.master.master_state.declared.step.StepAnswer.{StepAnswer}
+use Rattle.replay.specs.master.master_state.Log.{log_of}
+use Rattle.replay.specs.master.Registry.{AreUnraisedAbove}
+use Rattle.replay.specs.master.Steps.{IsRun}
+use Rattle.replay.specs.master.Valid.{IsValid}
+use Rattle.replay.specs.master.World.{World, world}
 use Rattle.recovery.specs.declared.recovery.RecoveryFault.{RecoveryFault}
 use Rattle.recovery.specs.declared.succession.Course.{Course}
 use Rattle.recovery.specs.declared.succession.Lived.{Lived}

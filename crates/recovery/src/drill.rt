@@ -1,16 +1,16 @@
 //! A master's steps, its end, and its recovery from what some backups hold.
 
 ghost use Rattle.std.specs.Prelude.{◌≡◌, ◌≤◌, IfOk, IfErr};
-ghost use Rattle.master.specs.World.{world};
+ghost use Rattle.replay.specs.master.World.{world};
 ghost use Rattle.recovery.specs.Drilled.{IsDrill};
 
 use crate::inventory::inventory_of;
 use crate::recovery::{RecoveryFault, recover};
 use claims::Rebuilt;
 use entry::NoMemory;
-use master::{Master, Refusal, Step, StepAnswer};
 use rebuilding::GroupOrder;
 use recovery_plan::PlanFault;
+use replay::master::{Master, Refusal, Step, StepAnswer};
 use replica::Fleet;
 use std::alloc::Global;
 use tablet_will::Will;

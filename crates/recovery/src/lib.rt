@@ -24,6 +24,8 @@ pub use laws::{
 pub use rebuilding::{GroupOrder, numbers, rebuild, rebuild_plain};
 pub use recovery::{RecoveryFault, recover};
 pub use recovery_plan::{Plan, PlanFault, plan};
+pub use replay;
+pub use replay::{driving, master};
 pub use succession::{Course, Drills, End, Lived, NotAdopted, run_lives};
 pub use tablet_will::{Will, make_will};
 pub use threaded::recover_threads;

@@ -2,7 +2,7 @@
 
 ghost use Rattle.std.specs.Prelude.{◌≡◌, IfOk, IfErr, OnOk, Some};
 ghost use Rattle.entry.specs.Meaning.{IsClean, among};
-ghost use Rattle.division.specs.Division.{AreCovered};
+ghost use Rattle.claims.specs.division.Division.{AreCovered};
 ghost use Rattle.claims.specs.Bags.{segments_bag};
 ghost use Rattle.claims.specs.Rebuilt.{IsRebuilt};
 ghost use Rattle.rebuilding.specs.Rebuilds.{IsRebuildFault, CanBeRebuilt, NamesEach, count_of};

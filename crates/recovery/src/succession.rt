@@ -1,8 +1,8 @@
 //! Lives that are drilled one after another.
 
 ghost use Rattle.std.specs.Prelude.{◌≡◌, ◌≤◌, suc, None, IfOk, IfErr};
-ghost use Rattle.master_state.specs.Config.{config_fault};
-ghost use Rattle.master.specs.World.{world};
+ghost use Rattle.replay.specs.master.master_state.Config.{config_fault};
+ghost use Rattle.replay.specs.master.World.{world};
 ghost use Rattle.recovery.specs.Succession.{IsNewest, with_number, IsSuccessor, IsLived, IsNotAdopted, IsLast};
 ghost use Rattle.recovery.specs.Succession.{AreDrilled};
 
@@ -10,9 +10,9 @@ use crate::drill::{Drill, run_drill};
 use crate::recovery::RecoveryFault;
 use claims::Rebuilt;
 use entry::{NoMemory, Tablets};
-use master::{Config, Master, Refusal, Step, StepAnswer};
 use rebuilding::GroupOrder;
 use replay::adopt_list;
+use replay::master::{Config, Master, Refusal, Step, StepAnswer};
 use replica::{Bench, Fleet, TakeFault};
 use std::alloc::Global;
 use tablet_will::Will;

@@ -1,7 +1,7 @@
 //! Recovery by several workers.
 
 ghost use Rattle.std.specs.Prelude.{◌≡◌, ◌≤◌, IfOk, IfErr, OnOk};
-ghost use Rattle.division.specs.Division.{AreCovered};
+ghost use Rattle.claims.specs.division.Division.{AreCovered};
 ghost use Rattle.claims.specs.Bags.{segments_bag};
 ghost use Rattle.claims.specs.Rebuilt.{IsRebuilt};
 ghost use Rattle.rebuilding.specs.Rebuilds.{IsRebuildFault, CanBeRebuilt, NamesEach, count_of};
@@ -12,9 +12,9 @@ ghost use Rattle.recovery.specs.Recovered.{IsSomePrefix, IsSomeLoss, IsRebuiltFr
 use crate::recovery::RecoveryFault;
 use claims::{Rebuilt, ReplayFault};
 use gate::Gate;
-use rebuild_threads::rebuild_threads;
 use rebuilding::{GroupOrder, numbers_for};
 use recovery_plan::{Plan, plan};
+use replay::rebuild_threads;
 use replica::Inventory;
 use std::alloc::Global;
 use std::sync::Wait;

@@ -8,19 +8,19 @@ use Rattle.entry.specs.declared.entry.Object.{Object}
 use Rattle.entry.specs.declared.key.Key.{Key}
 use Rattle.entry.specs.Meaning.{contents_of}
 use Rattle.replica.specs.Picture.{FleetState}
-use Rattle.log_model.specs.Data.{fewest}
-use Rattle.log_model.specs.Steps.{no_units}
-use Rattle.log_head.specs.Head.{HeadValue, is_open}
-use Rattle.log_head.specs.Steps.{settled}
-use Rattle.log_head.proofs.Rolls.{zeros_length}
-use Rattle.master_state.specs.declared.config.Config.{Config}
-use Rattle.master_state.specs.declared.step.Refusal.{Refusal}
-use Rattle.master_state.specs.declared.step.Refusal.TheVariants as refusal
-use Rattle.master_state.specs.Causes.{is_done, is_pushed}
-use Rattle.master_state.specs.Data.{MasterData}
-use Rattle.master_state.specs.Loading.{restored_data, Settles}
-use Rattle.master.specs.Loading.{DeclinesLoad}
-use Rattle.master.specs.World.{World, world_of}
+use Rattle.driving.specs.master.log_model.Data.{fewest}
+use Rattle.driving.specs.master.log_model.Steps.{no_units}
+use Rattle.driving.specs.master.log_head.Head.{HeadValue, is_open}
+use Rattle.driving.specs.master.log_head.Steps.{settled}
+use Rattle.driving.proofs.of_master.log_head.Rolls.{zeros_length}
+use Rattle.driving.specs.master_core.master_state.declared.config.Config.{Config}
+use Rattle.driving.specs.master_core.master_state.declared.step.Refusal.{Refusal}
+use Rattle.driving.specs.master_core.master_state.declared.step.Refusal.TheVariants as refusal
+use Rattle.driving.specs.master_core.master_state.Causes.{is_done, is_pushed}
+use Rattle.driving.specs.master_core.master_state.Data.{MasterData}
+use Rattle.driving.specs.master_core.master_state.Loading.{restored_data, Settles}
+use Rattle.driving.specs.master.Loading.{DeclinesLoad}
+use Rattle.driving.specs.master.World.{World, world_of}
 use Rattle.claims.specs.declared.rebuilt.Rebuilt.{Rebuilt}
 use Rattle.driving.specs.Rolls.{PushesUntil}
 use Rattle.driving.specs.Served.{IsSpent}

@@ -15,13 +15,13 @@ use Rattle.entry.specs.Order.{key_cmp, key_eq}
 use Rattle.entry.proofs.BagLemmas.{among_image, among_place}
 use Rattle.entry.proofs.KeyOrder.{key_eq_decides, key_cmp_same}
 use Rattle.entry.proofs.ListLemmas.{all_among}
-use Rattle.master_state.specs.declared.config.Config.{Config}
-use Rattle.master_state.specs.declared.step.Refusal.{Refusal}
-use Rattle.master_state.specs.declared.step.Refusal.TheVariants as refusal
-use Rattle.master_state.specs.Data.{MasterData}
-use Rattle.master_state.specs.Loading.{restored_data, IsNewObject, Loads}
-use Rattle.master.specs.Loading.{DeclinesLoad}
-use Rattle.master.specs.World.{World}
+use Rattle.driving.specs.master_core.master_state.declared.config.Config.{Config}
+use Rattle.driving.specs.master_core.master_state.declared.step.Refusal.{Refusal}
+use Rattle.driving.specs.master_core.master_state.declared.step.Refusal.TheVariants as refusal
+use Rattle.driving.specs.master_core.master_state.Data.{MasterData}
+use Rattle.driving.specs.master_core.master_state.Loading.{restored_data, IsNewObject, Loads}
+use Rattle.driving.specs.master.Loading.{DeclinesLoad}
+use Rattle.driving.specs.master.World.{World}
 use Rattle.claims.specs.declared.rebuilt.Rebuilt.{Rebuilt}
 use Rattle.driving.specs.Rolls.{PushesUntil, IsRolled, IsNotRolled}
 use Rattle.replay.specs.Adopting.{HasToWait, HasRoomMade, LoadsOne, HasLoaded, LoadsAll, IsStuck, IsFinal, Stops}

@@ -5,15 +5,15 @@ use Rattle.std.specs.Prelude.{Some, None, if◌then◌else◌, not, ◌&&◌, �
 use Rattle.std.proofs.Math.Bool.{and-false}
 use Rattle.std.proofs.Math.Nat.{lt_trans}
 use Rattle.replica.specs.Picture.{FleetState}
-use Rattle.master_state.specs.declared.step.Refusal.{Refusal}
-use Rattle.master_state.specs.declared.step.Refusal.TheVariants as refusal
-use Rattle.master_state.specs.declared.step.Step.TheVariants.{Push, BeginRoll}
-use Rattle.master_state.specs.declared.step.StepAnswer.{StepAnswer}
-use Rattle.master_state.specs.Budget.{is_working}
-use Rattle.master_state.specs.Causes.{is_done}
-use Rattle.master_state.specs.Data.{MasterData}
-use Rattle.master.specs.Steps.{Accepts, Declines}
-use Rattle.master.specs.World.{World}
+use Rattle.driving.specs.master_core.master_state.declared.step.Refusal.{Refusal}
+use Rattle.driving.specs.master_core.master_state.declared.step.Refusal.TheVariants as refusal
+use Rattle.driving.specs.master_core.master_state.declared.step.Step.TheVariants.{Push, BeginRoll}
+use Rattle.driving.specs.master_core.master_state.declared.step.StepAnswer.{StepAnswer}
+use Rattle.driving.specs.master_core.master_state.Budget.{is_working}
+use Rattle.driving.specs.master_core.master_state.Causes.{is_done}
+use Rattle.driving.specs.master_core.master_state.Data.{MasterData}
+use Rattle.driving.specs.master.Steps.{Accepts, Declines}
+use Rattle.driving.specs.master.World.{World}
 use Rattle.driving.specs.Rolls.{ArePushed, PushesUntil, GoesRolling, IsRolled, IsNotRolled}
 use Rattle.driving.proofs.Losses.{left_to_push, push_lowers}
 use Rattle.driving.proofs.MasterSteps.{done_works, nothing_waits}

@@ -5,19 +5,19 @@ use Rattle.std.proofs.lemmas.List.{append-nil}
 use Rattle.entry.specs.declared.entry.Object.{Object}
 use Rattle.replica.specs.declared.op.TakeFault.TheVariants as take_fault
 use Rattle.replica.specs.Picture.{FleetState}
-use Rattle.failover_model.specs.Shown.{Op}
-use Rattle.failover_bytes.specs.Ops.{RefusesOp, TakesOp}
-use Rattle.master_state.specs.declared.step.Refusal.{Refusal}
-use Rattle.master_state.specs.declared.step.Refusal.TheVariants as refusal
-use Rattle.master_state.specs.declared.step.Step.TheVariants.{Push, BeginRoll}
-use Rattle.master_state.specs.declared.step.StepAnswer.{StepAnswer}
-use Rattle.master_state.specs.Data.{MasterData}
-use Rattle.master_state.specs.Loading.{Loads}
-use Rattle.master.specs.Steps.{Accepts, Declines, IsPushOp}
-use Rattle.master.specs.World.{World}
-use Rattle.master.proofs.Keeping.{op_beside, op_faulted, take_failed}
-use Rattle.master.proofs.MendedRest.{mended_rest}
-use Rattle.master.proofs.PushedRest.{SameRest, same_rest}
+use Rattle.driving.specs.master_core.failover_model.Shown.{Op}
+use Rattle.driving.specs.master_core.failover_bytes.Ops.{RefusesOp, TakesOp}
+use Rattle.driving.specs.master_core.master_state.declared.step.Refusal.{Refusal}
+use Rattle.driving.specs.master_core.master_state.declared.step.Refusal.TheVariants as refusal
+use Rattle.driving.specs.master_core.master_state.declared.step.Step.TheVariants.{Push, BeginRoll}
+use Rattle.driving.specs.master_core.master_state.declared.step.StepAnswer.{StepAnswer}
+use Rattle.driving.specs.master_core.master_state.Data.{MasterData}
+use Rattle.driving.specs.master_core.master_state.Loading.{Loads}
+use Rattle.driving.specs.master.Steps.{Accepts, Declines, IsPushOp}
+use Rattle.driving.specs.master.World.{World}
+use Rattle.driving.proofs.of_master.Keeping.{op_beside, op_faulted, take_failed}
+use Rattle.driving.proofs.of_master.MendedRest.{mended_rest}
+use Rattle.driving.proofs.of_master.PushedRest.{SameRest, same_rest}
 use Rattle.driving.specs.Rolls.{Advances, ArePushed, PushesUntil, GoesRolling, IsRolled, IsNotRolled}
 use Rattle.driving.proofs.Losses.{push_lost}
 use Rattle.driving.proofs.MasterSteps.{nothing_waits}

@@ -4,16 +4,16 @@ use Rattle.entry.specs.declared.entry.Entry.TheVariants as entry
 use Rattle.entry.specs.declared.entry.Object.{Object}
 use Rattle.entry.specs.Meaning.{contents_of}
 use Rattle.replica.specs.Picture.{FleetState}
-use Rattle.log_head.specs.Head.{is_open}
-use Rattle.master_state.specs.declared.config.Config.{Config}
-use Rattle.master_state.specs.declared.step.Refusal.{Refusal}
-use Rattle.master_state.specs.declared.step.Refusal.TheVariants as refusal
-use Rattle.master_state.specs.Causes.{is_done}
-use Rattle.master_state.specs.Data.{MasterData}
-use Rattle.master_state.specs.Loading.{load_refusal, restored_data, Loads, Settles}
-use Rattle.master_state.specs.Log.{opening_of}
-use Rattle.master.specs.Loading.{DeclinesLoad}
-use Rattle.master.specs.World.{World, world_of}
+use Rattle.driving.specs.master.log_head.Head.{is_open}
+use Rattle.driving.specs.master_core.master_state.declared.config.Config.{Config}
+use Rattle.driving.specs.master_core.master_state.declared.step.Refusal.{Refusal}
+use Rattle.driving.specs.master_core.master_state.declared.step.Refusal.TheVariants as refusal
+use Rattle.driving.specs.master_core.master_state.Causes.{is_done}
+use Rattle.driving.specs.master_core.master_state.Data.{MasterData}
+use Rattle.driving.specs.master_core.master_state.Loading.{load_refusal, restored_data, Loads, Settles}
+use Rattle.driving.specs.master_core.master_state.Log.{opening_of}
+use Rattle.driving.specs.master.Loading.{DeclinesLoad}
+use Rattle.driving.specs.master.World.{World, world_of}
 use Rattle.driving.specs.Rolls.{PushesUntil, IsRolled, IsNotRolled}
 use Rattle.claims.specs.declared.rebuilt.Rebuilt.{Rebuilt}
 

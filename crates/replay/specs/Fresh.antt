@@ -2,8 +2,8 @@
 use Rattle.std.specs.Prelude.{List}
 use Rattle.entry.specs.declared.entry.Object.{Object}
 use Rattle.entry.specs.Bag.{IsAmong}
-use Rattle.master_state.specs.Data.{MasterData}
-use Rattle.master_state.specs.Loading.{IsNewObject}
+use Rattle.driving.specs.master_core.master_state.Data.{MasterData}
+use Rattle.driving.specs.master_core.master_state.Loading.{IsNewObject}
 use Rattle.claims.specs.Listed.{AreOrdered}
 
 -- Each key once, no key was loaded before, and each version is below the safe one.

@@ -2,20 +2,20 @@
 
 ghost use Rattle.std.specs.Prelude.{◌≡◌, ◌≤◌, ℕ, [], ◌∷◌, None, IfOk, IfErr, OnOk};
 ghost use Rattle.entry.specs.View.{shown_object};
-ghost use Rattle.master_state.specs.Config.{config_fault};
-ghost use Rattle.master_state.specs.Loading.{restored_data, IsNewObject};
-ghost use Rattle.master.specs.Registry.{IsUnraised};
-ghost use Rattle.master.specs.Valid.{IsValid};
-ghost use Rattle.master.specs.World.{world};
+ghost use Rattle.driving.specs.master_core.master_state.Config.{config_fault};
+ghost use Rattle.driving.specs.master_core.master_state.Loading.{restored_data, IsNewObject};
+ghost use Rattle.driving.specs.master.Registry.{IsUnraised};
+ghost use Rattle.driving.specs.master.Valid.{IsValid};
+ghost use Rattle.driving.specs.master.World.{world};
 ghost use Rattle.replay.specs.Adopting.{IsFinal, LoadsOne, IsStuck, LoadsAll, Stops};
 ghost use Rattle.replay.specs.Adopting.{IsAdopted, IsAdoptedOn, AdoptsList, DeclinesList};
 ghost use Rattle.replay.specs.Fresh.{AreNew};
 
 use claims::{Objects, Rebuilt};
+use driving::master::{Loading, Master};
+use driving::master_core::{Config, Refusal};
 use driving::{push_all, roll_all};
 use entry::{NoMemory, ObjectRef};
-use master::{Loading, Master};
-use master_core::{Config, Refusal};
 use replica::Fleet;
 use std::alloc::Global;
 

@@ -9,6 +9,8 @@ mod adopting;
 
 pub use adopting::{adopt, adopt_list};
 pub use claims::{Objects, Rebuilt, ReplayFault};
+pub use driving;
+pub use driving::master;
 pub use partition_replay::{Replay, Replayed};
 pub use rebuild_threads::rebuild_threads;
 pub use rebuilding::{rebuild, rebuild_plain};

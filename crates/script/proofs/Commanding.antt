@@ -6,7 +6,7 @@ use Rattle.lines.specs.declared.command.CommandLine.TheVariants as command
 use Rattle.lines.specs.declared.line.Line.{Line}
 use Rattle.lines.specs.declared.line.Line.TheVariants as line
 use Rattle.lines.specs.Grammar.{shown_command, shown_line}
-use Rattle.node.specs.Told.{command_of}
+use Rattle.next_master.specs.node.Told.{command_of}
 
 pub has_command : (c : CommandLine) → command_of (shown_command c) ≡ None → ⊥
 has_command (command.Put table key value) is = absurd (cc)

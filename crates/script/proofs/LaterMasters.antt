@@ -4,14 +4,14 @@ use Rattle.std.specs.Prelude.{Option, IfSome}
 use Rattle.command_line.specs.declared.settings.Options.{Options}
 use Rattle.lines.specs.Grammar.{LineValue}
 use Rattle.replica.specs.Picture.{FleetState}
-use Rattle.master_state.specs.declared.step.Refusal.TheVariants as refusal
-use Rattle.master_state.specs.Data.{MasterData}
-use Rattle.master.specs.Registry.{AreUnraisedAbove}
-use Rattle.answers.specs.declared.answer.Answer.{Answer}
-use Rattle.driving.proofs.LeastHeads.{until_leaves}
-use Rattle.node.specs.Lives.{Position}
-use Rattle.node.specs.Served.{IsNodeAt, fleet_of}
-use Rattle.node.proofs.LeastHeads.{in_world, line_unraised as node_unraised, made_unraised, stands_up_to}
+use Rattle.next_master.specs.master.master_state.declared.step.Refusal.TheVariants as refusal
+use Rattle.next_master.specs.master.master_state.Data.{MasterData}
+use Rattle.next_master.specs.master.Registry.{AreUnraisedAbove}
+use Rattle.next_master.specs.answers.declared.answer.Answer.{Answer}
+use Rattle.next_master.proofs.of_driving.LeastHeads.{until_leaves}
+use Rattle.next_master.specs.node.Lives.{Position}
+use Rattle.next_master.specs.node.Served.{IsNodeAt, fleet_of}
+use Rattle.next_master.proofs.of_node.LeastHeads.{in_world, line_unraised as node_unraised, made_unraised, stands_up_to}
 use Rattle.next_master.specs.Configuration.{config_of, later_options}
 use Rattle.next_master.proofs.HowItEnds.{ends_unraised}
 use Rattle.script.specs.declared.session.Session.{Session}

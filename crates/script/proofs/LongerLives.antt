@@ -6,22 +6,22 @@ use Rattle.std.specs.Prelude.{Option, None, Some, Result, Ok, slice_get}
 use Rattle.lines.specs.Grammar.{LineValue}
 use Rattle.versioned_map.specs.declared.command.Command.{Command}
 use Rattle.versioned_map.specs.declared.command.Record.{Record}
-use Rattle.master_state.specs.declared.config.Config.{Config}
+use Rattle.next_master.specs.master.master_state.declared.config.Config.{Config}
 use Rattle.versioned_map.specs.History.{commands_of}
 use Rattle.versioned_map.specs.Versioned.{State, after as map_after, IsSafeAfter}
-use Rattle.claims.specs.declared.rebuilt.Rebuilt.{Rebuilt}
-use Rattle.answers.specs.declared.answer.Answer.{Answer}
-use Rattle.store_clients.specs.Workloads.{AreAccepted}
-use Rattle.answers.specs.declared.answer.Answer.TheVariants as answer
-use Rattle.node.specs.Counted.{AreCounted}
-use Rattle.node.specs.Lives.{Life, life_to, Left, IsLeftBy, IsLeftBySpent, Position}
-use Rattle.master_state.specs.declared.step.Refusal.{Refusal}
-use Rattle.master_state.specs.declared.step.Step.{Step}
-use Rattle.master_state.specs.declared.step.StepAnswer.{StepAnswer}
-use Rattle.master_state.specs.declared.step.Step.TheVariants as step
-use Rattle.master_state.specs.declared.step.StepAnswer.TheVariants as step_answer
-use Rattle.node.specs.Told.{IsRecordAt, IsIn, IsCause, IsImageAt, IsPushedAt, IsRecoveredAt, IsUnadopted, Tells}
-use Rattle.node.specs.Told.{IsStepAt, IsRollAt, IsCleanAt, IsStepRefusal, IsDigestAt, IsRoomAt, IsWillAt, AreHeldAt}
+use Rattle.next_master.specs.recovery.claims.declared.rebuilt.Rebuilt.{Rebuilt}
+use Rattle.next_master.specs.answers.declared.answer.Answer.{Answer}
+use Rattle.next_master.specs.store_clients.Workloads.{AreAccepted}
+use Rattle.next_master.specs.answers.declared.answer.Answer.TheVariants as answer
+use Rattle.next_master.specs.node.Counted.{AreCounted}
+use Rattle.next_master.specs.node.Lives.{Life, life_to, Left, IsLeftBy, IsLeftBySpent, Position}
+use Rattle.next_master.specs.master.master_state.declared.step.Refusal.{Refusal}
+use Rattle.next_master.specs.master.master_state.declared.step.Step.{Step}
+use Rattle.next_master.specs.master.master_state.declared.step.StepAnswer.{StepAnswer}
+use Rattle.next_master.specs.master.master_state.declared.step.Step.TheVariants as step
+use Rattle.next_master.specs.master.master_state.declared.step.StepAnswer.TheVariants as step_answer
+use Rattle.next_master.specs.node.Told.{IsRecordAt, IsIn, IsCause, IsImageAt, IsPushedAt, IsRecoveredAt, IsUnadopted, Tells}
+use Rattle.next_master.specs.node.Told.{IsStepAt, IsRollAt, IsCleanAt, IsStepRefusal, IsDigestAt, IsRoomAt, IsWillAt, AreHeldAt}
 
 -- ---- a longer history tells the same
 

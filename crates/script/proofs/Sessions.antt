@@ -4,28 +4,28 @@ use Rattle.std.specs.Prelude.{Some, Result, Ok, Err, ◌&&◌, true, false, IfOk
 use Rattle.versioned_map.specs.declared.command.Command.{Command}
 use Rattle.tablet_will.specs.Parts.{Divides}
 use Rattle.lines.specs.Grammar.{LineValue, Will, Clients, Recover, Format}
-use Rattle.master_state.specs.declared.config.Config.{Config}
-use Rattle.master_state.specs.Data.{MasterData}
+use Rattle.next_master.specs.master.master_state.declared.config.Config.{Config}
+use Rattle.next_master.specs.master.master_state.Data.{MasterData}
 use Rattle.tablet_will.specs.declared.part.Part.{Part}
-use Rattle.answers.specs.declared.answer.Answer.{Answer}
-use Rattle.node.specs.declared.node.Node.{Node}
+use Rattle.next_master.specs.answers.declared.answer.Answer.{Answer}
+use Rattle.next_master.specs.node.declared.node.Node.{Node}
 use Rattle.command_line.specs.declared.settings.Options.{Options}
 use Rattle.script.specs.declared.session.Session.{Session}
-use Rattle.recovery.specs.Orders.{Covers}
+use Rattle.next_master.specs.recovery.Orders.{Covers}
 use Rattle.next_master.specs.Configuration.{config_of, later_options, tables_to}
-use Rattle.node.specs.Served.{DividesAnew, AnswersLine, IsOf, is_up}
+use Rattle.next_master.specs.node.Served.{DividesAnew, AnswersLine, IsOf, is_up}
 use Rattle.script.specs.Sessions.{KeepsWord, MakesFormat, Stands, MakesWill as MakesWillOf}
 use Rattle.script.specs.Sessions.{RenewsOptions}
-use Rattle.node.specs.Told.{command_of}
+use Rattle.next_master.specs.node.Told.{command_of}
 use Rattle.backup.specs.declared.fleet.MemoryFleet.{MemoryFleet}
-use Rattle.master.specs.World.{MasterValue}
-use Rattle.master_state.specs.declared.step.Refusal.{Refusal}
-use Rattle.answers.specs.declared.answer.Answer.TheVariants as answer
-use Rattle.node.specs.declared.node.Node.TheVariants.{Up}
-use Rattle.node.proofs.Standing.{is_down_some, stays_told}
+use Rattle.next_master.specs.master.World.{MasterValue}
+use Rattle.next_master.specs.master.master_state.declared.step.Refusal.{Refusal}
+use Rattle.next_master.specs.answers.declared.answer.Answer.TheVariants as answer
+use Rattle.next_master.specs.node.declared.node.Node.TheVariants.{Up}
+use Rattle.next_master.proofs.of_node.Standing.{is_down_some, stays_told}
 use Rattle.lines.specs.declared.line.ReplayOrder.{ReplayOrder}
-use Rattle.recovery.specs.declared.recovery.RecoveryFault.TheVariants as fault
-use Rattle.recovery_plan.specs.declared.fault.PlanFault.TheVariants as plan_fault
+use Rattle.next_master.specs.recovery.declared.recovery.RecoveryFault.TheVariants as fault
+use Rattle.next_master.specs.recovery.recovery_plan.declared.fault.PlanFault.TheVariants as plan_fault
 
 -- ---- at its start
 

@@ -2,12 +2,12 @@
 use Rattle.std.proofs.Common.{[], ◌≡◌, ◌≤◌, List, ◌∷◌, ◌++◌, length, refl, sym, ap, subst, inl, inr, arith}
 use Rattle.std.proofs.lemmas.List.{append-nil}
 use Rattle.lines.specs.Grammar.{LineValue}
-use Rattle.claims.specs.declared.rebuilt.Rebuilt.{Rebuilt}
+use Rattle.next_master.specs.recovery.claims.declared.rebuilt.Rebuilt.{Rebuilt}
 use Rattle.replica.specs.Picture.{FleetState}
 use Rattle.versioned_map.specs.declared.command.Record.{Record}
-use Rattle.answers.specs.declared.answer.Answer.{Answer}
-use Rattle.answers.specs.declared.answer.Answer.TheVariants as answer
-use Rattle.node.specs.Lives.{Life}
+use Rattle.next_master.specs.answers.declared.answer.Answer.{Answer}
+use Rattle.next_master.specs.answers.declared.answer.Answer.TheVariants as answer
+use Rattle.next_master.specs.node.Lives.{Life}
 use Rattle.script.specs.Telling.{Told, GoesOn, Moves, AreTelling}
 use Rattle.next_master.specs.Succession.{Standing, EndsRecovery, Succeeds}
 use Rattle.script.proofs.LongerLives.{rises, tells_longer}

@@ -14,32 +14,32 @@ use Rattle.lines.specs.declared.reading.ReadFault.{ReadFault}
 use Rattle.lines.specs.declared.reading.Taken.{Taken}
 use Rattle.lines.specs.declared.reason.Reason.{Reason}
 use Rattle.versioned_map.specs.declared.command.Record.{Record}
-use Rattle.master_state.specs.declared.config.Config.{Config}
-use Rattle.master_state.specs.Data.{Origin, MasterData, no_origin}
-use Rattle.master_state.specs.Log.{opening_of}
+use Rattle.next_master.specs.master.master_state.declared.config.Config.{Config}
+use Rattle.next_master.specs.master.master_state.Data.{Origin, MasterData, no_origin}
+use Rattle.next_master.specs.master.master_state.Log.{opening_of}
 use Rattle.versioned_map.specs.Represents.{empty_state}
-use Rattle.answers.specs.declared.answer.Answer.{Answer}
-use Rattle.answers.specs.declared.fault.ScriptFault.{ScriptFault}
-use Rattle.answers.specs.declared.fault.ScriptFault.TheVariants as fault
+use Rattle.next_master.specs.answers.declared.answer.Answer.{Answer}
+use Rattle.next_master.specs.answers.declared.fault.ScriptFault.{ScriptFault}
+use Rattle.next_master.specs.answers.declared.fault.ScriptFault.TheVariants as fault
 use Rattle.script.specs.declared.session.Session.{Session}
 use Rattle.script.specs.Runs.{AreRunOn, IsOfFleet, IsScriptLine, texts_of, answers_of, AreLines, IsTakenLine}
 use Rattle.script.specs.Runs.{IsBadLine, IsReasonFor, EndsWith, Prints, RunsScript}
 use Rattle.command_line.specs.declared.settings.Options.{Options}
 use Rattle.lines.specs.Grammar.{LineValue, Recover}
 use Rattle.next_master.specs.Configuration.{config_of}
-use Rattle.node.specs.Lives.{Life, Position, at_start}
+use Rattle.next_master.specs.node.Lives.{Life, Position, at_start}
 use Rattle.script.specs.Sessions.{RunsLine, BeginsSession, IsCovered, AreLaterUnraised, Stands}
 use Rattle.next_master.specs.Recoveries.{standing_of}
-use Rattle.node.specs.Served.{AnswersLine, IsNodeAt, life_of}
-use Rattle.answers.specs.Texts.{answer_text}
+use Rattle.next_master.specs.node.Served.{AnswersLine, IsNodeAt, life_of}
+use Rattle.next_master.specs.answers.Texts.{answer_text}
 use Rattle.next_master.specs.Succession.{Standing, Succeeds}
 use Rattle.script.specs.Telling.{at_first, Moves, AreTelling, TellLives, Told}
-use Rattle.node.specs.Told.{Tells}
+use Rattle.next_master.specs.node.Told.{Tells}
 use Rattle.script.specs.Turns.{RunsText, IsPrinted, PrintsText, TakesTurn, IsNoMore}
 use Rattle.script.proofs.Sessions.{options_kept, options_renewed, options_stay}
 use Rattle.script.proofs.LaterMasters.{begins_unraised, line_numbers, line_unraised}
 use Rattle.script.proofs.Succeeding.{nothing_more, telling_longer, telling_more, with_more}
-use Rattle.node.proofs.Standing.{legal_of, same_opening}
+use Rattle.next_master.proofs.of_node.Standing.{legal_of, same_opening}
 use Rattle.entry.specs.Meaning.{contents_of}
 
 -- ---- a line that was run

@@ -3,3 +3,6 @@ pub mod Sessions
 pub mod Runs
 pub mod Turns
 pub mod Program
+pub use Rattle.next_master.specs.master
+pub use Rattle.next_master.specs.locked_log
+pub use Rattle.next_master.specs as next_master

@@ -3,14 +3,14 @@ use Rattle.std.specs.Prelude.{◌≡◌, ◌⊎◌, ℕ, List, Option, Some, Non
 use Rattle.clap.specs.Words.{Row}
 use Rattle.command_line.specs.CommandLine.{HasOptions}
 use Rattle.command_line.specs.declared.settings.Options.{Options}
-use Rattle.master_state.specs.declared.config.Config.{Config}
-use Rattle.master_state.specs.declared.config.ConfigFault.{ConfigFault}
-use Rattle.master_state.specs.Config.{config_fault}
-use Rattle.answers.specs.declared.fault.ScriptFault.TheVariants.{NoMemory}
+use Rattle.next_master.specs.master.master_state.declared.config.Config.{Config}
+use Rattle.next_master.specs.master.master_state.declared.config.ConfigFault.{ConfigFault}
+use Rattle.next_master.specs.master.master_state.Config.{config_fault}
+use Rattle.next_master.specs.answers.declared.fault.ScriptFault.TheVariants.{NoMemory}
 use Rattle.next_master.specs.Configuration.{config_of}
-use Rattle.answers.specs.Errors.{Errors, Writes}
+use Rattle.next_master.specs.answers.Errors.{Errors, Writes}
 use Rattle.script.specs.Runs.{RunResult, RunsScript}
-use Rattle.answers.specs.Texts.{config_lines, exit_status, fault_lines}
+use Rattle.next_master.specs.answers.Texts.{config_lines, exit_status, fault_lines}
 
 -- what is left to read of the input, and what the output and the error output hold
 pub record Streams : Type 0 where

@@ -9,13 +9,13 @@ use Rattle.lines.specs.Reading.{IsUnbroken, IsLineText}
 use Rattle.lines.specs.Reasons.{HasReason}
 use Rattle.lines.specs.declared.reason.Reason.{Reason}
 use Rattle.lines.specs.declared.reason.Reason.TheVariants.{NoBackup, TooLong, TooMany}
-use Rattle.answers.specs.declared.fault.ScriptFault.{ScriptFault}
-use Rattle.answers.specs.declared.fault.ScriptFault.TheVariants.{BadLine, ReadFailed, WriteFailed, NoMemory}
+use Rattle.next_master.specs.answers.declared.fault.ScriptFault.{ScriptFault}
+use Rattle.next_master.specs.answers.declared.fault.ScriptFault.TheVariants.{BadLine, ReadFailed, WriteFailed, NoMemory}
 use Rattle.script.specs.declared.session.Session.{Session}
 use Rattle.next_master.specs.Configuration.{config_of}
 use Rattle.script.specs.Sessions.{RunsLine, BeginsSession}
 use Rattle.script.specs.Telling.{TellLives, Told}
-use Rattle.answers.specs.Texts.{answer_text}
+use Rattle.next_master.specs.answers.Texts.{answer_text}
 
 -- ---- lines
 

@@ -6,29 +6,29 @@ use Rattle.lines.specs.Grammar.{LineValue, Will, Recover, Clients, Format}
 use Rattle.replica.specs.Picture.{FleetState}
 use Rattle.versioned_map.specs.declared.command.Command.{Command}
 use Rattle.versioned_map.specs.declared.command.Reply.{Reply}
-use Rattle.log_head.specs.Head.{is_open}
-use Rattle.master_state.specs.declared.config.Config.{Config}
-use Rattle.master_state.specs.declared.step.Refusal.TheVariants.{Nothing}
-use Rattle.master_state.specs.Data.{MasterData, fresh_data, no_origin}
-use Rattle.master.specs.Registry.{AreUnraisedAbove}
-use Rattle.master.specs.World.{World}
-use Rattle.answers.specs.declared.answer.Answer.{Answer}
-use Rattle.answers.specs.declared.answer.Answer.TheVariants.{Counted, NumbersSpent}
-use Rattle.answers.specs.declared.answer.Answer.TheVariants as answers
-use Rattle.node.specs.declared.node.Node.{Node}
+use Rattle.next_master.specs.master.log_head.Head.{is_open}
+use Rattle.next_master.specs.master.master_state.declared.config.Config.{Config}
+use Rattle.next_master.specs.master.master_state.declared.step.Refusal.TheVariants.{Nothing}
+use Rattle.next_master.specs.master.master_state.Data.{MasterData, fresh_data, no_origin}
+use Rattle.next_master.specs.master.Registry.{AreUnraisedAbove}
+use Rattle.next_master.specs.master.World.{World}
+use Rattle.next_master.specs.answers.declared.answer.Answer.{Answer}
+use Rattle.next_master.specs.answers.declared.answer.Answer.TheVariants.{Counted, NumbersSpent}
+use Rattle.next_master.specs.answers.declared.answer.Answer.TheVariants as answers
+use Rattle.next_master.specs.node.declared.node.Node.{Node}
 use Rattle.script.specs.declared.outcome.Outcome.{Outcome}
 use Rattle.script.specs.declared.outcome.Outcome.TheVariants as outcome
 use Rattle.script.specs.declared.session.Session.{Session}
 use Rattle.next_master.specs.Configuration.{config_of, later_options, tables_to, one_partition}
-use Rattle.node.specs.Lives.{Position, at_start}
-use Rattle.recovery.specs.Orders.{Covers}
-use Rattle.driving.specs.Rolls.{PushesUntil}
-use Rattle.node.specs.Told.{command_of, HasLimits}
-use Rattle.answers.specs.declared.limits.Limits.{Limits}
-use Rattle.node.specs.Served.{AnswersLine, IsNodeAt, world_of, fleet_of, is_up, HandsOver, MakesLine}
+use Rattle.next_master.specs.node.Lives.{Position, at_start}
+use Rattle.next_master.specs.recovery.Orders.{Covers}
+use Rattle.next_master.specs.driving.Rolls.{PushesUntil}
+use Rattle.next_master.specs.node.Told.{command_of, HasLimits}
+use Rattle.next_master.specs.answers.declared.limits.Limits.{Limits}
+use Rattle.next_master.specs.node.Served.{AnswersLine, IsNodeAt, world_of, fleet_of, is_up, HandsOver, MakesLine}
 use Rattle.lines.specs.declared.line.ReplayOrder.{ReplayOrder}
 use Rattle.next_master.specs.Numbers.{AreSpent, IsNextNumber, Renumbers}
-use Rattle.node.specs.Waits.{IsReplyAt, MakesTryAfterRoll, WaitsForRoll}
+use Rattle.next_master.specs.node.Waits.{IsReplyAt, MakesTryAfterRoll, WaitsForRoll}
 use Rattle.next_master.specs.Recoveries.{Asked, Ends, MakesLimit, Recovers, ask, order_named}
 
 -- ---- where a session stands

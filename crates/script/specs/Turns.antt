@@ -5,15 +5,15 @@ use Rattle.std.specs.Io.KnownBytes.{Appends, Consumes, IsAtEnd, Keeps}
 use Rattle.lines.specs.Grammar.{LineValue, Says, Put, New, Cas}
 use Rattle.lines.specs.Reading.{IsLineText}
 use Rattle.lines.specs.declared.reason.Reason.TheVariants.{TooMany}
-use Rattle.answers.specs.declared.answer.Answer.{Answer}
-use Rattle.answers.specs.declared.fault.ScriptFault.{ScriptFault}
-use Rattle.answers.specs.declared.fault.ScriptFault.TheVariants as fault
+use Rattle.next_master.specs.answers.declared.answer.Answer.{Answer}
+use Rattle.next_master.specs.answers.declared.fault.ScriptFault.{ScriptFault}
+use Rattle.next_master.specs.answers.declared.fault.ScriptFault.TheVariants as fault
 use Rattle.script.specs.declared.session.LineFault.{LineFault}
 use Rattle.script.specs.declared.session.LineFault.TheVariants as line_fault
 use Rattle.script.specs.declared.session.Session.{Session}
 use Rattle.script.specs.Runs.{IsOfFleet, IsTakenLine, IsBadLine, IsReasonFor, IsReasonOf, RunResult}
 use Rattle.script.specs.Sessions.{RunsLine}
-use Rattle.answers.specs.Texts.{answer_text}
+use Rattle.next_master.specs.answers.Texts.{answer_text}
 
 -- what a reader has left or a writer holds, if that is known
 abbrev pub Known : Type 0

@@ -12,14 +12,17 @@ mod program;
 mod running;
 mod session;
 
-pub use answers::{Answer, ErrorOutput, Limits, ScriptFault, report, report_config, write_answer};
 pub use backup::{MemoryBackup, MemoryFleet};
 pub use command_line::{Options, options};
 pub use lines::Reason;
-pub use next_master::configuration;
-pub use program::{run_options, run_program};
-pub use recovery::{
+pub use next_master;
+pub use next_master::answers::{
+    Answer, ErrorOutput, Limits, ScriptFault, report, report_config, write_answer,
+};
+pub use next_master::recovery::{
     Drill, Plan, PlanFault, Rebuilt, RecoveryFault, ReplayFault, acknowledged_recovered,
     inventory_of, plan, rebuild_plain, recover, run_drill,
 };
+pub use next_master::{configuration, locked_log, master, recovery, replay};
+pub use program::{run_options, run_program};
 pub use running::run_script;

@@ -1,6 +1,6 @@
 //! What a line of a script comes to.
 
-use answers::Answer;
+use next_master::answers::Answer;
 
 /// What a line of a script comes to.
 #[derive(Drop)]

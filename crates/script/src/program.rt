@@ -8,9 +8,9 @@ ghost use Rattle.script.specs.Program.{RunsMatches, RunsOptions, Streams};
 
 use crate::running::run_script;
 use crate::session::FIRST_MASTER;
-use answers::{ErrorOutput, ScriptFault, report, report_config};
 use clap::Error;
 use command_line::{Options, options};
+use next_master::answers::{ErrorOutput, ScriptFault, report, report_config};
 use next_master::configuration;
 use std::alloc::Global;
 use std::io::{BufRead, Write};

@@ -1,20 +1,20 @@
 //! Runs a script, line by line.
 
 ghost use Rattle.std.specs.Prelude.{◌≡◌, None};
-ghost use Rattle.master_state.specs.Config.{config_fault};
+ghost use Rattle.next_master.specs.master.master_state.Config.{config_fault};
 ghost use Rattle.command_line.specs.declared.settings.Options.{Options as OptionsValue};
 ghost use Rattle.lines.specs.Reading.{IsLineText};
 ghost use Rattle.next_master.specs.Configuration.{config_of};
 ghost use Rattle.script.specs.Runs.{RunsScript};
-ghost use Rattle.answers.specs.declared.answer.Answer.{Answer as AnswerValue};
+ghost use Rattle.next_master.specs.answers.declared.answer.Answer.{Answer as AnswerValue};
 ghost use Rattle.script.specs.Sessions.{BeginsSession, Stands, IsPrintedAs};
 ghost use Rattle.script.specs.Turns.{IsNoMore, IsPrinted, PrintsText, TakesTurn};
 
 use crate::outcome::Outcome;
 use crate::session::{LineFault, Session};
-use answers::{Answer, ScriptFault, write_answer};
 use command_line::Options;
 use lines::{LineReader, ReadFault, Reason, Taken, one_line, parse_line};
+use next_master::answers::{Answer, ScriptFault, write_answer};
 use std::alloc::Global;
 use std::io::{BufRead, Write};
 use std::sync::Wait;

@@ -6,12 +6,12 @@ use Rattle.std.specs.Prelude.{◌^◌, slice_get, IfOk, IfSome, IsOk}
 use Rattle.std.proofs.lemmas.Option.{same_Some}
 use Rattle.entry.proofs.ListLemmas.{slice_get_left}
 use Rattle.versioned_map.specs.declared.command.Record.{Record}
-use Rattle.master_state.specs.Data.{MasterData}
-use Rattle.store_seat.specs.declared.fault.CallFault.{CallFault}
-use Rattle.locked_log.specs.Ends.{AreServed}
-use Rattle.store_seat.specs.Seats.{SeatValue}
-use Rattle.locked_log.specs.Sharing.{AreOfSeats, AreSeatsAfter, seat_after}
-use Rattle.locked_log.specs.States.{count_of}
+use Rattle.counted_calls.specs.master.master_state.Data.{MasterData}
+use Rattle.counted_calls.specs.locked_log.store_seat.declared.fault.CallFault.{CallFault}
+use Rattle.counted_calls.specs.locked_log.Ends.{AreServed}
+use Rattle.counted_calls.specs.locked_log.store_seat.Seats.{SeatValue}
+use Rattle.counted_calls.specs.locked_log.Sharing.{AreOfSeats, AreSeatsAfter, seat_after}
+use Rattle.counted_calls.specs.locked_log.States.{count_of}
 use Rattle.store_clients.specs.declared.client.Client.{Client}
 use Rattle.store_clients.specs.Clients.{Matches, IsClient, HasMade, IsSeatOf}
 use Rattle.store_clients.specs.Workloads.{AreAccepted, HasServed, IsBack}

@@ -1,2 +1,4 @@
 pub mod Matching
 pub mod Counts
+pub use Rattle.counted_calls.proofs.of_master
+pub use Rattle.counted_calls.proofs.of_locked_log

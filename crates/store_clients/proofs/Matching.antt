@@ -4,7 +4,7 @@ use Rattle.std.proofs.Common.{refl, sym, ap, ◌∙◌, subst, arith, length-app
 use Rattle.std.specs.Prelude.{slice_get, IfOk, IfSome}
 use Rattle.std.proofs.lemmas.Option.{IfSome_then}
 use Rattle.entry.proofs.ListLemmas.{slice_get_left, slice_get_last, slice_get_push}
-use Rattle.store_seat.specs.Seats.{SeatValue}
+use Rattle.counted_calls.specs.locked_log.store_seat.Seats.{SeatValue}
 use Rattle.store_clients.specs.declared.client.Client.{Client}
 use Rattle.store_clients.specs.declared.client.Rounds.{Rounds}
 use Rattle.store_clients.specs.Clients.{Matches, IsClient, IsAsked, IsKept}

@@ -1,6 +1,6 @@
 -- What becomes of clients.
 use Rattle.std.specs.Prelude.{◌≡◌, ◌≤◌, ℕ, ◌+◌, ◌*◌, Some, List, length, slice_get, IfOk, IfSome}
-use Rattle.store_seat.specs.Seats.{SeatValue}
+use Rattle.counted_calls.specs.locked_log.store_seat.Seats.{SeatValue}
 use Rattle.store_clients.specs.declared.client.Client.{Client}
 use Rattle.store_clients.specs.declared.client.Rounds.{Rounds}
 

@@ -1,8 +1,8 @@
 //! The cleaner that runs beside clients.
 
+use counted_calls::locked_log::{CleanTurn, Naming, Store};
+use counted_calls::master::{PassFault, Refusal, StepAnswer};
 use entry::Row;
-use locked_log::{CleanTurn, Naming, Store};
-use master::{PassFault, Refusal, StepAnswer};
 use replica::Fleet;
 use std::alloc::Global;
 use std::sync::Wait;

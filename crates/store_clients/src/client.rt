@@ -4,10 +4,10 @@ ghost use Rattle.std.specs.Prelude.{◌≡◌, ◌+◌, ◌*◌, ◌≤◌, ◌<
 
 use crate::task::Task;
 use counted_calls::call;
+use counted_calls::locked_log::{CallFault, Naming, Seat, Store};
+use counted_calls::master::{Command, Refusal};
 use entry::NoMemory;
 use gate::Gate;
-use locked_log::{CallFault, Naming, Seat, Store};
-use master::{Command, Refusal};
 use replica::Fleet;
 use std::sync::Wait;
 use std::thread::Promise;

@@ -18,5 +18,6 @@ mod task;
 mod workload;
 
 pub use client::Client;
+pub use counted_calls::{locked_log, master};
 pub use running::run_clients;
 pub use workload::{Outcome, SEATS, Workload, clients_over};

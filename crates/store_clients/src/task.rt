@@ -3,9 +3,9 @@
 ghost use Rattle.std.specs.Prelude.{◌≡◌, IfOk};
 ghost use Rattle.store_clients.specs.Tasks.{key_of, put_of, get_of};
 
+use counted_calls::master::{Command, If};
 use entry::{Key, KeyFault, NoMemory, Value};
 use itoa::Buffer;
-use master::{Command, If};
 use std::alloc::Global;
 
 /// The table that clients write.

@@ -2,22 +2,22 @@
 
 ghost use Rattle.std.specs.Prelude.{◌≡◌, ◌≤◌, ◌<◌, ◌*◌, ◌+◌, ◌++◌, ◌^◌, List, IfOk, OnOk, IsTrue, None};
 ghost use Rattle.std.specs.Prelude.{length, drop, take, replicate};
-ghost use Rattle.failover_model.specs.Data.{durable_of};
-ghost use Rattle.master_state.specs.Log.{log_of};
-ghost use Rattle.locked_log.specs.Made.{IsMade, made_now};
-ghost use Rattle.store_seat.specs.Seats.{SeatValue};
-ghost use Rattle.locked_log.specs.Sharing.{AreSeatsAfter};
-ghost use Rattle.master.specs.Valid.{IsValid};
-ghost use Rattle.master.specs.World.{world};
+ghost use Rattle.counted_calls.specs.master.failover_model.Data.{durable_of};
+ghost use Rattle.counted_calls.specs.master.master_state.Log.{log_of};
+ghost use Rattle.counted_calls.specs.locked_log.Made.{IsMade, made_now};
+ghost use Rattle.counted_calls.specs.locked_log.store_seat.Seats.{SeatValue};
+ghost use Rattle.counted_calls.specs.locked_log.Sharing.{AreSeatsAfter};
+ghost use Rattle.counted_calls.specs.master.Valid.{IsValid};
+ghost use Rattle.counted_calls.specs.master.World.{world};
 ghost use Rattle.store_clients.specs.Clients.{Matches};
 ghost use Rattle.store_clients.specs.Workloads.{AreAccepted, HasServed, IsBack};
 
 use crate::client::Client;
 use crate::running::run_clients;
+use counted_calls::locked_log::{Blank, CallFault, Naming, Seat, ShareFault, Store};
+use counted_calls::master::{Master, Refusal};
 use counted_calls::take_back;
 use gate::Gate;
-use locked_log::{Blank, CallFault, Naming, Seat, ShareFault, Store};
-use master::{Master, Refusal};
 use replica::Fleet;
 use std::alloc::Global;
 use std::marker::Brand;

@@ -1,0 +1,1 @@
+pub use Rattle.script.proofs.of_locked_log

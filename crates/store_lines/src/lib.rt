@@ -19,5 +19,7 @@ pub use command::command_of;
 pub use dialogue::Dialogue;
 pub use fault::{LineFault, tell};
 pub use looks::{look_line, renew};
+pub use script;
+pub use script::{locked_log, master, recovery, replay};
 pub use succession::{FIRST_MASTER, first_master, next_config, want};
 pub use turns::{Phase, refuse, take_all, turn_line};

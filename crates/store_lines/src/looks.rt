@@ -3,8 +3,8 @@
 use backup::MemoryFleet;
 use entry::{NoMemory, Row, Size};
 use lines::Line;
-use locked_log::{Naming, Store};
-use master::{Look, Refusal, Shown};
+use script::locked_log::{Naming, Store};
+use script::master::{Look, Refusal, Shown};
 use script::{Answer, Limits, Options, configuration};
 use std::alloc::Global;
 use std::sync::Wait;

@@ -5,9 +5,9 @@ use crate::fault::LineFault;
 use backup::MemoryFleet;
 use entry::{NoMemory, Row};
 use lines::Line;
-use locked_log::{CleanTurn, Naming, Store};
-use master::{Look, PassFault, Refusal, Shown, StepAnswer};
 use script::Answer;
+use script::locked_log::{CleanTurn, Naming, Store};
+use script::master::{Look, PassFault, Refusal, Shown, StepAnswer};
 use std::alloc::Global;
 use std::sync::Wait;
 

@@ -1,6 +1,6 @@
 -- How a seat comes by a record of its own again.
 use Rattle.std.specs.Prelude.{◌≡◌, ◌≤◌, ℕ, List, Some, Result, Ok, Err, slice_get}
-use Rattle.master_state.specs.declared.step.Refusal.TheVariants as refusal
+use Rattle.master_core.specs.master_state.declared.step.Refusal.TheVariants as refusal
 use Rattle.versioned_map.specs.declared.command.Command.{Command}
 use Rattle.versioned_map.specs.declared.command.Record.{Record}
 use Rattle.versioned_map.specs.declared.command.Reply.{Reply}

@@ -1,8 +1,8 @@
 -- What a store was made of.
 use Rattle.std.specs.Prelude.{ℕ, List, []}
 use Rattle.versioned_map.specs.declared.command.Record.{Record}
-use Rattle.master_state.specs.declared.config.Config.{Config}
-use Rattle.master_state.specs.Data.{Origin, no_origin}
+use Rattle.master_core.specs.master_state.declared.config.Config.{Config}
+use Rattle.master_core.specs.master_state.Data.{Origin, no_origin}
 use Rattle.places.specs.Secrets.{fast_hasher}
 
 -- How many seats it has, the configuration of its master, what the history began with, which records it had when the

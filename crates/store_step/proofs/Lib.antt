@@ -1,0 +1,1 @@
+pub use Rattle.master.proofs as of_master

@@ -1,1 +1,2 @@
 pub mod Turns
+pub use Rattle.master.specs as master

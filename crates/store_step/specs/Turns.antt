@@ -2,14 +2,14 @@
 use Rattle.std.specs.Prelude.{◌≡◌, ◌⊎◌, ℕ, Option, Some, None, Result, Ok, Err}
 use Rattle.versioned_map.specs.declared.command.Command.{Command}
 use Rattle.versioned_map.specs.declared.command.Reply.{Reply}
-use Rattle.master_space.specs.Choosing.{next_step, NeedsChoice}
-use Rattle.master_state.specs.Data.{MasterData}
-use Rattle.master_state.specs.declared.step.Refusal.{Refusal}
-use Rattle.master_state.specs.declared.step.Refusal.TheVariants as refusal
-use Rattle.master_state.specs.declared.step.Step.{Step}
-use Rattle.master_state.specs.declared.step.Step.TheVariants as step
-use Rattle.master_state.specs.declared.step.StepAnswer.{StepAnswer}
-use Rattle.master_state.specs.declared.step.StepAnswer.TheVariants.{Applied}
+use Rattle.master.specs.master_space.Choosing.{next_step, NeedsChoice}
+use Rattle.master.specs.master_state.Data.{MasterData}
+use Rattle.master.specs.master_state.declared.step.Refusal.{Refusal}
+use Rattle.master.specs.master_state.declared.step.Refusal.TheVariants as refusal
+use Rattle.master.specs.master_state.declared.step.Step.{Step}
+use Rattle.master.specs.master_state.declared.step.Step.TheVariants as step
+use Rattle.master.specs.master_state.declared.step.StepAnswer.{StepAnswer}
+use Rattle.master.specs.master_state.declared.step.StepAnswer.TheVariants.{Applied}
 use Rattle.master.specs.Steps.{Accepts, Declines, Steps}
 use Rattle.master.specs.World.{World}
 use Rattle.store_step.specs.declared.turn.CleanTurn.{CleanTurn}

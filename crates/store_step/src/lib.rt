@@ -7,5 +7,6 @@
 mod steps;
 mod turn;
 
+pub use master;
 pub use steps::{apply_command, make_turn};
 pub use turn::CleanTurn;

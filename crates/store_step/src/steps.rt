@@ -4,7 +4,7 @@ ghost use Rattle.std.specs.Prelude.{◌≡◌, None, IfOk, OnErr};
 ghost use Rattle.master.specs.Keeps.{Keeps};
 ghost use Rattle.master.specs.Valid.{IsValid};
 ghost use Rattle.master.specs.World.{world};
-ghost use Rattle.master_space.specs.Choosing.{NeedsChoice};
+ghost use Rattle.master.specs.master_space.Choosing.{NeedsChoice};
 ghost use Rattle.store_step.specs.Turns.{step_of, MakesTurn, MakesCommand};
 
 use crate::turn::CleanTurn;

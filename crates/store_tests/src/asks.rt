@@ -3,12 +3,12 @@
 use crate::marks::is_free;
 use crate::slow::Watch;
 use entry::{Key, MAX_VALUE_LEN, Value};
-use locked_log::{CallFault, CleanTurn, Naming, Receipt, Seat, Store};
-use master::{Command, If, Refusal, Reply, StepAnswer};
 use replica::{Bench, Fleet};
 use std::alloc::Global;
 use std::sync::Wait;
 use std::thread::Threads;
+use store_clients::locked_log::{CallFault, CleanTurn, Naming, Receipt, Seat, Store};
+use store_clients::master::{Command, If, Refusal, Reply, StepAnswer};
 
 /// A command of the tests. A put has a key and a value.
 pub enum Do {

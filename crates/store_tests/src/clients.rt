@@ -5,13 +5,13 @@ use crate::masters::{Morning, RECORDS, has_no_pass, prepare, small_master};
 use crate::slow::Watch;
 use gate::{Gate, NoGate};
 use holding::Holding;
-use locked_log::CallFault;
-use master::{Master, Refusal, ReplyRef};
 use replica::Fleet;
 use std::alloc::Global;
 use std::sync::Wait;
 use std::test::Fail;
 use std::thread::Threads;
+use store_clients::locked_log::CallFault;
+use store_clients::master::{Master, Refusal, ReplyRef};
 use store_clients::{Outcome, Workload, clients_over};
 
 /// How many clients, how many rounds of each, and how many passes.

@@ -4,8 +4,8 @@
 use crate::asks::{Act, Do};
 use crate::slow::Watch;
 use crate::stores::run_day;
-use master::{If, Refusal};
 use std::test::Fail;
+use store_clients::master::{If, Refusal};
 
 /// Puts and a delete whose conditions hold or don't.
 const CONDITIONS: &[(usize, Act)] = &[

@@ -1,11 +1,11 @@
 //! The mark is raised and read while the lock is held.
 
 use crate::slow::Watch;
-use locked_log::{CleanTurn, Naming, Receipt, Seat, Store};
 use replica::Fleet;
 use std::sync::Wait;
 use std::thread;
 use std::thread::Threads;
+use store_clients::locked_log::{CleanTurn, Naming, Receipt, Seat, Store};
 
 /// Whether one seat raises the mark by the receipt and another reads it, while a push of another thread waits and holds
 /// the lock. A body that locks the store for the mark reaches the limit of turns, and the push isn't let go.

@@ -2,15 +2,15 @@
 
 ghost use Rattle.std.specs.Prelude.{◌≡◌, ◌≤◌, ℕ, [], None, IfSome};
 ghost use Rattle.backup.specs.State.{fleet_state};
-ghost use Rattle.master.specs.Registry.{IsUnraised};
-ghost use Rattle.master_state.specs.Config.{config_fault};
+ghost use Rattle.store_clients.specs.master.Registry.{IsUnraised};
+ghost use Rattle.store_clients.specs.master.master_state.Config.{config_fault};
 
 use crate::slow::{SlowFleet, Watch};
 use backup::MemoryFleet;
 use entry::{Row, Tablet, Tablets};
-use master::{Config, KeyHasher, Master, PassFault, Refusal, Step};
 use replica::Fleet;
 use std::alloc::Global;
+use store_clients::master::{Config, KeyHasher, Master, PassFault, Refusal, Step};
 
 /// How many records its history may have.
 pub const RECORDS: u64 = 24;

@@ -1,20 +1,20 @@
 //! Days of a store, and how they end.
 
 ghost use Rattle.std.specs.Prelude.{◌≡◌, ◌≤◌};
-ghost use Rattle.locked_log.specs.Ends.{IsFresh};
-ghost use Rattle.locked_log.specs.Made.{IsMade};
-ghost use Rattle.master.specs.World.{world};
+ghost use Rattle.store_clients.specs.locked_log.Ends.{IsFresh};
+ghost use Rattle.store_clients.specs.locked_log.Made.{IsMade};
+ghost use Rattle.store_clients.specs.master.World.{world};
 
 use crate::asks::{Act, is_answered};
 use crate::masters::{RECORDS, small_master};
 use crate::slow::{SlowFleet, Watch};
-use locked_log::{Blank, Naming, Receipt, Row, Seat, Store};
-use master::Master;
 use replica::{Bench, Fleet};
 use std::alloc::Global;
 use std::marker::Brand;
 use std::sync::Wait;
 use std::thread::Threads;
+use store_clients::locked_log::{Blank, Naming, Receipt, Row, Seat, Store};
+use store_clients::master::Master;
 
 /// How many were answered as wanted up to the first that was not, and the place behind the last receipt that the row
 /// told.

@@ -1,9 +1,9 @@
 use Rattle.std.proofs.Common.{◌≡◌, Bool, true, ℕ, ◌++◌, ◌∙◌, subst, sym}
 use Rattle.std.specs.Prelude.{codes}
 use Rattle.std.specs.Fmt.{decimal}
-use Rattle.master_state.specs.declared.config.Config.{Config}
-use Rattle.master_state.specs.declared.config.ConfigFault.{ConfigFault}
-use Rattle.master_state.specs.declared.config.ConfigFault.TheVariants.{BadBackups, BadSegment, BadBudget}
+use Rattle.recovery.specs.master.master_state.declared.config.Config.{Config}
+use Rattle.recovery.specs.master.master_state.declared.config.ConfigFault.{ConfigFault}
+use Rattle.recovery.specs.master.master_state.declared.config.ConfigFault.TheVariants.{BadBackups, BadSegment, BadBudget}
 use Rattle.answers.specs.Errors.{Errors, Writes}
 use Rattle.answers.specs.Texts.{config_why_line, error_line}
 use Rattle.answers.proofs.fault.write_config_why.Goals as goal

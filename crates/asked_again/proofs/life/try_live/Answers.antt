@@ -1,6 +1,6 @@
 use Rattle.backup.specs.State.{fleet_state}
-use Rattle.locked_log.proofs.Lasting.{made_at_first}
-use Rattle.master.specs.World.{world}
+use Rattle.store_lines.proofs.of_locked_log.Lasting.{made_at_first}
+use Rattle.store_lines.specs.master.World.{world}
 use Rattle.asked_again.proofs.life.try_live.Goals as goal
 
 pub live_in-requires-clause-made : goal.live_in-requires-clause-made

@@ -1,6 +1,6 @@
 use Rattle.backup.specs.State.{fleet_state}
-use Rattle.locked_log.specs.Made.{made_now}
-use Rattle.master.specs.World.{world}
+use Rattle.store_lines.specs.locked_log.Made.{made_now}
+use Rattle.store_lines.specs.master.World.{world}
 use Rattle.asked_again.proofs.life.try_live.Given as goal
 
 abbrev pub ghosts-live_in-B-Naming : goal.ghosts-live_in-B-Naming

@@ -1,5 +1,5 @@
 use Rattle.std.proofs.Common.{ap, ◌∙◌}
-use Rattle.master_state.specs.Data.{MasterData}
+use Rattle.store_lines.specs.master.master_state.Data.{MasterData}
 use Rattle.asked_again.proofs.Retired.{same_config, same_history}
 use Rattle.asked_again.proofs.succession.retire.Goals as goal
 

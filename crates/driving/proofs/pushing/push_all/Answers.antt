@@ -1,5 +1,5 @@
 use Rattle.std.proofs.Common.{refl}
-use Rattle.master_state.specs.declared.step.Step.TheVariants.{Push}
+use Rattle.master.specs.master_state.declared.step.Step.TheVariants.{Push}
 use Rattle.driving.proofs.Heads.{one_more}
 use Rattle.driving.proofs.Losses.{goes_lost, goes_ok, push_lowers}
 use Rattle.driving.proofs.MasterSteps.{open_push, spent_push}

@@ -1,6 +1,6 @@
 use Rattle.std.proofs.Common.{[], inl, sym, subst}
 use Rattle.std.specs.Prelude.{Ok, Err}
-use Rattle.master_state.specs.declared.step.Step.TheVariants.{Push}
+use Rattle.master.specs.master_state.declared.step.Step.TheVariants.{Push}
 use Rattle.master.specs.World.{World, world}
 use Rattle.driving.specs.Commands.{ArePushedFor, IsDurable}
 use Rattle.driving.specs.Served.{LivesOn}

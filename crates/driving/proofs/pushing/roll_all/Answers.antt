@@ -1,6 +1,6 @@
 use Rattle.std.proofs.Common.{◌≡◌, inl}
 use Rattle.std.specs.Prelude.{IfErr, IfOk}
-use Rattle.master_state.specs.declared.step.Refusal.TheVariants.{Spent}
+use Rattle.master.specs.master_state.declared.step.Refusal.TheVariants.{Spent}
 use Rattle.driving.specs.Rolls.{IsNotRolled, IsRolled}
 use Rattle.driving.specs.Served.{IsSpent}
 use Rattle.driving.proofs.Heads.{all_rolled, begun, none_rolled, under_way}

@@ -1,6 +1,6 @@
 use Rattle.std.proofs.Common.{inr}
 use Rattle.history.specs.View.{shown_command}
-use Rattle.master_state.specs.Steps.{reply_now}
+use Rattle.master.specs.master_state.Steps.{reply_now}
 use Rattle.master.specs.World.{world}
 use Rattle.driving.proofs.MasterSteps.{applied_goes_on, spent_command}
 use Rattle.driving.proofs.Tries.{served_at, cut_short}

@@ -4,16 +4,16 @@ use Rattle.replica.specs.Op.{OpValue, shown_op}
 use Rattle.replica.specs.Picture.{FleetState}
 use Rattle.replica.specs.Take.{Takes, Refuses}
 use Rattle.replica.specs.declared.op.TakeFault.{TakeFault}
-use Rattle.log_model.specs.Ids.{has}
-use Rattle.failover_model.specs.Shown.{Op}
-use Rattle.failover_bytes.specs.Ops.{TakesOp}
-use Rattle.master_mending.specs.declared.mending.Mend.{Mend}
-use Rattle.master_mending.specs.Mending.{IsLater, backup_for, mended_data}
-use Rattle.master_state.specs.declared.step.StepAnswer.{StepAnswer}
-use Rattle.master_state.specs.Data.{MasterData}
-use Rattle.master_state.specs.Invariant.{IsCore}
-use Rattle.master_state.specs.Log.{home}
-use Rattle.master_state.specs.Steps.{failed_data}
+use Rattle.log_head.specs.log_model.Ids.{has}
+use Rattle.master_core.specs.failover_model.Shown.{Op}
+use Rattle.master_core.specs.failover_bytes.Ops.{TakesOp}
+use Rattle.master_core.specs.master_mending.declared.mending.Mend.{Mend}
+use Rattle.master_core.specs.master_mending.Mending.{IsLater, backup_for, mended_data}
+use Rattle.master_core.specs.master_state.declared.step.StepAnswer.{StepAnswer}
+use Rattle.master_core.specs.master_state.Data.{MasterData}
+use Rattle.master_core.specs.master_state.Invariant.{IsCore}
+use Rattle.master_core.specs.master_state.Log.{home}
+use Rattle.master_core.specs.master_state.Steps.{failed_data}
 use Rattle.master.specs.Invariant.{StaysServed}
 use Rattle.master.specs.Mends.{MendsOn, answer_for}
 use Rattle.master.specs.World.{world_of}

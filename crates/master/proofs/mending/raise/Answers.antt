@@ -2,9 +2,9 @@ use Rattle.std.proofs.Common.{inr, ℕ, sym, subst}
 use Rattle.replica.specs.Picture.{FleetState}
 use Rattle.replica.specs.Registry.{Raises, RefusesRaise}
 use Rattle.replica.specs.declared.op.TakeFault.{TakeFault}
-use Rattle.master_mending.specs.declared.mending.Mend.TheVariants as mend
-use Rattle.master_state.specs.Data.{MasterData}
-use Rattle.master_state.specs.Invariant.{IsCore}
+use Rattle.master_core.specs.master_mending.declared.mending.Mend.TheVariants as mend
+use Rattle.master_core.specs.master_state.Data.{MasterData}
+use Rattle.master_core.specs.master_state.Invariant.{IsCore}
 use Rattle.master.specs.Invariant.{StaysServed}
 use Rattle.master.proofs.MendServed.{served_mends, served_mended, raise_declines, raise_keeps}
 use Rattle.master.proofs.mending.raise.Given as given

@@ -3,7 +3,7 @@ use Rattle.std.proofs.Common.{subst, ◌∙◌, arith}
 use Rattle.std.specs.Prelude.{Option, Some, None, IfSome, IsSome, Ok, if◌then◌else◌}
 use Rattle.std.specs.Option.{option_map, option_map_or}
 use Rattle.std.proofs.lemmas.Result.{err_from_is_err_and}
-use Rattle.cleaner.specs.declared.pass.Pass.{Pass}
+use Rattle.master_core.specs.cleaner.declared.pass.Pass.{Pass}
 use Rattle.images.specs.Image.{Image}
 use Rattle.images.specs.Images.{ImagesValue}
 use Rattle.replica.specs.Op.{OpValue}
@@ -12,19 +12,19 @@ use Rattle.replica.specs.Take.{Refuses}
 use Rattle.replica.specs.declared.op.TakeFault.TheVariants as take_fault
 use Rattle.log_head.specs.declared.head.Roll.{Roll}
 use Rattle.log_head.specs.Head.{IsHeadValue}
-use Rattle.master_mending.specs.declared.mending.Mend.TheVariants as mend
-use Rattle.master_mending.specs.declared.turning.NewHead.{NewHead}
-use Rattle.master_mending.specs.Mending.{IsNextMend, IsNewHead, MayPut, put_data, turned_data, mended_data}
-use Rattle.master_mending.specs.Mending.{backup_for}
-use Rattle.master_mending.proofs.Changed.{own}
-use Rattle.master_mending.proofs.TurnedCore.{turned_next, turned_is}
-use Rattle.master_state.specs.contracts.state.Core.{the_view}
-use Rattle.master_state.specs.Budget.{is_ready, may_turn, victims_of, is_committing}
-use Rattle.master_state.specs.Data.{MasterData}
-use Rattle.master_state.specs.Invariant.{IsCore, AreImagesOf}
-use Rattle.master_state.specs.Log.{home}
-use Rattle.master_state.specs.Steps.{halted}
-use Rattle.master_state.proofs.Refusals.{sizes_of}
+use Rattle.master_core.specs.master_mending.declared.mending.Mend.TheVariants as mend
+use Rattle.master_core.specs.master_mending.declared.turning.NewHead.{NewHead}
+use Rattle.master_core.specs.master_mending.Mending.{IsNextMend, IsNewHead, MayPut, put_data, turned_data, mended_data}
+use Rattle.master_core.specs.master_mending.Mending.{backup_for}
+use Rattle.master_core.proofs.master_mending.Changed.{own}
+use Rattle.master_core.proofs.master_mending.TurnedCore.{turned_next, turned_is}
+use Rattle.master_core.specs.master_state.contracts.state.Core.{the_view}
+use Rattle.master_core.specs.master_state.Budget.{is_ready, may_turn, victims_of, is_committing}
+use Rattle.master_core.specs.master_state.Data.{MasterData}
+use Rattle.master_core.specs.master_state.Invariant.{IsCore, AreImagesOf}
+use Rattle.master_core.specs.master_state.Log.{home}
+use Rattle.master_core.specs.master_state.Steps.{halted}
+use Rattle.master_core.proofs.master_state.Refusals.{sizes_of}
 use Rattle.master.specs.Invariant.{StaysServed}
 use Rattle.master.specs.Mends.{first_open, OpensFirst}
 use Rattle.master.proofs.MendFirsts.{stuck_served, put_valid, turning_core, turn_not_wrong, turn_mends, turn_mended}

@@ -7,18 +7,18 @@ use Rattle.log_head.specs.declared.next.Next.{Next}
 use Rattle.log_head.specs.Head.{HeadValue}
 use Rattle.log_head.specs.Next.{IsNextPush, replica_of, segment_of, op_of}
 use Rattle.log_head.proofs.NextOps.{next_has_op}
-use Rattle.log_model.specs.Ids.{has}
-use Rattle.log_model.specs.Ops.{op_of as log_op_of}
-use Rattle.failover_bytes.specs.Ops.{log_op_for}
-use Rattle.master_state.specs.declared.step.StepAnswer.{StepAnswer}
-use Rattle.master_state.specs.declared.step.Step.TheVariants.{Push}
-use Rattle.master_state.specs.declared.step.Refusal.{Refusal}
-use Rattle.master_state.specs.Data.{MasterData}
-use Rattle.master_state.specs.Invariant.{IsCore}
-use Rattle.master_state.specs.Log.{home}
-use Rattle.master_state.specs.Steps.{taken_data, backup_of, ledger_after, pushed_data, refusal_of, failed_data}
-use Rattle.master_state.proofs.Posted.{posted_core}
-use Rattle.master_space.proofs.Taken.{taken_images}
+use Rattle.log_head.specs.log_model.Ids.{has}
+use Rattle.log_head.specs.log_model.Ops.{op_of as log_op_of}
+use Rattle.master_core.specs.failover_bytes.Ops.{log_op_for}
+use Rattle.master_core.specs.master_state.declared.step.StepAnswer.{StepAnswer}
+use Rattle.master_core.specs.master_state.declared.step.Step.TheVariants.{Push}
+use Rattle.master_core.specs.master_state.declared.step.Refusal.{Refusal}
+use Rattle.master_core.specs.master_state.Data.{MasterData}
+use Rattle.master_core.specs.master_state.Invariant.{IsCore}
+use Rattle.master_core.specs.master_state.Log.{home}
+use Rattle.master_core.specs.master_state.Steps.{taken_data, backup_of, ledger_after, pushed_data, refusal_of, failed_data}
+use Rattle.master_core.proofs.master_state.Posted.{posted_core}
+use Rattle.master_core.proofs.master_space.Taken.{taken_images}
 use Rattle.master.specs.Invariant.{StaysServed}
 use Rattle.master.specs.Pushes.{Pushes, answer_of}
 use Rattle.master.specs.Steps.{Declines}

@@ -1,6 +1,6 @@
 use Rattle.std.proofs.Common.{◌≤◌, arith}
-use Rattle.failover_model.specs.Data.{durable_of}
-use Rattle.master_state.specs.Log.{log_of}
+use Rattle.master_core.specs.failover_model.Data.{durable_of}
+use Rattle.master_core.specs.master_state.Log.{log_of}
 use Rattle.master.proofs.PushedFor.{served_count}
 use Rattle.master.proofs.pushing.mend_for.Goals.{in-Ok, in-Err}
 use Rattle.master.proofs.pushing.mend_for.Goals as goal

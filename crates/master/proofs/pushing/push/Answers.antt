@@ -1,7 +1,7 @@
 use Rattle.std.proofs.Common.{inl, refl, sym, ap, ◌∙◌}
 use Rattle.std.specs.Prelude.{is_some}
-use Rattle.master_state.specs.Data.{MasterData}
-use Rattle.master_state.proofs.Refusals.{push_done}
+use Rattle.master_core.specs.master_state.Data.{MasterData}
+use Rattle.master_core.proofs.master_state.Refusals.{push_done}
 use Rattle.master.proofs.InForce.{none_open}
 use Rattle.master.proofs.pushing.push.Goals as goal
 

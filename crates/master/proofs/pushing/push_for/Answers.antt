@@ -1,6 +1,6 @@
 use Rattle.std.proofs.Common.{inl, refl, sym, ap, ◌∙◌}
 use Rattle.std.specs.Prelude.{is_some}
-use Rattle.master_state.specs.Data.{MasterData}
+use Rattle.master_core.specs.master_state.Data.{MasterData}
 use Rattle.master.proofs.InForce.{none_open}
 use Rattle.master.proofs.PushedFor.{is_counted, awaits}
 use Rattle.master.proofs.pushing.push_for.Goals.{in-Ok, in-Err}

@@ -3,7 +3,7 @@ use Rattle.std.specs.Prelude.{Err}
 use Rattle.replica.specs.declared.op.TakeFault.{TakeFault}
 use Rattle.replica.specs.Picture.{FleetState}
 use Rattle.replica.specs.Retire.{Retires}
-use Rattle.master_state.specs.Data.{MasterData}
+use Rattle.master_core.specs.master_state.Data.{MasterData}
 use Rattle.master.specs.Invariant.{IsWellKept}
 use Rattle.master.proofs.Retired.{of_master, retired_kept, halted_kept, going_on}
 use Rattle.master.proofs.retiring.retire.Goals as goal

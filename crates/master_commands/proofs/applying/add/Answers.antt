@@ -12,7 +12,7 @@ use Rattle.master_state.specs.contracts.state.Core.{the_view}
 use Rattle.master_state.specs.Data.{MasterData}
 use Rattle.versioned_map.specs.Command.{command_key}
 use Rattle.master_state.specs.Images.{images_among}
-use Rattle.compactor.specs.Places.{keys_in}
+use Rattle.master_state.specs.compactor.Places.{keys_in}
 use Rattle.master_commands.proofs.Indexed.{IsMovedBy, moved_by}
 use Rattle.master_state.specs.Invariant.{IsCore}
 use Rattle.std.specs.Prelude.{IsSome}

@@ -5,7 +5,7 @@ use Rattle.entry.specs.declared.entry.Object.{Object}
 use Rattle.entry.specs.View.{shown_key}
 use Rattle.places.proofs.Words.{found_is}
 use Rattle.master_state.specs.Images.{images_among}
-use Rattle.compactor.specs.Places.{keys_in}
+use Rattle.master_state.specs.compactor.Places.{keys_in}
 use Rattle.master_commands.proofs.index.find_by_keys.Goals as goal
 
 pub returns-in-None : goal.returns-in-None

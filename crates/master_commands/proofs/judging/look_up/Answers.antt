@@ -5,7 +5,7 @@ use Rattle.master_state.specs.contracts.state.Core.{the_view}
 use Rattle.images.specs.Image.{Image}
 use Rattle.master_state.specs.Data.{MasterData}
 use Rattle.master_state.specs.Images.{images_among}
-use Rattle.compactor.specs.Places.{keys_in}
+use Rattle.master_state.specs.compactor.Places.{keys_in}
 use Rattle.master_state.specs.Index.{FindsObject}
 use Rattle.master_state.specs.Log.{images_of}
 use Rattle.master_state.proofs.Finding.{finds_place, finds_held}

@@ -1,6 +1,6 @@
 use Rattle.std.proofs.Common.{◌≡◌, ℕ, ◌+◌, List, drop, sym, ap, ◌∙◌, arith}
 use Rattle.std.specs.Prelude.{Some}
-use Rattle.cleaner.specs.Seals.{first_lacking}
+use Rattle.master_state.specs.cleaner.Seals.{first_lacking}
 use Rattle.entry.specs.Text.{listed_ids}
 use Rattle.entry.specs.View.{shown_digest, shown_ids}
 use Rattle.log_head.specs.Head.{digest_of}

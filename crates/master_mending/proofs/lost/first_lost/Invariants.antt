@@ -1,5 +1,5 @@
 use Rattle.std.proofs.Common.{◌≡◌, drop}
-use Rattle.cleaner.specs.Seals.{first_lacking}
+use Rattle.master_state.specs.cleaner.Seals.{first_lacking}
 use Rattle.entry.specs.View.{shown_ids}
 use Rattle.log_head.specs.Log.{but_last}
 use Rattle.master_mending.proofs.lost.first_lost.Given as goal

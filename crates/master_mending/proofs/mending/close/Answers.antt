@@ -2,8 +2,8 @@ use Rattle.std.proofs.Common.{◌≡◌, ℕ, ◌+◌, ◌-◌, ◌≤◌, ◌�
 use Rattle.std.proofs.Common.{vec_capacity}
 use Rattle.std.specs.Prelude.{Option, None, IfSome, IsSome, is_none, if◌then◌else◌}
 use Rattle.std.specs.Option.{option_map}
-use Rattle.cleaner.specs.declared.pass.Pass.{Pass}
-use Rattle.cleaner.specs.Seals.{first_lacking}
+use Rattle.master_state.specs.cleaner.declared.pass.Pass.{Pass}
+use Rattle.master_state.specs.cleaner.Seals.{first_lacking}
 use Rattle.entry.specs.declared.entry.Entry.{Entry}
 use Rattle.images.specs.Image.{Image, closed_image}
 use Rattle.images.specs.Images.{ImagesValue}

@@ -1,8 +1,8 @@
 use Rattle.std.proofs.Common.{◌≡◌, [], ◌∷◌, List, sym, ap, subst, ◌∙◌}
 use Rattle.std.specs.Prelude.{Option, Some, None, is_some}
-use Rattle.compactor.proofs.Ids.{copied_some}
+use Rattle.master_space.proofs.compactor.Ids.{copied_some}
 use Rattle.log_head.specs.declared.head.Roll.{Roll}
-use Rattle.log_model.specs.Data.{Start}
+use Rattle.log_head.specs.log_model.Data.{Start}
 use Rattle.master_state.specs.contracts.state.Core.{the_view}
 use Rattle.master_state.specs.declared.failover.Failover.{Failover}
 use Rattle.master_state.specs.declared.failover.Part.TheVariants as part

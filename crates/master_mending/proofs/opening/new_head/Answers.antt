@@ -4,7 +4,7 @@ use Rattle.std.specs.Option.{option_map_or}
 use Rattle.std.specs.List.Sorted.{IsStrictlyIncreasing}
 use Rattle.entry.specs.Limits.{ids_in, AreLengths}
 use Rattle.log_head.specs.Head.{digest_of}
-use Rattle.log_model.specs.Ids.{all_inserted, without}
+use Rattle.log_head.specs.log_model.Ids.{all_inserted, without}
 use Rattle.master_state.specs.contracts.state.Core.{the_view}
 use Rattle.master_state.specs.declared.failover.Failover.{Failover}
 use Rattle.master_state.specs.Budget.{is_ready, may_turn, survivors_of, victims_of}

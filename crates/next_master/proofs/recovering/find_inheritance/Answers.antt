@@ -2,11 +2,11 @@ use Rattle.std.proofs.Common.{◌≡◌, ℕ, suc, max, List, refl, sym, ap, sub
 use Rattle.backup.specs.State.{fleet_state}
 use Rattle.command_line.specs.declared.settings.Options.{Options}
 use Rattle.lines.specs.Grammar.{Recover}
-use Rattle.master_state.specs.declared.config.Config.{Config}
+use Rattle.node.specs.master.master_state.declared.config.Config.{Config}
 use Rattle.replica.specs.declared.holding.Holding.{Holding}
-use Rattle.answers.specs.declared.answer.Answer.{Answer}
+use Rattle.node.specs.answers.declared.answer.Answer.{Answer}
 use Rattle.node.specs.declared.node.Node.TheVariants.{Down}
-use Rattle.recovery.specs.Recovered.{IsRebuiltFrom, IsRefusedFrom}
+use Rattle.node.specs.recovery.Recovered.{IsRebuiltFrom, IsRefusedFrom}
 use Rattle.next_master.specs.Configuration.{config_of, later_options}
 use Rattle.next_master.specs.Numbers.{greatest_of}
 use Rattle.next_master.specs.Recoveries.{FindsNothing, ask, order_named}

@@ -1,6 +1,6 @@
 use Rattle.std.proofs.Common.{IfOk, IfErr, subst}
-use Rattle.recovery.specs.Recovered.{IsRebuiltFrom, IsRefusedFrom, IsSomeLoss}
-use Rattle.rebuilding.specs.declared.order.GroupOrder.{GroupOrder}
+use Rattle.node.specs.recovery.Recovered.{IsRebuiltFrom, IsRefusedFrom, IsSomeLoss}
+use Rattle.node.specs.replay.rebuilding.declared.order.GroupOrder.{GroupOrder}
 use Rattle.next_master.proofs.recovering.recover_by.Goals as goal
 
 pub returns-in-Threads-clause-refused : goal.returns-in-Threads-clause-refused

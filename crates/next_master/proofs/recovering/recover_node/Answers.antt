@@ -3,10 +3,10 @@ use Rattle.std.specs.Prelude.{None, IfSome}
 use Rattle.backup.specs.State.{fleet_state}
 use Rattle.lines.specs.Grammar.{Recover}
 use Rattle.lines.specs.declared.line.ReplayOrder.TheVariants.{Forward}
-use Rattle.master.specs.Registry.{AreUnraisedAbove}
-use Rattle.master_state.specs.declared.config.Config.{Config}
+use Rattle.node.specs.master.Registry.{AreUnraisedAbove}
+use Rattle.node.specs.master.master_state.declared.config.Config.{Config}
 use Rattle.replica.specs.Picture.{FleetState}
-use Rattle.answers.specs.declared.answer.Answer.TheVariants as answer
+use Rattle.node.specs.answers.declared.answer.Answer.TheVariants as answer
 use Rattle.node.specs.declared.node.Node.{Node}
 use Rattle.node.specs.declared.node.Node.TheVariants.{Down}
 use Rattle.next_master.specs.Configuration.{config_of}

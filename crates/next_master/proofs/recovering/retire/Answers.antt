@@ -3,10 +3,10 @@ use Rattle.std.specs.Prelude.{None, Some, Err}
 use Rattle.replica.specs.declared.op.TakeFault.{TakeFault}
 use Rattle.std.proofs.lemmas.Option.{same_Some}
 use Rattle.backup.specs.State.{fleet_state}
-use Rattle.master.specs.Valid.{IsValid}
-use Rattle.master.specs.World.{World, world, retired_data}
-use Rattle.master_state.specs.Data.{MasterData}
-use Rattle.answers.specs.declared.answer.Answer.TheVariants.{NotRetired}
+use Rattle.node.specs.master.Valid.{IsValid}
+use Rattle.node.specs.master.World.{World, world, retired_data}
+use Rattle.node.specs.master.master_state.Data.{MasterData}
+use Rattle.node.specs.answers.declared.answer.Answer.TheVariants.{NotRetired}
 use Rattle.node.specs.declared.node.Node.{Node}
 use Rattle.node.specs.declared.node.Node.TheVariants.{Up}
 use Rattle.next_master.specs.Recoveries.{EndsFreeing, HasNoOther}

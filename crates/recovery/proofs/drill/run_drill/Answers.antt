@@ -1,7 +1,7 @@
 use Rattle.std.proofs.Common.{◌≡◌, ◌∙◌, ℕ, ap, subst, sym}
 use Rattle.std.specs.Prelude.{Result, IfOk, IfErr}
 use Rattle.claims.specs.declared.rebuilt.Rebuilt.{Rebuilt}
-use Rattle.master.specs.World.{world}
+use Rattle.replay.specs.master.World.{world}
 use Rattle.recovery.specs.declared.recovery.RecoveryFault.{RecoveryFault}
 use Rattle.recovery.specs.declared.recovery.RecoveryFault.TheVariants as fault
 use Rattle.recovery_plan.specs.declared.fault.PlanFault.TheVariants as plan_fault

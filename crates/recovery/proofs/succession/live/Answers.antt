@@ -1,9 +1,9 @@
 use Rattle.std.proofs.Common.{suc, refl, subst}
 use Rattle.std.specs.Prelude.{Result}
 use Rattle.claims.specs.declared.rebuilt.Rebuilt.{Rebuilt}
-use Rattle.master.specs.World.{world}
+use Rattle.replay.specs.master.World.{world}
 use Rattle.recovery.specs.declared.recovery.RecoveryFault.{RecoveryFault}
-use Rattle.master_state.specs.declared.config.Config.{Config}
+use Rattle.replay.specs.master.master_state.declared.config.Config.{Config}
 use Rattle.recovery.specs.Succession.{IsDrillBy, IsSuccessor}
 use Rattle.recovery.proofs.Following.{config_of_next, drill_by, drill_newest, newest_again, is_not_adopted}
 use Rattle.recovery.proofs.succession.live.Goals as goal

@@ -1,5 +1,5 @@
 use Rattle.std.proofs.Common.{List, subst, sym, arith}
-use Rattle.master.specs.World.{world}
+use Rattle.replay.specs.master.World.{world}
 use Rattle.recovery.specs.declared.succession.Lived.{Lived}
 use Rattle.recovery.specs.declared.succession.End.TheVariants as the_end
 use Rattle.recovery.specs.Succession.{AreDrilled}

@@ -1,5 +1,5 @@
 use Rattle.std.proofs.Common.{◌≡◌, ◌≤◌, length, take, vec_len, vec_capacity}
-use Rattle.master.specs.World.{world}
+use Rattle.replay.specs.master.World.{world}
 use Rattle.recovery.specs.Succession.{IsNewest, AreLived, with_number}
 use Rattle.recovery.proofs.succession.run_lives.Given as goal
 

@@ -1,6 +1,6 @@
 use Rattle.std.proofs.Common.{◌≡◌, suc, ap, subst, arith}
 use Rattle.replay.specs.Adopting.{DeclinesList}
-use Rattle.master_state.specs.declared.config.Config.{Config}
+use Rattle.replay.specs.master.master_state.declared.config.Config.{Config}
 use Rattle.recovery.specs.Succession.{with_number}
 use Rattle.recovery.proofs.Following.{config_next, is_successor, adopted_newest}
 use Rattle.recovery.proofs.succession.succeed.Goals as goal

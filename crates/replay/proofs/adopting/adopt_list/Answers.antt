@@ -1,5 +1,5 @@
 use Rattle.std.proofs.Common.{ap, refl}
-use Rattle.master.specs.World.{world}
+use Rattle.driving.specs.master.World.{world}
 use Rattle.replay.proofs.AdoptedList.{adopted_is, adopts, all_done, adopted_from, stops_spent}
 use Rattle.replay.proofs.LoadList.{new_list}
 use Rattle.replay.proofs.LoadSteps.{all_keeps, stops_adopts}

@@ -1,6 +1,6 @@
 use Rattle.std.proofs.Common.{rules, ◌++◌, ◌∷◌, [], refl, sym, subst, ◌∙◌}
 use Rattle.entry.specs.View.{shown_object}
-use Rattle.master.specs.World.{world}
+use Rattle.driving.specs.master.World.{world}
 use Rattle.replay.specs.Adopting.{Stops}
 use Rattle.replay.specs.Fresh.{AreNew}
 use Rattle.replay.proofs.LoadList.{new_first, new_rest, done_more, stops_in_list, list_loaded, list_stopped}

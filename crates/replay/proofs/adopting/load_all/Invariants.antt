@@ -1,6 +1,6 @@
 use Rattle.std.proofs.Common.{◌≡◌, ◌++◌, List}
 use Rattle.entry.specs.declared.entry.Object.{Object}
-use Rattle.master.specs.World.{world}
+use Rattle.driving.specs.master.World.{world}
 use Rattle.replay.specs.Adopting.{HasLoaded}
 use Rattle.replay.specs.Fresh.{AreNew}
 use Rattle.replay.proofs.adopting.load_all.Given as goal

@@ -1,7 +1,7 @@
 use Rattle.std.proofs.Common.{◌<◌, ap, refl, subst}
 use Rattle.std.proofs.lemmas.Result.{err_from_is_err_and}
 use Rattle.entry.specs.View.{shown_object}
-use Rattle.master.specs.World.{world}
+use Rattle.driving.specs.master.World.{world}
 use Rattle.driving.proofs.Losses.{left_to_push}
 use Rattle.replay.proofs.LoadList.{new_still, load_not_nothing, load_same, room_kept, one_loaded, one_declined}
 use Rattle.replay.proofs.LoadList.{more_room, no_room}

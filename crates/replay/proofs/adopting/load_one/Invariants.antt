@@ -1,5 +1,5 @@
 use Rattle.entry.specs.View.{shown_object}
-use Rattle.master.specs.World.{world}
+use Rattle.driving.specs.master.World.{world}
 use Rattle.replay.proofs.LoadList.{HasRoom}
 use Rattle.driving.proofs.Losses.{left_to_push}
 use Rattle.replay.proofs.adopting.load_one.Given as goal

@@ -1,8 +1,8 @@
 use Rattle.std.proofs.Common.{◌≡◌, Some, inl, inr, refl, subst, sym}
-use Rattle.master_state.specs.declared.config.Config.{Config}
-use Rattle.master_state.specs.Config.{config_fault}
-use Rattle.answers.specs.Errors.{Writes}
-use Rattle.answers.specs.Texts.{config_lines}
+use Rattle.next_master.specs.master.master_state.declared.config.Config.{Config}
+use Rattle.next_master.specs.master.master_state.Config.{config_fault}
+use Rattle.next_master.specs.answers.Errors.{Writes}
+use Rattle.next_master.specs.answers.Texts.{config_lines}
 use Rattle.script.proofs.Turning.{begins_not}
 use Rattle.script.proofs.program.run_options.Goals as goal
 

@@ -1,7 +1,7 @@
 use Rattle.std.proofs.Common.{◌≡◌, refl, subst}
 use Rattle.std.specs.Io.KnownBytes.{Appends}
-use Rattle.answers.specs.declared.answer.Answer.{Answer}
-use Rattle.answers.specs.Texts.{answer_text}
+use Rattle.next_master.specs.answers.declared.answer.Answer.{Answer}
+use Rattle.next_master.specs.answers.Texts.{answer_text}
 use Rattle.script.specs.declared.outcome.Outcome.{Outcome}
 use Rattle.script.specs.declared.outcome.Outcome.TheVariants as outcome
 use Rattle.script.specs.Sessions.{IsPrintedAs}

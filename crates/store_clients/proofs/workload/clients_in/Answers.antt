@@ -1,9 +1,9 @@
 use Rattle.std.proofs.Common.{ℕ, arith, ap, refl, sym, subst}
-use Rattle.store_seat.specs.Made.{Made}
-use Rattle.locked_log.specs.Made.{IsMade, made_now}
-use Rattle.locked_log.specs.Sharing.{AreOfSeats, AreSeatsAfter}
-use Rattle.locked_log.proofs.Lasting.{made_at_first}
-use Rattle.master.specs.World.{MasterValue, world}
+use Rattle.counted_calls.specs.locked_log.store_seat.Made.{Made}
+use Rattle.counted_calls.specs.locked_log.Made.{IsMade, made_now}
+use Rattle.counted_calls.specs.locked_log.Sharing.{AreOfSeats, AreSeatsAfter}
+use Rattle.counted_calls.proofs.of_locked_log.Lasting.{made_at_first}
+use Rattle.counted_calls.specs.master.World.{MasterValue, world}
 use Rattle.store_clients.proofs.Counts.{accepted, fits}
 use Rattle.store_clients.proofs.workload.clients_in.Goals as goal
 

@@ -1,5 +1,5 @@
-use Rattle.locked_log.specs.Made.{made_now}
-use Rattle.master.specs.World.{world}
+use Rattle.counted_calls.specs.locked_log.Made.{made_now}
+use Rattle.counted_calls.specs.master.World.{world}
 use Rattle.store_clients.proofs.workload.clients_over.Given as goal
 
 abbrev pub ghosts-clients_in-B-Naming : goal.ghosts-clients_in-B-Naming

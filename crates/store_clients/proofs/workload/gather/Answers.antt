@@ -1,6 +1,6 @@
 use Rattle.std.proofs.Common.{[], ◌∷◌, ◌++◌, ap, sym, subst, refl, ◌∙◌, append_assoc, Result, ℕ}
 use Rattle.std.specs.Prelude.{IsOk}
-use Rattle.store_seat.specs.declared.fault.CallFault.{CallFault}
+use Rattle.counted_calls.specs.locked_log.store_seat.declared.fault.CallFault.{CallFault}
 use Rattle.store_clients.specs.Workloads.{IsBack}
 use Rattle.store_clients.proofs.Matching.{matches_push}
 use Rattle.store_clients.proofs.workload.gather.Goals as goal

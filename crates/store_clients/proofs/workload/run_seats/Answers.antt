@@ -1,5 +1,5 @@
 use Rattle.std.proofs.Common.{◌≡◌, ◌+◌, List, ◌++◌, drop, take, ap, subst, ◌∙◌, append_assoc}
-use Rattle.store_seat.specs.Seats.{SeatValue}
+use Rattle.counted_calls.specs.locked_log.store_seat.Seats.{SeatValue}
 use Rattle.store_clients.specs.Clients.{Matches}
 use Rattle.store_clients.specs.Workloads.{HasServed}
 use Rattle.store_clients.proofs.Counts.{all_served}

@@ -1,6 +1,6 @@
 use Rattle.std.proofs.Common.{subst}
-use Rattle.master_state.specs.declared.step.Step.TheVariants.{Apply}
-use Rattle.master_state.specs.declared.step.StepAnswer.{StepAnswer}
+use Rattle.master.specs.master_state.declared.step.Step.TheVariants.{Apply}
+use Rattle.master.specs.master_state.declared.step.StepAnswer.{StepAnswer}
 use Rattle.master.specs.Steps.{Accepts}
 use Rattle.master.specs.World.{world}
 use Rattle.store_step.proofs.steps.apply_command.Goals as goal

@@ -1,6 +1,6 @@
 use Rattle.backup.specs.State.{fleet_state}
-use Rattle.locked_log.specs.Made.{made_now}
-use Rattle.master.specs.World.{world_of}
+use Rattle.store_clients.specs.locked_log.Made.{made_now}
+use Rattle.store_clients.specs.master.World.{world_of}
 use Rattle.store_tests.proofs.stores.run_day.Given as goal
 
 abbrev pub ghosts-day-B-Naming : goal.ghosts-day-B-Naming

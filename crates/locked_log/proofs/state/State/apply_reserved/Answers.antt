@@ -2,12 +2,12 @@ use Rattle.std.proofs.Common.{◌≡◌, rules, refl, ap, sym, ◌∙◌, Ok, Er
 use Rattle.std.proofs.Common.{get_or, subst, inl, arith, ◌<◌}
 use Rattle.std.specs.Prelude.{slice_get}
 use Rattle.versioned_map.specs.declared.command.Record.{Record}
-use Rattle.master.specs.World.{World, world}
+use Rattle.store_step.specs.master.World.{World, world}
 use Rattle.store_seat.specs.declared.fault.CallFault.TheVariants.{CellRefused}
 use Rattle.locked_log.specs.Held.{StateValue, Held, held}
 use Rattle.store_seat.specs.Accounts.{Knows}
 use Rattle.locked_log.specs.States.{IsState, Lasts}
-use Rattle.master_state.specs.declared.config.Config.{Config}
+use Rattle.store_step.specs.master.master_state.declared.config.Config.{Config}
 use Rattle.store_seat.specs.Seats.{record_by}
 use Rattle.locked_log.proofs.Adding.{place_is, history_is}
 use Rattle.locked_log.proofs.Applied.{Done, declines_at, took, missed}

@@ -1,6 +1,6 @@
 use Rattle.std.proofs.Common.{◌∙◌, ap, sym, subst, List, Option, rules}
 use Rattle.versioned_map.specs.declared.command.Record.{Record}
-use Rattle.master.specs.World.{world}
+use Rattle.store_step.specs.master.World.{world}
 use Rattle.history_row.specs.Rows.{IsRowOf}
 use Rattle.store_seat.specs.Accounts.{Knows}
 use Rattle.store_seat.specs.Claims.{Owns}

@@ -1,5 +1,5 @@
 use Rattle.std.proofs.Common.{◌∙◌, ap, sym, Some}
-use Rattle.master_state.specs.Causes.{command_refusal}
+use Rattle.store_step.specs.master.master_state.Causes.{command_refusal}
 use Rattle.locked_log.specs.Held.{StateValue}
 use Rattle.locked_log.proofs.state.State.waits_for_roll.Goals as goal
 

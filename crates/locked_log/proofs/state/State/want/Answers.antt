@@ -1,5 +1,5 @@
 use Rattle.std.proofs.Common.{◌≡◌, rules, refl, ap, sym, ◌∙◌, inl, inr}
-use Rattle.master_state.specs.Causes.{command_refusal}
+use Rattle.store_step.specs.master.master_state.Causes.{command_refusal}
 use Rattle.store_seat.specs.Accounts.{Knows}
 use Rattle.locked_log.specs.Held.{StateValue}
 use Rattle.locked_log.proofs.state.State.want.Goals as goal

@@ -1,6 +1,6 @@
 use Rattle.std.proofs.Common.{List, None, length, replicate, refl, ap, ◌∙◌, subst, arith}
 use Rattle.versioned_map.specs.declared.command.Record.{Record}
-use Rattle.master_state.specs.declared.config.Config.{Config}
+use Rattle.store_step.specs.master.master_state.declared.config.Config.{Config}
 use Rattle.locked_log.specs.Ends.{BlankValue, fresh_book}
 use Rattle.store_seat.specs.Seats.{fresh_seats}
 use Rattle.locked_log.specs.Sharing.{AreFiled}

@@ -3,10 +3,10 @@ use Rattle.std.specs.Prelude.{Result, Ok, Err, OnOk, OnErr}
 use Rattle.entry.specs.declared.entry.Object.{Object}
 use Rattle.entry.specs.View.{shown_object}
 use Rattle.replica.specs.Picture.{FleetState}
-use Rattle.master_state.specs.declared.step.Refusal.{Refusal}
-use Rattle.master_state.specs.Data.{MasterData}
-use Rattle.master_state.specs.Invariant.{IsCore}
-use Rattle.master_state.specs.Loading.{IsBare, Loads, MayLoadNow}
+use Rattle.master_core.specs.master_state.declared.step.Refusal.{Refusal}
+use Rattle.master_core.specs.master_state.Data.{MasterData}
+use Rattle.master_core.specs.master_state.Invariant.{IsCore}
+use Rattle.master_core.specs.master_state.Loading.{IsBare, Loads, MayLoadNow}
 use Rattle.master.specs.Invariant.{IsWellLoaded}
 use Rattle.master.proofs.Loaded.{object_is_loaded}
 use Rattle.master.proofs.loading.Loading.load_object.Goals as goal

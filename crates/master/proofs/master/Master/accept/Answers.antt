@@ -1,7 +1,7 @@
 use Rattle.std.proofs.Common.{ℕ}
 use Rattle.history.specs.View.{shown_command}
-use Rattle.master_state.specs.declared.step.StepAnswer.TheVariants.{Applied}
-use Rattle.master_state.specs.Steps.{reply_now}
+use Rattle.master_core.specs.master_state.declared.step.StepAnswer.TheVariants.{Applied}
+use Rattle.master_core.specs.master_state.Steps.{reply_now}
 use Rattle.master.specs.World.{world}
 use Rattle.master.proofs.Accepted.{command_keeps}
 use Rattle.master.proofs.master.Master.accept.Goals as goal

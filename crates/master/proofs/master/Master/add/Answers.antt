@@ -1,9 +1,9 @@
 use Rattle.std.proofs.Common.{ℕ}
 use Rattle.history.specs.View.{shown_command}
 use Rattle.versioned_map.specs.declared.command.Reply.{Reply}
-use Rattle.master_state.specs.declared.step.StepAnswer.{StepAnswer}
-use Rattle.master_state.specs.declared.step.StepAnswer.TheVariants.{Applied}
-use Rattle.master_state.specs.Steps.{reply_now}
+use Rattle.master_core.specs.master_state.declared.step.StepAnswer.{StepAnswer}
+use Rattle.master_core.specs.master_state.declared.step.StepAnswer.TheVariants.{Applied}
+use Rattle.master_core.specs.master_state.Steps.{reply_now}
 use Rattle.master.proofs.Accepted.{kept_then, accepts, declines}
 use Rattle.master.proofs.master.Master.add.Goals as goal
 

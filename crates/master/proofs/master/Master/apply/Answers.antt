@@ -1,4 +1,4 @@
-use Rattle.master_state.specs.declared.step.StepAnswer.{StepAnswer}
+use Rattle.master_core.specs.master_state.declared.step.StepAnswer.{StepAnswer}
 use Rattle.master.proofs.Accepted.{kept_then, accepts, declines}
 use Rattle.master.proofs.master.Master.apply.Goals as goal
 

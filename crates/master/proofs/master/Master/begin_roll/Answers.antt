@@ -1,12 +1,12 @@
 use Rattle.std.proofs.Common.{◌≡◌, refl, sym, subst}
 use Rattle.std.specs.Prelude.{Result, Ok, Err, IfOk, OnOk, OnErr}
 use Rattle.replica.specs.Picture.{FleetState}
-use Rattle.master_state.specs.declared.step.Refusal.{Refusal}
-use Rattle.master_state.specs.declared.step.Step.TheVariants.{BeginRoll}
-use Rattle.master_state.specs.declared.step.StepAnswer.{StepAnswer}
-use Rattle.master_state.specs.Data.{MasterData}
-use Rattle.master_state.specs.Invariant.{IsCore}
-use Rattle.master_state.specs.Steps.{BeginsRoll, MayRollNow}
+use Rattle.master_core.specs.master_state.declared.step.Refusal.{Refusal}
+use Rattle.master_core.specs.master_state.declared.step.Step.TheVariants.{BeginRoll}
+use Rattle.master_core.specs.master_state.declared.step.StepAnswer.{StepAnswer}
+use Rattle.master_core.specs.master_state.Data.{MasterData}
+use Rattle.master_core.specs.master_state.Invariant.{IsCore}
+use Rattle.master_core.specs.master_state.Steps.{BeginsRoll, MayRollNow}
 use Rattle.master.specs.Invariant.{IsWellKept}
 use Rattle.master.specs.Steps.{Accepts}
 use Rattle.master.specs.World.{world_of}

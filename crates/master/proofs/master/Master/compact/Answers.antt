@@ -1,11 +1,11 @@
 use Rattle.std.proofs.Common.{◌≡◌, ℕ, sym, subst}
 use Rattle.std.specs.Prelude.{Result, Ok, Err, IfOk, OnOk, OnErr}
 use Rattle.replica.specs.Picture.{FleetState}
-use Rattle.master_state.specs.declared.step.Refusal.{Refusal}
-use Rattle.master_state.specs.declared.step.StepAnswer.{StepAnswer}
-use Rattle.master_state.specs.Data.{MasterData}
-use Rattle.master_state.specs.Invariant.{IsCore}
-use Rattle.master_state.specs.Steps.{Compacts}
+use Rattle.master_core.specs.master_state.declared.step.Refusal.{Refusal}
+use Rattle.master_core.specs.master_state.declared.step.StepAnswer.{StepAnswer}
+use Rattle.master_core.specs.master_state.Data.{MasterData}
+use Rattle.master_core.specs.master_state.Invariant.{IsCore}
+use Rattle.master_core.specs.master_state.Steps.{Compacts}
 use Rattle.master.specs.Invariant.{IsWellKept}
 use Rattle.master.proofs.Compacted.{compacted_kept}
 use Rattle.master.proofs.master.Master.compact.Goals as goal

@@ -1,24 +1,24 @@
 use Rattle.std.proofs.Common.{◌≡◌, ℕ, false, refl, sym, ap, subst, ◌∙◌}
 use Rattle.std.specs.Prelude.{Option, Some, None, IsSome, is_none, if◌then◌else◌}
 use Rattle.std.specs.Result.{result_err}
-use Rattle.log_model.specs.Ids.{has}
-use Rattle.log_model.specs.Ops.{op_of}
-use Rattle.failover_model.specs.Shown.{Free as FreeAct}
-use Rattle.failover_bytes.specs.Ops.{log_op_for}
+use Rattle.log_head.specs.log_model.Ids.{has}
+use Rattle.log_head.specs.log_model.Ops.{op_of}
+use Rattle.master_core.specs.failover_model.Shown.{Free as FreeAct}
+use Rattle.master_core.specs.failover_bytes.Ops.{log_op_for}
 use Rattle.replica.specs.Op.{OpValue}
 use Rattle.replica.specs.Op as op
 use Rattle.replica.specs.Picture.{FleetState}
 use Rattle.replica.specs.Take.{Takes, Refuses}
 use Rattle.replica.specs.declared.op.TakeFault.{TakeFault}
-use Rattle.master_state.specs.declared.step.Refusal.TheVariants.{Nothing}
-use Rattle.master_state.specs.declared.step.Step.TheVariants.{Free}
-use Rattle.master_state.specs.declared.step.StepAnswer.TheVariants.{Freed}
-use Rattle.master_state.specs.Causes.{free_refusal, step_refusal}
-use Rattle.master_state.specs.Data.{MasterData}
-use Rattle.master_state.specs.Invariant.{IsCore}
-use Rattle.master_state.specs.Log.{home}
-use Rattle.master_state.specs.Steps.{freed_data, refusal_of, failed_data}
-use Rattle.master_space.proofs.Calm.{calm_parts}
+use Rattle.master_core.specs.master_state.declared.step.Refusal.TheVariants.{Nothing}
+use Rattle.master_core.specs.master_state.declared.step.Step.TheVariants.{Free}
+use Rattle.master_core.specs.master_state.declared.step.StepAnswer.TheVariants.{Freed}
+use Rattle.master_core.specs.master_state.Causes.{free_refusal, step_refusal}
+use Rattle.master_core.specs.master_state.Data.{MasterData}
+use Rattle.master_core.specs.master_state.Invariant.{IsCore}
+use Rattle.master_core.specs.master_state.Log.{home}
+use Rattle.master_core.specs.master_state.Steps.{freed_data, refusal_of, failed_data}
+use Rattle.master_core.proofs.master_space.Calm.{calm_parts}
 use Rattle.master.specs.Invariant.{IsWellKept}
 use Rattle.master.specs.Passes.{Frees}
 use Rattle.master.specs.Steps.{Declines}

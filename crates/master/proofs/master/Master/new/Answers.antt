@@ -1,6 +1,6 @@
 use Rattle.std.proofs.Common.{sym, subst}
-use Rattle.master_state.specs.Data.{MasterData}
-use Rattle.master_state.specs.Invariant.{IsCore}
+use Rattle.master_core.specs.master_state.Data.{MasterData}
+use Rattle.master_core.specs.master_state.Invariant.{IsCore}
 use Rattle.master.specs.Invariant.{IsWellKept}
 use Rattle.master.proofs.Starting.{fresh_kept}
 use Rattle.master.proofs.master.Master.new.Goals as goal

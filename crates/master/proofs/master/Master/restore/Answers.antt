@@ -1,9 +1,9 @@
 use Rattle.std.proofs.Common.{◌≡◌, sym, subst}
-use Rattle.failover_model.specs.Steps.{restored}
-use Rattle.master_state.specs.Data.{MasterData}
-use Rattle.master_state.specs.Invariant.{IsCore}
-use Rattle.master_state.specs.Loading.{IsBare}
-use Rattle.master_state.specs.Log.{fail_config, log_of}
+use Rattle.master_core.specs.failover_model.Steps.{restored}
+use Rattle.master_core.specs.master_state.Data.{MasterData}
+use Rattle.master_core.specs.master_state.Invariant.{IsCore}
+use Rattle.master_core.specs.master_state.Loading.{IsBare}
+use Rattle.master_core.specs.master_state.Log.{fail_config, log_of}
 use Rattle.master.specs.Invariant.{IsWellLoaded}
 use Rattle.master.proofs.Loaded.{restored_loaded}
 use Rattle.master.proofs.master.Master.restore.Goals as goal

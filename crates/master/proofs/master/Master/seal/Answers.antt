@@ -2,27 +2,27 @@ use Rattle.std.proofs.Common.{◌≡◌, ℕ, refl, sym, ap, subst, ◌∙◌}
 use Rattle.std.specs.Prelude.{Option, Some, None, IfSome, IsSome, is_none, if◌then◌else◌}
 use Rattle.std.specs.Result.{result_err}
 use Rattle.entry.specs.Bag.{IsAmong}
-use Rattle.log_model.specs.Ids.{has}
-use Rattle.log_model.specs.Ops.{op_of}
-use Rattle.failover_model.specs.Shown.{Seal as SealAct}
-use Rattle.failover_bytes.specs.Ops.{log_op_for}
-use Rattle.failover_clean.specs.Memory.{text_in}
+use Rattle.log_head.specs.log_model.Ids.{has}
+use Rattle.log_head.specs.log_model.Ops.{op_of}
+use Rattle.master_core.specs.failover_model.Shown.{Seal as SealAct}
+use Rattle.master_core.specs.failover_bytes.Ops.{log_op_for}
+use Rattle.master_core.specs.failover_clean.Memory.{text_in}
 use Rattle.replica.specs.Op.{OpValue, shown_op}
 use Rattle.replica.specs.Picture.{FleetState}
 use Rattle.replica.specs.Take.{Takes, Refuses}
 use Rattle.replica.specs.declared.op.TakeFault.{TakeFault}
-use Rattle.master_state.specs.declared.step.Refusal.TheVariants.{Nothing}
-use Rattle.master_state.specs.declared.step.Step.TheVariants.{Seal}
-use Rattle.master_state.specs.declared.step.StepAnswer.TheVariants.{Sealed}
-use Rattle.master_state.specs.Budget.{survivors_of}
-use Rattle.master_state.specs.Causes.{seal_refusal, step_refusal}
-use Rattle.master_state.specs.declared.ledger.Posting.TheVariants as posting
-use Rattle.master_state.specs.Data.{MasterData}
-use Rattle.master_state.specs.Invariant.{IsCore}
-use Rattle.master_state.specs.Ledger.{posted}
-use Rattle.master_state.specs.Log.{memory_of, home}
-use Rattle.master_state.specs.Steps.{sealed_data, refusal_of, failed_data}
-use Rattle.master_state.specs.Waits.{next_seal}
+use Rattle.master_core.specs.master_state.declared.step.Refusal.TheVariants.{Nothing}
+use Rattle.master_core.specs.master_state.declared.step.Step.TheVariants.{Seal}
+use Rattle.master_core.specs.master_state.declared.step.StepAnswer.TheVariants.{Sealed}
+use Rattle.master_core.specs.master_state.Budget.{survivors_of}
+use Rattle.master_core.specs.master_state.Causes.{seal_refusal, step_refusal}
+use Rattle.master_core.specs.master_state.declared.ledger.Posting.TheVariants as posting
+use Rattle.master_core.specs.master_state.Data.{MasterData}
+use Rattle.master_core.specs.master_state.Invariant.{IsCore}
+use Rattle.master_core.specs.master_state.Ledger.{posted}
+use Rattle.master_core.specs.master_state.Log.{memory_of, home}
+use Rattle.master_core.specs.master_state.Steps.{sealed_data, refusal_of, failed_data}
+use Rattle.master_core.specs.master_state.Waits.{next_seal}
 use Rattle.master.specs.Invariant.{IsWellKept}
 use Rattle.master.specs.Passes.{Seals}
 use Rattle.master.specs.Steps.{Declines}

@@ -1,10 +1,10 @@
 use Rattle.std.proofs.Common.{IfOk, IfErr, Ok, Err}
 use Rattle.std.specs.Prelude.{Result}
-use Rattle.master_state.specs.declared.step.Refusal.{Refusal}
-use Rattle.master_state.specs.declared.step.Step.{Step}
-use Rattle.master_state.specs.declared.step.Step.TheVariants.{Apply, Push, BeginRoll, Compact, BeginClean, Copy, Seal}
-use Rattle.master_state.specs.declared.step.Step.TheVariants.{Free}
-use Rattle.master_state.specs.declared.step.StepAnswer.{StepAnswer}
+use Rattle.master_core.specs.master_state.declared.step.Refusal.{Refusal}
+use Rattle.master_core.specs.master_state.declared.step.Step.{Step}
+use Rattle.master_core.specs.master_state.declared.step.Step.TheVariants.{Apply, Push, BeginRoll, Compact, BeginClean, Copy, Seal}
+use Rattle.master_core.specs.master_state.declared.step.Step.TheVariants.{Free}
+use Rattle.master_core.specs.master_state.declared.step.StepAnswer.{StepAnswer}
 use Rattle.master.specs.Steps.{Accepts, Declines, Steps}
 use Rattle.master.specs.World.{World, world}
 use Rattle.master.proofs.GoingOn.{step_goes_on}

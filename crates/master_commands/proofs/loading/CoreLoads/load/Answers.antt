@@ -1,7 +1,7 @@
 use Rattle.std.proofs.Common.{◌≡◌, None, length, sym, ap, subst, ◌∙◌}
 use Rattle.std.specs.Prelude.{IsSome}
 use Rattle.std.specs.Result.{result_err}
-use Rattle.compactor.specs.Places.{keys_in}
+use Rattle.master_state.specs.compactor.Places.{keys_in}
 use Rattle.entry.specs.declared.entry.Object.{Object}
 use Rattle.entry.specs.Text.{text_of}
 use Rattle.entry.specs.View.{shown_object}

@@ -3,7 +3,7 @@ use Rattle.std.specs.Prelude.{Option, Some, None}
 use Rattle.std.specs.Result.{result_err}
 use Rattle.std.proofs.lemmas.List.{length-append, length-map}
 use Rattle.std.proofs.lemmas.List.FromFn.{length-range_with_len}
-use Rattle.failover_clean.specs.Steps.{MayBeginClean}
+use Rattle.master_state.specs.failover_clean.Steps.{MayBeginClean}
 use Rattle.cleaner.specs.declared.pass.Pass.{Pass}
 use Rattle.cleaner.specs.declared.survivors.Survivors.{Survivors}
 use Rattle.cleaner.specs.Passes.{images_in, places_of, rest_of, survivor_ids, IsCursorAt, AreVictims}

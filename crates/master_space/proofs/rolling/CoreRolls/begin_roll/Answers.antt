@@ -7,7 +7,7 @@ use Rattle.images.specs.Image.{Image}
 use Rattle.images.specs.Images.{ImagesValue}
 use Rattle.log_head.specs.Head.{IsHeadValue}
 use Rattle.log_head.specs.Steps.{start_after, with_roll}
-use Rattle.log_model.specs.Data.{Start}
+use Rattle.log_head.specs.log_model.Data.{Start}
 use Rattle.master_state.specs.contracts.state.Core.{the_view}
 use Rattle.master_state.specs.declared.ledger.Posting.TheVariants.{Began}
 use Rattle.master_state.specs.declared.step.StepAnswer.TheVariants.{Rolling}

@@ -8,7 +8,7 @@ use Rattle.images.specs.Images.{ImagesValue}
 use Rattle.log_head.specs.declared.head.Roll.{Roll}
 use Rattle.log_head.specs.Head.{HeadValue}
 use Rattle.log_head.specs.Steps.{lost}
-use Rattle.log_model.specs.Ids.{has}
+use Rattle.log_head.specs.log_model.Ids.{has}
 use Rattle.master_state.specs.contracts.state.Core.{the_view}
 use Rattle.master_state.specs.declared.failover.Part.TheVariants as part
 use Rattle.master_state.specs.declared.state.Core.TheInside.{Inside}

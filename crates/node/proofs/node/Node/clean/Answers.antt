@@ -2,12 +2,12 @@ use Rattle.std.proofs.Common.{[], refl, subst}
 use Rattle.std.specs.Prelude.{Err, None}
 use Rattle.lines.specs.Grammar.{Clean}
 use Rattle.backup.specs.State.{fleet_state}
-use Rattle.master_state.specs.Data.{MasterData}
-use Rattle.master.specs.World.{world}
+use Rattle.store_clients.specs.master.master_state.Data.{MasterData}
+use Rattle.store_clients.specs.master.World.{world}
 use Rattle.node.specs.declared.node.Node.{Node}
 use Rattle.node.specs.declared.node.Node.TheVariants.{Up}
-use Rattle.driving.specs.Cleans.{IsCleaned, IsNotCleaned}
-use Rattle.driving.specs.Served.{LivesOn}
+use Rattle.answers.specs.driving.Cleans.{IsCleaned, IsNotCleaned}
+use Rattle.answers.specs.driving.Served.{LivesOn}
 use Rattle.node.specs.Served.{IsOf}
 use Rattle.node.proofs.Steps.{clean_at, cleaned_told, no_step_answered, refused_left}
 use Rattle.node.proofs.Standing.{down_clean, down_told, not_up}

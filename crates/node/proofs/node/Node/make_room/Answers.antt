@@ -1,13 +1,13 @@
 use Rattle.std.proofs.Common.{[], ap, refl, subst}
 use Rattle.std.specs.Prelude.{Err, None}
 use Rattle.backup.specs.State.{fleet_state}
-use Rattle.master.specs.World.{world}
+use Rattle.store_clients.specs.master.World.{world}
 use Rattle.lines.specs.Grammar.{Roll}
-use Rattle.master_state.specs.Data.{MasterData}
+use Rattle.store_clients.specs.master.master_state.Data.{MasterData}
 use Rattle.node.specs.declared.node.Node.{Node}
 use Rattle.node.specs.declared.node.Node.TheVariants.{Up}
-use Rattle.driving.specs.Rolls.{IsNotRolled}
-use Rattle.driving.specs.Served.{LivesOn}
+use Rattle.answers.specs.driving.Rolls.{IsNotRolled}
+use Rattle.answers.specs.driving.Served.{LivesOn}
 use Rattle.node.specs.Served.{IsOf, is_up}
 use Rattle.node.proofs.Rolls.{no_step_told}
 use Rattle.node.proofs.Standing.{is_up_none, not_up}

@@ -2,12 +2,12 @@ use Rattle.std.proofs.Common.{[], refl, subst, sym}
 use Rattle.std.specs.Prelude.{Ok, Err, None}
 use Rattle.lines.specs.Grammar.{Roll}
 use Rattle.backup.specs.State.{fleet_state}
-use Rattle.master.specs.World.{world}
-use Rattle.master_state.specs.Data.{MasterData}
+use Rattle.store_clients.specs.master.World.{world}
+use Rattle.store_clients.specs.master.master_state.Data.{MasterData}
 use Rattle.node.specs.declared.node.Node.{Node}
 use Rattle.node.specs.declared.node.Node.TheVariants.{Up}
-use Rattle.driving.specs.Rolls.{IsNotRolled, IsRolled}
-use Rattle.driving.specs.Served.{LivesOn}
+use Rattle.answers.specs.driving.Rolls.{IsNotRolled, IsRolled}
+use Rattle.answers.specs.driving.Served.{LivesOn}
 use Rattle.node.specs.Served.{IsOf}
 use Rattle.node.proofs.Steps.{head_told, no_step_answered, refused_left, roll_at}
 use Rattle.node.proofs.Downs.{down_roll}

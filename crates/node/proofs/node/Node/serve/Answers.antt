@@ -1,11 +1,11 @@
 use Rattle.std.proofs.Common.{ap, refl, subst}
 use Rattle.backup.specs.State.{fleet_state}
 use Rattle.history.specs.View.{shown_command}
-use Rattle.master.specs.World.{world}
-use Rattle.master_state.specs.Data.{MasterData}
+use Rattle.store_clients.specs.master.World.{world}
+use Rattle.store_clients.specs.master.master_state.Data.{MasterData}
 use Rattle.node.specs.declared.node.Node.{Node}
 use Rattle.node.specs.declared.node.Node.TheVariants.{Up}
-use Rattle.driving.specs.Served.{IsServed, IsUnserved}
+use Rattle.answers.specs.driving.Served.{IsServed, IsUnserved}
 use Rattle.node.specs.Served.{IsOf, is_up}
 use Rattle.node.proofs.Commands.{reply_told}
 use Rattle.node.proofs.Rolls.{unserved_told, waits_told}

@@ -1,9 +1,9 @@
 use Rattle.std.proofs.Common.{◌≡◌, refl, ap, subst, ◌∙◌}
 use Rattle.backup.specs.State.{fleet_state}
 use Rattle.lines.specs.Grammar.{Stop}
-use Rattle.master.specs.World.{World}
-use Rattle.master.specs.Valid.{IsValid}
-use Rattle.master_state.specs.Data.{MasterData}
+use Rattle.store_clients.specs.master.World.{World}
+use Rattle.store_clients.specs.master.Valid.{IsValid}
+use Rattle.store_clients.specs.master.master_state.Data.{MasterData}
 use Rattle.replica.specs.Picture.{FleetState}
 use Rattle.answers.specs.declared.answer.Answer.TheVariants as answer
 use Rattle.node.specs.declared.node.Node.{Node}

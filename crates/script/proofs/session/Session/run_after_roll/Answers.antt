@@ -1,10 +1,10 @@
 use Rattle.std.proofs.Common.{refl}
 use Rattle.lines.specs.Grammar.{shown_command}
 use Rattle.history.specs.View.{shown_command as lent_command}
-use Rattle.master_state.specs.declared.step.Refusal.TheVariants.{Rolling}
-use Rattle.answers.specs.declared.answer.Answer.TheVariants as answers
-use Rattle.node.proofs.Rolls.{no_room_told, rolling_told, room_told}
-use Rattle.node.proofs.Tries.{not_rolled_makes, of_command, rolled_makes, rolling_makes}
+use Rattle.next_master.specs.master.master_state.declared.step.Refusal.TheVariants.{Rolling}
+use Rattle.next_master.specs.answers.declared.answer.Answer.TheVariants as answers
+use Rattle.next_master.proofs.of_node.Rolls.{no_room_told, rolling_told, room_told}
+use Rattle.next_master.proofs.of_node.Tries.{not_rolled_makes, of_command, rolled_makes, rolling_makes}
 use Rattle.script.proofs.session.Session.run_after_roll.Goals as goal
 
 pub returns-in-Some : goal.returns-in-Some

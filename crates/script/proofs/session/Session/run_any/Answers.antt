@@ -1,7 +1,7 @@
 use Rattle.std.proofs.Common.{inl, inr, refl}
 use Rattle.lines.specs.Grammar.{Idle}
-use Rattle.answers.specs.declared.answer.Answer.TheVariants.{Silent}
-use Rattle.node.proofs.Standing.{stays_told}
+use Rattle.next_master.specs.answers.declared.answer.Answer.TheVariants.{Silent}
+use Rattle.next_master.proofs.of_node.Standing.{stays_told}
 use Rattle.script.proofs.Commanding.{has_command}
 use Rattle.script.proofs.session.Session.run_any.Goals as goal
 

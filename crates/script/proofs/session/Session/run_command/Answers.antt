@@ -1,9 +1,9 @@
 use Rattle.std.proofs.Common.{refl}
 use Rattle.lines.specs.Grammar.{shown_command}
 use Rattle.history.specs.View.{shown_command as lent_command}
-use Rattle.answers.specs.declared.answer.Answer.TheVariants as answers
-use Rattle.node.proofs.Steps.{command_makes}
-use Rattle.node.proofs.Tries.{tried_makes, waited_makes}
+use Rattle.next_master.specs.answers.declared.answer.Answer.TheVariants as answers
+use Rattle.next_master.proofs.of_node.Steps.{command_makes}
+use Rattle.next_master.proofs.of_node.Tries.{tried_makes, waited_makes}
 use Rattle.script.proofs.Sessions.{command_keeps, command_keeps_format, command_keeps_word}
 use Rattle.script.proofs.session.Session.run_command.Goals as goal
 

@@ -1,7 +1,7 @@
 use Rattle.std.proofs.Common.{refl}
 use Rattle.lines.specs.Grammar.{Format}
-use Rattle.answers.specs.declared.answer.Answer.TheVariants as answer
-use Rattle.node.proofs.Standing.{stays_told}
+use Rattle.next_master.specs.answers.declared.answer.Answer.TheVariants as answer
+use Rattle.next_master.proofs.of_node.Standing.{stays_told}
 use Rattle.script.proofs.session.Session.run_format.Goals as goal
 
 pub returns : goal.returns

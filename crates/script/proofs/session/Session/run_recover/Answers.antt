@@ -1,12 +1,12 @@
 use Rattle.std.proofs.Common.{ℕ, inl, inr, refl, sym, subst, arith}
 use Rattle.command_line.specs.declared.settings.Options.{Options}
-use Rattle.recovery.specs.Orders.{Covers}
+use Rattle.next_master.specs.recovery.Orders.{Covers}
 use Rattle.next_master.specs.Configuration.{config_of, later_options, tables_to}
 use Rattle.next_master.specs.Numbers.{Renumbers}
 use Rattle.next_master.specs.Recoveries.{Ends, Recovers}
 use Rattle.script.specs.Sessions.{asked_of}
 use Rattle.next_master.proofs.HowItEnds.{down_at, limit_made, want_ends}
-use Rattle.node.proofs.Standing.{not_up}
+use Rattle.next_master.proofs.of_node.Standing.{not_up}
 use Rattle.script.proofs.Sessions.{unknown_at, want_at}
 use Rattle.script.proofs.session.Session.run_recover.Goals as goal
 

@@ -1,13 +1,13 @@
 use Rattle.std.proofs.Common.{[], ◌≡◌, Bool, true, false, List, ◌++◌, length, refl, sym, ap, subst, ◌∙◌, arith}
 use Rattle.std.specs.Prelude.{is_none, ◌&&◌}
 use Rattle.backup.specs.State.{fleet_state}
-use Rattle.log_head.specs.Head.{is_open}
-use Rattle.master.specs.World.{World, world}
-use Rattle.master_state.specs.Budget.{is_working}
-use Rattle.master_state.specs.declared.step.Refusal.TheVariants.{Nothing}
-use Rattle.master_state.specs.Data.{MasterData, fresh_data}
+use Rattle.next_master.specs.master.log_head.Head.{is_open}
+use Rattle.next_master.specs.master.World.{World, world}
+use Rattle.next_master.specs.master.master_state.Budget.{is_working}
+use Rattle.next_master.specs.master.master_state.declared.step.Refusal.TheVariants.{Nothing}
+use Rattle.next_master.specs.master.master_state.Data.{MasterData, fresh_data}
 use Rattle.next_master.specs.Configuration.{config_of}
-use Rattle.driving.specs.Rolls.{PushesUntil}
+use Rattle.next_master.specs.driving.Rolls.{PushesUntil}
 use Rattle.script.specs.Sessions.{new_world}
 use Rattle.versioned_map.specs.declared.command.Record.{Record}
 use Rattle.script.proofs.Sessions.{ok_of_no_err}
