@@ -139,10 +139,11 @@ impl Cleans for Core {
         let Some(image) = image_of(&self.head, &self.closed, survivor) else {
             unreachable!()
         };
+        let text = image.bytes();
         Op {
             master: self.config.master,
             segment: survivor,
-            act: Act::Seal(image.bytes()),
+            act: Act::Seal(text),
         }
     }
 
