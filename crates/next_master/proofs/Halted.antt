@@ -1,5 +1,4 @@
 -- What a master leaves that a fault halted: the same as one that goes on.
-use Rattle.std.proofs.Common.{◌≡◌}
 use Rattle.std.specs.Prelude.{Some, Err}
 use Rattle.backup.specs.State.{fleet_state}
 use Rattle.replica.specs.declared.op.TakeFault.{TakeFault}

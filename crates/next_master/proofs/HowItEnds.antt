@@ -28,7 +28,7 @@ use Rattle.next_master.specs.Recoveries.{Asked, Ends, EndsFreeing, FindsNothing,
 use Rattle.next_master.specs.Recoveries.{IsTakenOver, MakesLimit, StandsAfter, adopted_answer, after_answer}
 use Rattle.next_master.specs.Recoveries.{fault_answer}
 use Rattle.node.specs.Lives.{Left, Position}
-use Rattle.node.specs.Served.{IsNodeAt, IsOf, fleet_of, is_up, world_of}
+use Rattle.node.specs.Served.{IsNodeAt, IsOf, fleet_of, is_up}
 use Rattle.node.proofs.LeastHeads.{IsUnraisedAbove, in_world, unraised_more, with_fleet}
 use Rattle.node.proofs.of_recovery.Following.{adopted_still}
 use Rattle.next_master.proofs.Retired.{others_gone, retire_keeps_end, spent_retire}

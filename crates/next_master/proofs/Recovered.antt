@@ -1,7 +1,7 @@
 -- Recoveries, told of what is left of a master.
 use Rattle.std.proofs.Common.{◌≡◌, ◌⊎◌, ℕ, Bool, true, List, refl, sym, ap, subst, inl, inr, ◌∙◌, arith}
 use Rattle.std.specs.Prelude.{ℕ, Option, Some, None, ◌↔◌}
-use Rattle.backup.specs.State.{fleet_state, lost}
+use Rattle.backup.specs.State.{fleet_state}
 use Rattle.backup.specs.declared.fleet.MemoryFleet.{MemoryFleet}
 use Rattle.lines.specs.Grammar.{Recover}
 use Rattle.lines.specs.declared.line.ReplayOrder.{ReplayOrder}
@@ -11,7 +11,7 @@ use Rattle.entry.specs.Bag.{IsAmong}
 use Rattle.entry.specs.Meaning.{IsMeaning, among, contents_of}
 use Rattle.node.specs.replay.claims.declared.rebuilt.Rebuilt.{Rebuilt}
 use Rattle.replica.specs.declared.holding.Holding.{Holding}
-use Rattle.replica.specs.Picture.{Picture, FleetState, Shown, left_on, survivors, IsHeld, AreHeld}
+use Rattle.replica.specs.Picture.{FleetState, Shown, left_on, survivors, IsHeld, AreHeld}
 use Rattle.replica.specs.Choice.{IsShownChoice}
 use Rattle.replica.specs.Survival.{IsHomeLeft, HeadSurvives, BothSurvive}
 use Rattle.node.specs.recovery.recovery_plan.declared.fault.PlanFault.TheVariants as plan_fault

@@ -1,4 +1,4 @@
-use Rattle.std.proofs.Common.{◌≡◌, sym, subst, Err}
+use Rattle.std.proofs.Common.{sym, subst, Err}
 use Rattle.locked_log.specs.Applies.{AppliesHeld}
 use Rattle.locked_log.specs.Held.{StateValue, held}
 use Rattle.locked_log.specs.States.{Lasts}

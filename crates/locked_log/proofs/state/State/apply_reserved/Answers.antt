@@ -1,5 +1,5 @@
 use Rattle.std.proofs.Common.{◌≡◌, rules, refl, ap, sym, ◌∙◌, Ok, Err, ◌≤◌, List, [], ◌∷◌, length, length-append}
-use Rattle.std.proofs.Common.{get_or, subst, inl, arith, ◌<◌}
+use Rattle.std.proofs.Common.{subst, inl, arith, ◌<◌}
 use Rattle.std.specs.Prelude.{slice_get}
 use Rattle.versioned_map.specs.declared.command.Record.{Record}
 use Rattle.store_step.specs.master.World.{World, world}

@@ -1,6 +1,5 @@
-use Rattle.std.proofs.Common.{◌≡◌, sym, ◌∙◌, subst}
+use Rattle.std.proofs.Common.{sym, ◌∙◌, subst}
 use Rattle.store_step.specs.master.World.{world}
-use Rattle.locked_log.specs.Held.{StateValue, held}
 use Rattle.locked_log.specs.States.{IsState}
 use Rattle.locked_log.proofs.state.State.reserve.Goals as goal
 

@@ -1,4 +1,4 @@
-use Rattle.std.proofs.Common.{◌≡◌, rules, refl, ap, sym, ◌∙◌, inl, inr}
+use Rattle.std.proofs.Common.{rules, refl, ap, sym, ◌∙◌, inl, inr}
 use Rattle.store_step.specs.master.master_state.Causes.{command_refusal}
 use Rattle.store_seat.specs.Accounts.{Knows}
 use Rattle.locked_log.specs.Held.{StateValue}
