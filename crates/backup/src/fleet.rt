@@ -286,6 +286,7 @@ impl Fleet for MemoryFleet {
 
     /// Hands an op to a backup. Spent is answered before Wrong, and NoMemory only if the op fits. A take ends in a fault
     /// just if `fault_at` asked for that, and it wouldn't have been refused.
+    #[inline(always)]
     fn take(&mut self, backup: u64, op: &Op<'_>) -> Result<(), TakeFault>
         ensures gives { TakeGives (fleet_state self.old) backup (shown_op op.now) result (fleet_state self.new) }
         ensures spent { (result ≡ Err TakeFault.Spent) ↔ ((fleet_state self.old).takes ≡ (fleet_state self.old).end) }

@@ -41,6 +41,7 @@ impl MemoryBackup {
 
     /// Does what an op asks. The op is refused as Wrong if it doesn't fit, else as NoMemory. A Close and a Free take no
     /// memory.
+    #[inline(always)]
     pub fn take(&mut self, alloc: Global, op: &Op<'_>) -> Result<(), TakeFault>
         ensures named { ActsAt (shown_act op.now.act) op.now.master op.now.segment self.old result self.new }
         ensures others { KeepsOthers op.now.master op.now.segment self.old self.new }

@@ -43,6 +43,7 @@ impl Shelf {
     }
 
     /// Which replica is at a place. If there is none, which one it would be.
+    #[inline(always)]
     pub(crate) fn find(&mut self, place: (u64, u64)) -> Result<usize, usize>
         ensures found { IfOk result (IsAt self.old place) }
         ensures absent { IfErr result (IsGapFor self.old place) }

@@ -20,7 +20,7 @@ use versioned_map::Record;
 /// bytes of a key and a value one more may have (*room*): memory for it was taken.
 ///
 /// A record takes 48 bytes, and those of its key and its value. Memory is taken for 1,024 records at a time, and for
-/// 262,144 bytes of keys and values, or for those of one record if it has more. What doesn't fit into the rest of a
+/// 262,112 bytes of keys and values, or for those of one record if it has more. What doesn't fit into the rest of a
 /// block begins the next one. What is there never moves.
 #[derive(Drop)]
 pub struct History {
@@ -79,6 +79,7 @@ impl History {
     }
 
     /// One more record, for which memory was taken: it takes none and can't fail. It uses up the room.
+    #[inline(always)]
     pub fn push(&mut self, accepted: &RecordRef<'_>)
         requires value { HasOneValue (shown_record accepted.now) }
         requires room { len_of (shown_record accepted.now) ≤ self.old.room }

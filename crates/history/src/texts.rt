@@ -8,8 +8,9 @@ use std::alloc::{AllocError, Global};
 use std::marker::Model;
 use std::mem::replace;
 
-/// How many bytes an allocation takes memory for, unless one record needs more.
-const TEXT: usize = 262_144;
+/// How many bytes an allocation takes memory for, unless one record needs more. With the heap's own words they are 64
+/// pages of memory.
+const TEXT: usize = 262_112;
 
 /// What the numbers of blocks and of bytes in one are below.
 const LIMIT: usize = 4_294_967_296;

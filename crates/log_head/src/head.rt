@@ -18,9 +18,9 @@ use std::marker::Model;
 #[derive(Clone, Copy)]
 pub struct UnitEnd {
     /// The number of the command's record in the history, from 0.
-    pub number: usize,
+    pub number: u32,
     /// Where the unit ends in the image.
-    pub end: usize,
+    pub end: u32,
 }
 
 /// A roll to the next head, which is opened on its backups before the old head is closed.
@@ -204,7 +204,7 @@ impl Head {
     {
         match units.checked_sub(1) {
             None => self.base,
-            Some(last) => self.units[last].end,
+            Some(last) => self.units[last].end as usize,
         }
     }
 
@@ -233,7 +233,7 @@ impl Head {
     {
         match self.units.get(self.everywhere()) {
             None => None,
-            Some(unit) => Some(unit.number),
+            Some(unit) => Some(unit.number as usize),
         }
     }
 
@@ -299,6 +299,7 @@ impl Head {
 
     /// Appends a unit: the objects and tombstones of the record with this number. A refusal changes nothing.
     #[tactic(auto, using(crate::proofs::Heads::EndAt_push, crate::proofs::Heads::all_more, crate::proofs::Heads::text_more))]
+    #[inline(always)]
     pub fn append(
         &mut self,
         unit: &[EntryRef<'_>],
@@ -308,6 +309,7 @@ impl Head {
         requires some { 0 < length unit.now }
         requires data { are_data (map shown unit.now) ≡ true }
         requires limit { limit ≤ 8388608 }
+        requires number { number < 2 ^ 32 }
         ensures ok { OnOk result (self.new ≡ with_unit_end self.old number (map shown unit.now)) }
         ensures limit { OnOk result (len_with self.old.image (map shown unit.now) ≤ limit) }
         ensures full { IsErrOf result AppendFault.Full → limit < len_with self.old.image (map shown unit.now) }
@@ -319,7 +321,10 @@ impl Head {
         }
         self.image.append(unit, limit)?;
         let end = self.image.bytes().len();
-        self.units.push_reserved(UnitEnd { number, end });
+        self.units.push_reserved(UnitEnd {
+            number: number as u32,
+            end: end as u32,
+        });
         Ok(())
     }
 

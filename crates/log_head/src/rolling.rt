@@ -86,7 +86,7 @@ impl Head {
     {
         match self.units.get(place) {
             None => false,
-            Some(unit) => unit.number <= number,
+            Some(unit) => unit.number as usize <= number,
         }
     }
 

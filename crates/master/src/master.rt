@@ -232,6 +232,7 @@ impl<F: Fleet> Master<F> {
     }
 
     /// Applies a command, and answers with the place of its record.
+    #[inline(always)]
     fn add(&mut self, seat: u64, command: &CommandRef<'_>) -> Result<u64, Refusal>
         ensures accepted { IfOk result (λ place.
             Accepts (world F.state self.old) (Step.Apply seat (shown_command command.now))

@@ -34,6 +34,7 @@ pub(crate) fn push<F: Fleet>(core: &mut Core, fleet: &mut F) -> Result<StepAnswe
 }
 
 /// Hands one op to one backup, unless the record at this place is durable. Whether it is.
+#[inline(always)]
 pub(crate) fn push_for<F: Fleet>(
     core: &mut Core,
     fleet: &mut F,

@@ -152,6 +152,7 @@ fn add(core: &mut Core, accepted: &RecordRef<'_>, judged: &Judged) -> Result<u64
 }
 
 /// Adds a command other than a get that passed all tests, with the reply that its change tells.
+#[inline(always)]
 fn add_change(
     core: &mut Core,
     seat: u64,

@@ -66,6 +66,7 @@ pub(crate) fn object_there<'a>(
 
 /// The place and the object of a key of this hash. If its candidate is its place, the image is looked up once, and the
 /// entry is read once.
+#[inline(always)]
 pub fn find_object<'a>(
     head: &'a Head,
     closed: &'a Images,

@@ -63,6 +63,7 @@ fn fit(core: &Core, command: &CommandRef<'_>, change: &Change) -> Result<(), Ref
 }
 
 /// The place and the object of the command's key, which has this hash.
+#[inline(always)]
 fn look_up<'a>(
     core: &'a Core,
     hash: u64,

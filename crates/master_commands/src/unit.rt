@@ -96,7 +96,8 @@ fn append_change(
     number: usize,
     limit: usize,
 ) -> Result<(), AppendFault>
-    requires { limit ≤ 8388608 }
+    requires limit { limit ≤ 8388608 }
+    requires number { number < 2 ^ 32 }
     ensures ok { let unit = unit_of_change segment (shown_command command.now) change.now in
         OnOk result (head.new ≡ appended head.old number unit) }
     ensures full { let unit = unit_of_change segment (shown_command command.now) change.now in
@@ -139,6 +140,7 @@ pub fn enact(
     limit: usize,
 ) -> Result<(), NoMemory>
     requires limit { limit ≤ 8388608 }
+    requires records { length history.old.records < 2 ^ 32 }
     requires fits { let asked = shown_command command.now in
         let unit = unit_of_change judged.now.held.place.segment asked judged.now.change in
         is_empty unit ≡ false → len_with head.old.image unit ≤ limit }

@@ -108,6 +108,7 @@ impl Rolls for Core {
         self.head.next_for(place as usize)
     }
 
+    #[inline(always)]
     fn took(&mut self, next: Next)
         requires calm { self.old.failover ≡ None }
         requires next { IsNextPush self.old.head (Some next) }

@@ -20,6 +20,7 @@ use Rattle.versioned_map.specs.Versioned.{is_spent}
 use Rattle.versioned_map.specs.Command.{command_key}
 use Rattle.images.specs.Images.{AreSizes}
 use Rattle.master_state.specs.Config.{config_fault, has_backups, has_step, has_seglet, has_segment, has_budget}
+use Rattle.master_state.specs.Config.{has_tablets, has_history}
 use Rattle.log_head.specs.declared.head.Roll.{Roll}
 use Rattle.log_head.specs.declared.next.Next.{Next}
 use Rattle.log_head.specs.declared.next.Next.TheVariants as next
@@ -71,6 +72,17 @@ sizes_of c ok =
       least_seglets = leb-true (4 * (c.segment / c.seglet)) c.seglets budget.0;
       most_seglets = leb-true c.seglets (2 ^ 32) budget.1;
     }
+
+pub few_records : (c : Config) → config_fault c ≡ None → c.history ≤ 1048576
+few_records c ok =
+    let a = passes (not (has_backups c)) _ _ ok in
+    let b = passes (not (has_step c)) _ _ a.1 in
+    let g = passes (not (has_seglet c)) _ _ b.1 in
+    let s = passes (not (has_segment c)) _ _ g.1 in
+    let m = passes (not (has_budget c)) _ _ s.1 in
+    let t = passes (not (has_tablets c)) _ _ m.1 in
+    let h = passes (not (has_history c)) _ _ t.1 in
+    leb-true c.history 1048576 (and_parts _ _ (not-false (has_history c) h.0)).1
 
 -- ---- a command
 

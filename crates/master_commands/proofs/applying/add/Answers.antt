@@ -1,4 +1,5 @@
 use Rattle.std.proofs.Common.{◌≡◌, ℕ, List, ◌++◌, ◌∷◌, [], None, ◌<◌, length, rules, refl, sym, ap, subst, ◌∙◌}
+use Rattle.std.proofs.Common.{arith}
 use Rattle.versioned_map.specs.declared.command.Command.{Command}
 use Rattle.versioned_map.specs.declared.command.Record.{Record}
 use Rattle.versioned_map.specs.declared.command.Reply.{Reply}
@@ -17,7 +18,7 @@ use Rattle.master_commands.proofs.Indexed.{IsMovedBy, moved_by}
 use Rattle.master_state.specs.Invariant.{IsCore}
 use Rattle.std.specs.Prelude.{IsSome}
 use Rattle.std.proofs.lemmas.Result.{err_from_is_err_and}
-use Rattle.master_state.proofs.Refusals.{sizes_of}
+use Rattle.master_state.proofs.Refusals.{sizes_of, few_records, is_admitted, passed_early}
 use Rattle.places.specs.Hashing.{hash_of}
 use Rattle.master_commands.proofs.Changes.{put_is_some}
 use Rattle.history.specs.Packing.{IsReplyTo}
@@ -35,6 +36,15 @@ enact-requires-clause-fits c =
     let judged : IsJudged d command c.args.judged.now.change c.args.judged.now.held.place.segment =
     rw (← c.core.view_is) at c.requires.judged in
     fits d c.core.invariant.2 command c.args.judged.now.change c.args.judged.now.held.place.segment judged passed
+
+pub enact-requires-clause-records : goal.enact-requires-clause-records
+enact-requires-clause-records c =
+    let d : MasterData = the_view c.core.inside in
+    let command = shown_command c.args.accepted.now.command in
+    let passed : command_refusal d command ≡ None = rw (← c.core.view_is) at c.requires.passed in
+    let room = (is_admitted d command (passed_early d command passed)).room in
+    let few = few_records d.config c.core.invariant.2.config in
+    omega arith
 
 -- ---- the core with the record, where memory was given
 
