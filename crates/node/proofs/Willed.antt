@@ -1,5 +1,5 @@
 -- The coordinator's will, and what is told of it.
-use Rattle.std.proofs.Common.{◌≡◌, ◌∙◌, ◌-◌, ℕ, List, refl, sym, ap, subst, inl, take}
+use Rattle.std.proofs.Common.{◌≡◌, ◌∙◌, ℕ, List, refl, sym, ap, subst, inl, take}
 use Rattle.store_clients.specs.master.master_state.Log.{opening_of}
 use Rattle.versioned_map.specs.History.{commands_of}
 use Rattle.versioned_map.specs.declared.command.Record.{Record}

@@ -23,7 +23,8 @@ use Rattle.node.specs.declared.tried.Tried.TheVariants as tried
 use Rattle.answers.specs.driving.Commands.{Tries, TriesAfterRoll}
 use Rattle.node.specs.Lives.{life_to, Position}
 use Rattle.answers.specs.driving.Rolls.{Rolls}
-use Rattle.node.specs.Served.{AnswersLine, IsLeftIn, IsNodeAt, life_of, refusal_answer, reply_told, world_of}
+use Rattle.node.specs.Served.{AnswersLine, IsLeftIn, IsNodeAt, Refuses, is_up, life_of, refusal_answer}
+use Rattle.node.specs.Served.{reply_told, world_of}
 use Rattle.node.specs.Told.{command_of, IsTest, TellsNoStep}
 
 -- the same life, with the same records
@@ -72,11 +73,16 @@ IsReplyAt (Up m) place reply = option_map (λ (r : Record). r.reply) (slice_get 
 IsReplyAt node place reply = ⊥
 
 -- What a try comes to: an answer, or to wait for a roll. With the place of a record the answer is the record's reply.
+-- With a refusal it is what the node answers to that.
 abbrev pub TriesLine : Node → Command → Node → Tried → Type 0
 TriesLine old command new (tried.Replied place) = (reply : Reply) × IsReplyAt new place reply
     × Serves old command new (Some (answers.Reply reply)) × MakesTry old command new (Some (answers.Reply reply))
 TriesLine old command new tried.Waits = Serves old command new None × MakesTry old command new None
-TriesLine old command new (tried.Answered a) = Serves old command new (Some a) × MakesTry old command new (Some a)
+TriesLine old command new (tried.Refused r) = (is_up new ≡ true)
+    × ((last : Node) (answer : Answer) → Refuses new r last answer
+    → Serves old command last (Some answer) × MakesTry old command last (Some answer))
+TriesLine old command new tried.Down =
+    Serves old command new (Some answers.Down) × MakesTry old command new (Some answers.Down)
 
 -- A node that is up just makes a roll. An answer is why it was refused. Any other node does nothing.
 abbrev pub MakesOpen : Node → Node → Option Answer → Type 0

@@ -77,7 +77,7 @@ impl Node {
         ensures { TriesLine self.old (shown_command command.now) self.new result }
     {
         let Node::Up(up) = self else {
-            return Tried::Answered(Answer::Down);
+            return Tried::Down;
         };
         let outcome = serve(up, command);
         up.show_valid();
@@ -85,7 +85,7 @@ impl Node {
             Ok(place) => Tried::Replied(place),
             Err(refusal) => match refusal {
                 Refusal::Rolling => Tried::Waits,
-                _ => Tried::Answered(self.refuse(refusal)),
+                _ => Tried::Refused(refusal),
             },
         }
     }

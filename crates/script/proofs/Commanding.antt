@@ -1,12 +1,14 @@
 -- Which lines have a command.
 use Rattle.std.proofs.Common.{◌≡◌, refl}
-use Rattle.std.specs.Prelude.{Option, Some, None}
+use Rattle.std.specs.Prelude.{None}
 use Rattle.lines.specs.declared.command.CommandLine.{CommandLine}
 use Rattle.lines.specs.declared.command.CommandLine.TheVariants as command
 use Rattle.lines.specs.declared.line.Line.{Line}
 use Rattle.lines.specs.declared.line.Line.TheVariants as line
 use Rattle.lines.specs.Grammar.{shown_command, shown_line}
 use Rattle.next_master.specs.node.Told.{command_of}
+use Rattle.script.specs.Runs.{IsOfFleet}
+use Rattle.std.specs.Prelude.{ℕ}
 
 pub has_command : (c : CommandLine) → command_of (shown_command c) ≡ None → ⊥
 has_command (command.Put table key value) is = absurd (cc)
@@ -39,3 +41,11 @@ has_no_command line.Copy other = refl
 has_no_command line.Seal other = refl
 has_no_command line.Free other = refl
 has_no_command (line.Clients clients rounds passes) other = refl
+
+-- the line of a command names no backup
+pub command_of_fleet : (backups : ℕ) (c : CommandLine) → IsOfFleet backups (shown_command c)
+command_of_fleet backups (command.Put table key value) = tt
+command_of_fleet backups (command.New table key value) = tt
+command_of_fleet backups (command.Cas table key version value) = tt
+command_of_fleet backups (command.Get table key) = tt
+command_of_fleet backups (command.Del table key) = tt

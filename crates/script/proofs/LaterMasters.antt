@@ -1,5 +1,5 @@
 -- Later masters may begin: no line raises the least head of one.
-use Rattle.std.proofs.Common.{◌≡◌, ℕ, ◌≤◌, inl, inr, refl, sym, subst, arith}
+use Rattle.std.proofs.Common.{ℕ, ◌≤◌, inl, inr, refl, sym, subst, arith}
 use Rattle.std.specs.Prelude.{Option, IfSome}
 use Rattle.command_line.specs.declared.settings.Options.{Options}
 use Rattle.lines.specs.Grammar.{LineValue}

@@ -28,7 +28,8 @@ use Rattle.next_master.specs.answers.declared.limits.Limits.{Limits}
 use Rattle.next_master.specs.node.Served.{AnswersLine, IsNodeAt, world_of, fleet_of, is_up, HandsOver, MakesLine}
 use Rattle.lines.specs.declared.line.ReplayOrder.{ReplayOrder}
 use Rattle.next_master.specs.Numbers.{AreSpent, IsNextNumber, Renumbers}
-use Rattle.next_master.specs.node.Waits.{IsReplyAt, MakesTryAfterRoll, WaitsForRoll}
+use Rattle.next_master.specs.node.declared.tried.Tried.{Tried}
+use Rattle.next_master.specs.node.Waits.{IsReplyAt, MakesTryAfterRoll, TriesLine, WaitsForRoll}
 use Rattle.next_master.specs.Recoveries.{Asked, Ends, MakesLimit, Recovers, ask, order_named}
 
 -- ---- where a session stands
@@ -174,6 +175,9 @@ IsPrintedAs s (outcome.Answered a) answer = a ≡ answer
 IsPrintedAs s (outcome.Replied place) answer =
     (reply : Reply) × IsReplyAt s.node place reply × (answers.Reply reply ≡ answer)
 
--- a line was run, and this is what it came to
-abbrev pub RunsTo : Session → LineValue → Session → Outcome → Type 0
-RunsTo old line new outcome = (answer : Answer) × IsPrintedAs new outcome answer × RunsLine old line new answer
+-- The command of a line was tried on the session's node, and nothing else of the session changed.
+pub record TriesCommand (old : Session) (line : LineValue) (new : Session) (tried : Tried) : Type 0 where
+  pub command : Command
+  pub asks : command_of line ≡ Some command
+  pub tries : TriesLine old.node command new.node tried
+  pub rest : new ≡ record old { node = new.node }

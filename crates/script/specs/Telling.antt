@@ -3,7 +3,6 @@ use Rattle.std.specs.Prelude.{[], ◌≡◌, ◌⊎◌, ℕ, List, ◌∷◌}
 use Rattle.lines.specs.Grammar.{LineValue}
 use Rattle.next_master.specs.master.master_state.declared.config.Config.{Config}
 use Rattle.next_master.specs.answers.declared.answer.Answer.{Answer}
-use Rattle.next_master.specs.answers.declared.answer.Answer.TheVariants as answer
 use Rattle.next_master.specs.node.Lives.{Life, at_start}
 use Rattle.versioned_map.specs.Represents.{empty_state}
 use Rattle.next_master.specs.node.Told.{Tells}

@@ -3,18 +3,22 @@
 ghost use Rattle.std.specs.Prelude.{◌≡◌, None};
 ghost use Rattle.next_master.specs.master.master_state.Config.{config_fault};
 ghost use Rattle.command_line.specs.declared.settings.Options.{Options as OptionsValue};
+ghost use Rattle.lines.specs.Grammar.{IsLine, Says, shown_command, shown_line};
 ghost use Rattle.lines.specs.Reading.{IsLineText};
+ghost use Rattle.next_master.specs.node.Told.{command_of};
 ghost use Rattle.next_master.specs.Configuration.{config_of};
 ghost use Rattle.script.specs.Runs.{RunsScript};
 ghost use Rattle.next_master.specs.answers.declared.answer.Answer.{Answer as AnswerValue};
-ghost use Rattle.script.specs.Sessions.{BeginsSession, Stands, IsPrintedAs};
-ghost use Rattle.script.specs.Turns.{IsNoMore, IsPrinted, PrintsText, TakesTurn};
+ghost use Rattle.script.specs.declared.session.Session.{Session as SessionValue};
+ghost use Rattle.script.specs.Sessions.{BeginsSession, SessionAnswers, Stands, IsPrintedAs, TriesCommand};
+ghost use Rattle.script.specs.Turns.{HasValue, IsNoMore, IsPrinted, PrintsText, TakesTurn};
 
 use crate::outcome::Outcome;
 use crate::session::{LineFault, Session};
 use command_line::Options;
-use lines::{LineReader, ReadFault, Reason, Taken, one_line, parse_line};
+use lines::{CommandLine, Line, LineReader, ReadFault, Reason, Taken, one_line, parse_line};
 use next_master::answers::{Answer, ScriptFault, write_answer};
+use next_master::node::Tried;
 use std::alloc::Global;
 use std::io::{BufRead, Write};
 use std::sync::Wait;
@@ -132,9 +136,71 @@ fn run_text<H: Threads + Wait + Sync, W: Write>(
         Ok(line) => line,
         Err(reason) => return Err(ScriptFault::BadLine(number, reason)),
     };
+    match line {
+        Line::Command(command) => run_command(writer, session, command),
+        other => run_other(rt, writer, session, text, other, number),
+    }
+}
+
+/// Runs the line of a command, and writes its answer. It has no room for an answer: mostly the reply is written from the
+/// history.
+#[inline(always)]
+fn run_command<W: Write>(
+    writer: &mut W,
+    session: &mut Session,
+    line: CommandLine<'_>,
+) -> Result<(), ScriptFault>
+    requires value { HasValue (shown_command line) }
+    ensures { (answer : AnswerValue) × SessionAnswers session.old (shown_command line.entry) session.new answer
+        × IsPrinted (W.contents writer.old) (W.contents writer.new) answer result }
+{
+    match session.serve(line) {
+        Tried::Replied(place) => match session.write_reply(place, writer) {
+            Ok(()) => Ok(()),
+            Err(_) => Err(ScriptFault::WriteFailed),
+        },
+        tried => finish_command(writer, session, line, tried),
+    }
+}
+
+/// Goes on with the line of a command that was tried, and writes its answer.
+#[inline(never)]
+fn finish_command<W: Write>(
+    writer: &mut W,
+    session: &mut Session,
+    line: CommandLine<'_>,
+    tried: Tried,
+) -> Result<(), ScriptFault>
+    requires value { HasValue (shown_command line) }
+    requires tried { (first : SessionValue) × TriesCommand first (shown_command line) session.old tried }
+    ensures { (first : SessionValue) → TriesCommand first (shown_command line.entry) session.old tried →
+        (answer : AnswerValue) × SessionAnswers first (shown_command line.entry) session.new answer
+        × IsPrinted (W.contents writer.old) (W.contents writer.new) answer result }
+{
+    let outcome = session.finish(line, tried);
+    print(writer, session, &outcome)
+}
+
+/// Runs the line of this text, which has no command, and writes its answer.
+#[inline(never)]
+fn run_other<H: Threads + Wait + Sync, W: Write>(
+    rt: &H,
+    writer: &mut W,
+    session: &mut Session,
+    _text: &[u8],
+    line: Line<'_>,
+    number: u64,
+) -> Result<(), ScriptFault>
+    requires says { Says _text.now (shown_line line) }
+    requires line { IsLine (shown_line line) }
+    requires other { command_of (shown_line line) ≡ None }
+    requires stands { Stands session.old }
+    ensures { PrintsText session.old session.new _text.now number
+        (W.contents writer.old) (W.contents writer.new) result }
+{
     let backups = session.backups();
-    match session.run_line(rt, line) {
-        Ok(outcome) => print(writer, session, &outcome),
+    match session.run_any(rt, line) {
+        Ok(answer) => print_answer(writer, &answer),
         Err(LineFault::Bad) => {
             // This text says no other line.
             one_line();
@@ -145,7 +211,6 @@ fn run_text<H: Threads + Wait + Sync, W: Write>(
 }
 
 /// Writes what a line came to.
-#[inline(always)]
 fn print<W: Write>(writer: &mut W, session: &Session, outcome: &Outcome) -> Result<(), ScriptFault>
     requires { (answer : AnswerValue) × IsPrintedAs session.now outcome.now answer }
     ensures { (answer : AnswerValue) → IsPrintedAs session.now outcome.now answer →

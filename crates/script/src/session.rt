@@ -16,7 +16,8 @@ ghost use Rattle.next_master.specs.master.master_state.Config.{config_fault};
 ghost use Rattle.next_master.specs.Configuration.{config_of};
 ghost use Rattle.script.specs.declared.session.LineFault.TheVariants as line_fault;
 ghost use Rattle.script.specs.Runs.{IsOfFleet};
-ghost use Rattle.script.specs.Sessions.{RunsLine, SessionRecovers, IsPrintedAs, RunsTo};
+ghost use Rattle.script.specs.declared.session.Session.{Session as SessionValue};
+ghost use Rattle.script.specs.Sessions.{RunsLine, SessionRecovers, IsPrintedAs, TriesCommand};
 ghost use Rattle.script.specs.Sessions.{BeginsSession, SessionAnswers, Stands};
 ghost use Rattle.next_master.specs.node.Told.{command_of};
 ghost use Rattle.script.specs.Turns.{HasValue, RefusesLine};
@@ -61,8 +62,8 @@ pub(crate) const FIRST_MASTER: u64 = 1;
 /// What a script drives: a node, which is a fleet with the master over it if there is one, and what outlives the
 /// masters of a node: the coordinator's will, the numbers that masters had, and the format of later masters.
 ///
-/// `start` makes an empty fleet with a master whose head is open. `run_line` runs one line, and gives the answer to
-/// print, or the place of the record whose reply is to be printed.
+/// `start` makes an empty fleet with a master whose head is open. `serve` applies the command of a line, and mostly gives
+/// the place of the record whose reply is to be printed; else `finish` gives the answer. `run_any` runs any other line.
 ///
 /// - What holds: the will covers the tablets, the node stands for one life of a master after another, and later masters
 ///   may begin (*Stands*).
@@ -72,8 +73,9 @@ pub(crate) const FIRST_MASTER: u64 = 1;
 ///
 /// ```text
 /// let mut session = Session::start(alloc, &options)?;
-/// let outcome = session.run_line(rt, Line::Crash)?;                                       // crashed
-/// let outcome = session.run_line(rt, Line::Recover { order: ReplayOrder::Forward })?;     // the table
+/// let tried = session.serve(put);                                              // the place of its record
+/// let answer = session.run_any(rt, Line::Crash)?;                              // crashed
+/// let answer = session.run_any(rt, Line::Recover { order: ReplayOrder::Forward })?;     // the table
 /// ```
 #[derive(Drop)]
 pub struct Session {
@@ -131,29 +133,6 @@ impl Session {
         self.options.backups
     }
 
-    /// Runs one line.
-    #[inline(always)]
-    pub fn run_line<H: Threads + Wait + Sync>(
-        &mut self,
-        rt: &H,
-        line: Line<'_>,
-    ) -> Result<Outcome, LineFault>
-        requires line { IsLine (shown_line line) }
-        requires value { HasValue (shown_line line) }
-        requires stands { Stands self.old }
-        ensures ran { IfOk result (RunsTo self.old (shown_line line.entry) self.new) }
-        ensures of_fleet { IfOk result (λ _. IsOfFleet self.old.options.backups (shown_line line.entry)) }
-        ensures refused { IfErr result (RefusesLine self.old.options.backups (shown_line line.entry)) }
-    {
-        match line {
-            Line::Command(command) => Ok(self.run_command(command)),
-            other => match self.run_any(rt, other) {
-                Ok(answer) => Ok(Outcome::Answered(answer)),
-                Err(fault) => Err(fault),
-            },
-        }
-    }
-
     /// Writes the line of the reply that the record at this place of the history has.
     #[inline(always)]
     pub fn write_reply<W: Write>(&self, place: u64, writer: &mut W) -> io::Result<()>
@@ -167,7 +146,7 @@ impl Session {
     /// Runs one line that has no command. It is out of line, since a command would make room for the results of all
     /// other lines too.
     #[inline(never)]
-    fn run_any<H: Threads + Wait + Sync>(
+    pub(crate) fn run_any<H: Threads + Wait + Sync>(
         &mut self,
         rt: &H,
         line: Line<'_>,
@@ -309,17 +288,30 @@ impl Session {
         Ok(self.node.clean(victims))
     }
 
-    /// Runs the line of a command, which stays where the line lies.
+    /// Applies the command of a line, which stays where the line lies, and pushes until its record is durable.
     #[inline(always)]
-    fn run_command(&mut self, line: CommandLine<'_>) -> Outcome
+    pub(crate) fn serve(&mut self, line: CommandLine<'_>) -> Tried
         requires value { HasValue (shown_command line) }
-        ensures { (answer : AnswerValue) × IsPrintedAs self.new result answer
-            × SessionAnswers self.old (shown_command line.entry) self.new answer }
+        ensures { TriesCommand self.old (shown_command line.entry) self.new result }
     {
-        match self.node.serve(&line_command(line)) {
+        self.node.serve(&line_command(line))
+    }
+
+    /// Goes on with the line of a command that was tried, up to its answer. It is out of line, since most lines have
+    /// their reply at once, and need no room for an answer.
+    #[inline(never)]
+    pub(crate) fn finish(&mut self, line: CommandLine<'_>, tried: Tried) -> Outcome
+        requires value { HasValue (shown_command line) }
+        requires tried { (first : SessionValue) × TriesCommand first (shown_command line) self.old tried }
+        ensures { (first : SessionValue) → TriesCommand first (shown_command line.entry) self.old tried →
+            (answer : AnswerValue) × IsPrintedAs self.new result answer
+            × SessionAnswers first (shown_command line.entry) self.new answer }
+    {
+        match tried {
             Tried::Replied(place) => Outcome::Replied(place),
             Tried::Waits => self.run_after_roll(line),
-            Tried::Answered(answer) => Outcome::Answered(answer),
+            Tried::Refused(refusal) => Outcome::Answered(self.node.refuse(refusal)),
+            Tried::Down => Outcome::Answered(Answer::Down),
         }
     }
 
@@ -336,7 +328,8 @@ impl Session {
         match self.node.serve(&line_command(line)) {
             Tried::Replied(place) => Outcome::Replied(place),
             Tried::Waits => Outcome::Answered(Answer::Refused(Refusal::Rolling)),
-            Tried::Answered(answer) => Outcome::Answered(answer),
+            Tried::Refused(refusal) => Outcome::Answered(self.node.refuse(refusal)),
+            Tried::Down => Outcome::Answered(Answer::Down),
         }
     }
 }

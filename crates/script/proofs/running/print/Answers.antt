@@ -1,4 +1,4 @@
-use Rattle.std.proofs.Common.{◌≡◌, refl, subst}
+use Rattle.std.proofs.Common.{subst}
 use Rattle.std.specs.Io.KnownBytes.{Appends}
 use Rattle.next_master.specs.answers.declared.answer.Answer.{Answer}
 use Rattle.next_master.specs.answers.Texts.{answer_text}

@@ -1,23 +1,22 @@
-use Rattle.std.proofs.Common.{inl, refl}
+use Rattle.std.proofs.Common.{inl, refl, subst}
 use Rattle.std.proofs.KnownBytes.{Keeps-refl}
-use Rattle.lines.specs.Grammar.{shown_line}
+use Rattle.lines.specs.Grammar.{Says, shown_command, shown_line}
+use Rattle.lines.specs.declared.line.Line.{Line}
+use Rattle.script.proofs.Commanding.{command_of_fleet}
 use Rattle.script.proofs.Turning.{answer_printed}
 use Rattle.script.proofs.running.run_text.Goals as goal
 
-pub returns-in-Ok-run_line : goal.returns-in-Ok-run_line
-returns-in-Ok-run_line g c =
-    let ran = c.in-Ok-run_line.ensures.ran in
-    answer_printed _ _ _ _ _ _ ran.0 c.print.result
+pub returns-in-Command : goal.returns-in-Command
+returns-in-Command g c =
+    let ran = c.run_command.ensures in
+    answer_printed _ _ _ _ _ _ ran.0 c.run_command.result
     (record {
-      line = shown_line c.in-Ok.line;
-      says = c.in-Ok.ensures.sound;
-      of_fleet = c.in-Ok-run_line.ensures.of_fleet;
-      runs = ran.2;
+      line = shown_command c.in-Command.command;
+      says = subst (λ (l : Line). Says c.args.text.now (shown_line l)) c.in-Command.is c.in-Ok.ensures.sound;
+      of_fleet = command_of_fleet _ c.in-Command.command;
+      runs = inl ran.1;
     })
-    (c.print.ensures ran.0 ran.1)
-
-pub print-requires : goal.print-requires
-print-requires g c = let ran = c.in-Ok-run_line.ensures.ran in (ran.0, ran.1)
+    ran.2
 
 pub returns-in-Err : goal.returns-in-Err
 returns-in-Err g c = (

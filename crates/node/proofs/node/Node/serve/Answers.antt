@@ -59,15 +59,18 @@ returns-in_default-refusal c =
     let command = shown_command c.args.command.now in
     let m = c.serve-outcome.new.master in
     let r = c.in-Err.refusal in (
-      (λ config line asks d at s.
-          let was : IsOf (Up c.in-Up.up) at.left d = subst (λ (n : Node). IsOf n at.left d) c.in-Up.is s.node_of in
-          let left : IsUnserved d command r (world fleet_state m) =
-          subst (λ (x : MasterData). IsUnserved x command r (world fleet_state m)) was.1 c.in-Err.ensures.unserved in
-          unserved_told d m.knows c.args.self.now (Up m) c.refuse.new.self config at s
-          (is_up_none c.args.self.now d at.left (ap is_up c.in-Up.is) s.node_of)
-          line command asks r c.refuse.result (fleet_state c.in-Up.up.fleet) (fleet_state m.fleet) was.2
-          (refl, refl, c.show_valid.ensures) refl c.show_valid.ensures
-          c.in-Err.ensures.spent left c.refuse.ensures),
-      refused_try c.args.self.now c.in-Up.up m c.in-Up.is command r c.in_default-refusal.not-Rolling
-          c.in-Err.ensures.tried c.refuse.new.self c.refuse.result c.refuse.ensures,
+      refl,
+      λ last answer refuses. (
+        (λ config line asks d at s.
+            let was : IsOf (Up c.in-Up.up) at.left d = subst (λ (n : Node). IsOf n at.left d) c.in-Up.is s.node_of in
+            let left : IsUnserved d command r (world fleet_state m) =
+            subst (λ (x : MasterData). IsUnserved x command r (world fleet_state m)) was.1 c.in-Err.ensures.unserved in
+            unserved_told d m.knows c.args.self.now (Up m) last config at s
+            (is_up_none c.args.self.now d at.left (ap is_up c.in-Up.is) s.node_of)
+            line command asks r answer (fleet_state c.in-Up.up.fleet) (fleet_state m.fleet) was.2
+            (refl, refl, c.show_valid.ensures) refl c.show_valid.ensures
+            c.in-Err.ensures.spent left refuses),
+        refused_try c.args.self.now c.in-Up.up m c.in-Up.is command r c.in_default-refusal.not-Rolling
+            c.in-Err.ensures.tried last answer refuses,
+      ),
     )

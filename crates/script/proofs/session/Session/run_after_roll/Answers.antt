@@ -48,12 +48,35 @@ returns-in-Replied c =
       },
     )
 
-pub returns-in-Answered : goal.returns-in-Answered
-returns-in-Answered c =
-    let t = c.in-Answered.ensures in
+pub returns-in-Refused : goal.returns-in-Refused
+returns-in-Refused c =
+    let t = c.in-Refused.ensures.1 c.refuse.new.self c.refuse.result c.refuse.ensures in
     let line = shown_command c.args.line in
     let tried = lent_command c.line_command.result in
-    let answer = c.in-Answered.answer in (
+    let answer = c.refuse.result in (
+      answer,
+      refl,
+      record {
+        number = refl;
+        options = refl;
+        used = refl;
+        covers = λ all. all;
+        answers = λ old config command asks waits. room_told old _ _ _ config line command answer waits
+            (c.in_default.ensures.told config) (t.0 config line c.line_command.ensures);
+        makes = λ command asks. of_command line _ command c.line_command.ensures asks _ _ answer
+            (rolled_makes c.args.self.now.node _ _ tried answer c.in_default.ensures.rolled t.1);
+        will = refl;
+        known = refl;
+        format = refl;
+      },
+    )
+
+pub returns-in-Down : goal.returns-in-Down
+returns-in-Down c =
+    let t = c.in-Down.ensures in
+    let line = shown_command c.args.line in
+    let tried = lent_command c.line_command.result in
+    let answer = answers.Down in (
       answer,
       refl,
       record {

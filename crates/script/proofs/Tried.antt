@@ -1,0 +1,57 @@
+-- What the line of a command comes to, by what its try came to.
+use Rattle.std.proofs.Common.{◌≡◌, refl, sym, subst}
+use Rattle.std.specs.Prelude.{ℕ, Some, None}
+use Rattle.lines.specs.Grammar.{LineValue}
+use Rattle.versioned_map.specs.declared.command.Command.{Command}
+use Rattle.next_master.specs.answers.declared.answer.Answer.{Answer}
+use Rattle.next_master.specs.node.declared.node.Node.{Node}
+use Rattle.next_master.specs.node.Told.{command_of}
+use Rattle.next_master.specs.answers.declared.answer.Answer.TheVariants as answers
+use Rattle.next_master.specs.node.declared.tried.Tried.TheVariants as tried
+use Rattle.next_master.specs.node.Waits.{MakesTry, Serves}
+use Rattle.next_master.proofs.of_node.Steps.{command_makes}
+use Rattle.next_master.proofs.of_node.Tries.{tried_makes, waited_makes}
+use Rattle.script.specs.declared.session.Session.{Session}
+use Rattle.script.specs.Sessions.{AnswersAfterRoll, SessionAnswers, TriesCommand}
+use Rattle.script.proofs.Sessions.{command_keeps, command_keeps_format, command_keeps_word}
+
+-- a command whose try has this answer
+pub tried_answers : (first : Session) (node : Node) (line : LineValue) (command : Command)
+    → command_of line ≡ Some command → (answer : Answer) → Serves first.node command node (Some answer)
+    → MakesTry first.node command node (Some answer) → SessionAnswers first line (record first { node = node }) answer
+tried_answers first node line command asks answer serves makes = record {
+  number = refl;
+  options = refl;
+  used = refl;
+  covers = λ all. all.0;
+  answers = λ config number. serves config line asks;
+  makes = command_makes _ line _ answer command asks (tried_makes _ _ command answer makes);
+  wills = command_keeps first line (record first { node = node }) answer refl command asks;
+  word = command_keeps_word first line (record first { node = node }) answer refl command asks;
+  format = command_keeps_format first line (record first { node = node }) refl command asks;
+}
+
+-- a command that waits for a roll
+pub waited_answers : (first : Session) (node : Node) (line : LineValue) (command : Command)
+    → command_of line ≡ Some command → (last : Session) (answer : Answer) → Serves first.node command node None
+    → MakesTry first.node command node None → AnswersAfterRoll (record first { node = node }) line last answer
+    → SessionAnswers first line last answer
+waited_answers first node line command asks last answer waits makes ran = record {
+  number = ran.number;
+  options = ran.options;
+  used = ran.used;
+  covers = λ all. ran.covers all.0;
+  answers = λ config number. ran.answers first.node config command asks (waits config);
+  makes = command_makes _ line _ answer command asks
+      (waited_makes _ _ _ command answer makes (ran.makes command asks));
+  wills = command_keeps first line last answer ran.will command asks;
+  word = command_keeps_word first line last answer ran.known command asks;
+  format = command_keeps_format first line last ran.format command asks;
+}
+
+-- a command that has its reply at once
+pub replied_answers : (first now : Session) (line : LineValue) (place : ℕ)
+    → (t : TriesCommand first line now (tried.Replied place)) → SessionAnswers first line now (answers.Reply t.tries.0)
+replied_answers first now line place t =
+    subst (λ (s : Session). SessionAnswers first line s (answers.Reply t.tries.0)) (sym t.rest)
+    (tried_answers first now.node line t.command t.asks (answers.Reply t.tries.0) t.tries.2 t.tries.3)
