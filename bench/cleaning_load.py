@@ -9,8 +9,9 @@ import random
 from collections import Counter
 from dataclasses import dataclass, field
 
+# Bytes of a key, of a value if nothing else is said, and of what the log has beside them.
 KEY, VALUE = 9, 100
-OBJECT, TOMBSTONE, HEADER = 23 + KEY + VALUE, 27 + KEY, 18
+TOMBSTONE, HEADER = 27 + KEY, 18
 MOST_VICTIMS, MOST_SURVIVORS = 32, 4
 # So many segments are free if a put's roll may begin however full the head is: three, and one for the head that it closes.
 LEAST_SPARE = 4
@@ -31,9 +32,10 @@ class Full(Exception):
 
 
 class Log:
-    """One master's log, in counts, whose passes have so many survivors at most."""
+    """One master's log, in counts, whose passes have so many survivors at most, and whose values have so many bytes."""
 
-    def __init__(self, segment, seglet, segments, most_survivors=MOST_SURVIVORS):
+    def __init__(self, segment, seglet, segments, most_survivors=MOST_SURVIVORS, value=VALUE):
+        self.value, self.object = value, 23 + KEY + value
         self.size, self.seglet, self.whole = segment, seglet, segment // seglet
         self.seglets, self.most_survivors = segments * self.whole, most_survivors
         self.next, self.closed, self.place = 2, {}, {}
@@ -61,7 +63,7 @@ class Log:
         self.place[key] = (segment, len(segment.entries))
         segment.entries.append(key)
         segment.live += 1
-        segment.length += OBJECT
+        segment.length += self.object
 
     def bury(self, segment, named):
         """Adds a tombstone that names this segment."""
@@ -72,7 +74,7 @@ class Log:
     def put(self, key):
         """Whether a roll came first."""
         old = self.place.get(key)
-        unit = OBJECT + (TOMBSTONE if old else 0)
+        unit = self.object + (TOMBSTONE if old else 0)
         rolls = self.head.length + unit > self.size
         if rolls:
             self.roll(3 * self.whole)
@@ -88,14 +90,14 @@ class Log:
     def kept(self, segment):
         """The bytes that a pass keeps of a segment."""
         stones = sum(n for named, n in segment.named.items() if self.is_listed(named))
-        return segment.live * OBJECT + stones * TOMBSTONE
+        return segment.live * self.object + stones * TOMBSTONE
 
     def kept_entries(self, segment):
         """The entries that a pass keeps of a segment, each with its length."""
         for at, entry in enumerate(segment.entries):
             if entry >= 0:
                 if self.place[entry] == (segment, at):
-                    yield entry, OBJECT
+                    yield entry, self.object
             elif self.is_listed(~entry):
                 yield entry, TOMBSTONE
 
@@ -128,7 +130,7 @@ class Log:
         survivors = (self.free() - self.count(self.head.length)) // self.whole - 2
         survivors = max(1, min(survivors, self.most_survivors))
         # Of each survivor but the last, less than an object may stay empty.
-        room = survivors * (self.size - HEADER) - (survivors - 1) * (OBJECT - 1)
+        room = survivors * (self.size - HEADER) - (survivors - 1) * (self.object - 1)
         victims = []
         for number in sorted(kept, key=lambda n: (kept[n] / self.closed[n].length, n)):
             if kept[number] <= room and len(victims) < MOST_VICTIMS:
@@ -165,7 +167,7 @@ class Log:
 
 def fill(log, keys):
     """Puts of new keys."""
-    return [f"put 1 key{key:06} {key:0{VALUE}}\n" for key in range(keys) if log.put(key) is not None]
+    return [f"put 1 key{key:06} {key:0{log.value}}\n" for key in range(keys) if log.put(key) is not None]
 
 
 def overwrites(log, keys, puts, by_share=True, spare=LEAST_SPARE):
@@ -181,7 +183,7 @@ def overwrites(log, keys, puts, by_share=True, spare=LEAST_SPARE):
             rolled = log.put(key)
         except Full:
             break
-        lines.append(f"put 1 key{key:06} {made:0{VALUE}}\n")
+        lines.append(f"put 1 key{key:06} {made:0{log.value}}\n")
         made += 1
         while rolled and log.is_short(spare):
             victims, before = log.choose(by_share), log.used

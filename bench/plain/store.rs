@@ -1,26 +1,117 @@
-//! A plain Rust program of the same rules, without contracts: puts and gets over a log, passes that clean it, and the recovery of
-//! all that was put. It reads lines `put TABLE KEY VALUE`, `get TABLE KEY`, `clean SEGMENT..`, `crash` and `recover`, and answers
-//! them as `ramlog` does. It takes nothing but these lines.
+//! A plain Rust program of the same rules, without contracts. It reads the lines `put`, `get`, `clean`, `stop`, `fault`, `lose`,
+//! `crash` and `recover`, and answers them as `ramlog` does: with its tests, its refusals and its bad lines. It knows no other lines,
+//! no format 2, no options but those of memory, and no wills but the one over all tablets.
 
-use std::io::{BufRead, BufWriter, Write};
+use std::cmp::Ordering;
+use std::fmt;
+use std::io::{self, BufRead, BufReader, BufWriter, Read, Write};
+use std::ops::ControlFlow;
+use std::process::ExitCode;
 
-const BACKUPS: u64 = 3;
-const REPLICAS: u64 = 2;
-const MOST_SURVIVORS: usize = 4;
+const BACKUPS: usize = 3;
+const REPLICAS: usize = 2;
+const STEP: u64 = 1;
+const TABLES: u64 = 4;
+const MAX_RECORDS: usize = 1 << 20;
+const MAX_LINE: u64 = 4096;
+const BUFFER: usize = 1 << 16;
+const MAX_KEY: usize = 1024;
+const MAX_VALUE: usize = 1 << 21;
+const MAX_SEGMENT: usize = 1 << 23;
+const MAX_VERSION: u64 = 1 << 62;
+const MAX_VICTIMS: usize = 32;
+const MAX_SURVIVORS: usize = 4;
 const HEADER: usize = 18;
+const DIGEST: usize = 5;
+const SAFE: usize = 9;
 const OBJECT: usize = 23;
 const TOMBSTONE: usize = 27;
 
-fn u64_at(b: &[u8], at: usize) -> u64 {
-    u64::from_be_bytes(b[at..at + 8].try_into().unwrap())
+// ---- refusals
+
+enum Refusal {
+    TooBig,
+    Full,
+    VersionsSpent,
+    HistoryFull,
+    Halted,
+    Rolling,
+    Spent,
+    SegmentsSpent,
+    NoTablet,
+    Down,
+    Up,
+    NoVictims,
+    TooMany,
+    TooMuch,
+    Twice(u64),
+    IsHead(u64),
+    NotInLog(u64),
+    NoHead,
+    HeadClosed(u64),
+    Missing(u64),
+    BadReplica(usize, u64),
+    Clash,
+    Stray,
 }
 
-fn u32_at(b: &[u8], at: usize) -> usize {
-    u32::from_be_bytes(b[at..at + 4].try_into().unwrap()) as usize
+impl fmt::Display for Refusal {
+    fn fmt(&self, f: &mut fmt::Formatter) -> fmt::Result {
+        match self {
+            Refusal::TooBig => write!(f, "TooBig"),
+            Refusal::Full => write!(f, "Full"),
+            Refusal::VersionsSpent => write!(f, "VersionsSpent"),
+            Refusal::HistoryFull => write!(f, "HistoryFull"),
+            Refusal::Halted => write!(f, "Halted"),
+            Refusal::Rolling => write!(f, "Rolling"),
+            Refusal::Spent => write!(f, "Spent"),
+            Refusal::SegmentsSpent => write!(f, "SegmentsSpent"),
+            Refusal::NoTablet => write!(f, "NoTablet"),
+            Refusal::Down => write!(f, "Down"),
+            Refusal::Up => write!(f, "Up"),
+            Refusal::NoVictims => write!(f, "NoVictims"),
+            Refusal::TooMany => write!(f, "TooMany"),
+            Refusal::TooMuch => write!(f, "TooMuch"),
+            Refusal::Twice(id) => write!(f, "Twice {id}"),
+            Refusal::IsHead(id) => write!(f, "IsHead {id}"),
+            Refusal::NotInLog(id) => write!(f, "NotInLog {id}"),
+            Refusal::NoHead => write!(f, "NoHead"),
+            Refusal::HeadClosed(id) => write!(f, "HeadClosed {id}"),
+            Refusal::Missing(id) => write!(f, "Missing {id}"),
+            Refusal::BadReplica(backup, id) => write!(f, "BadReplica {backup} {id}"),
+            Refusal::Clash => write!(f, "Clash"),
+            Refusal::Stray => write!(f, "Stray"),
+        }
+    }
 }
 
-fn u16_at(b: &[u8], at: usize) -> usize {
-    u16::from_be_bytes(b[at..at + 2].try_into().unwrap()) as usize
+// ---- keys and entries
+
+/// A range of keys of one table.
+struct Tablet {
+    table: u64,
+    first: u64,
+    last: u64,
+}
+
+/// Each table is one tablet.
+fn tablets() -> Vec<Tablet> {
+    (1..=TABLES).map(|table| Tablet { table, first: 0, last: u64::MAX }).collect()
+}
+
+/// The first eight bytes of a key, as a number.
+fn place_of(key: &[u8]) -> u64 {
+    let mut place = [0; 8];
+    let len = key.len().min(8);
+    place[..len].copy_from_slice(&key[..len]);
+    u64::from_be_bytes(place)
+}
+
+/// Whether a tablet has the key. They are in order.
+fn have(tablets: &[Tablet], table: u64, key: &[u8]) -> bool {
+    let place = place_of(key);
+    let after = tablets.partition_point(|it| (it.table, it.first) <= (table, place));
+    after > 0 && tablets[after - 1].table == table && place <= tablets[after - 1].last
 }
 
 fn fold(a: u64, b: u64) -> u64 {
@@ -38,33 +129,133 @@ fn hash(table: u64, key: &[u8]) -> u64 {
     h | 1
 }
 
-/// An entry that lies in a segment.
-enum Entry<'a> {
-    Opening(usize),
-    Object { table: u64, key: &'a [u8], version: u64, len: usize },
-    Tombstone { segment: u64, len: usize },
+fn u64_at(b: &[u8], at: usize) -> u64 {
+    u64::from_be_bytes(b[at..at + 8].try_into().unwrap())
 }
 
-fn entry_at(bytes: &[u8], at: usize) -> Entry<'_> {
-    let b = &bytes[at..];
-    match b[0] {
-        1 => Entry::Opening(HEADER),
-        2 => Entry::Opening(5 + 8 * u32_at(b, 1)),
-        3 => Entry::Opening(9),
-        4 => {
-            let (k, v) = (u16_at(b, 17), u32_at(b, 19));
-            Entry::Object { table: u64_at(b, 1), key: &b[OBJECT..OBJECT + k], version: u64_at(b, 9), len: OBJECT + k + v }
+fn u32_at(b: &[u8], at: usize) -> usize {
+    u32::from_be_bytes(b[at..at + 4].try_into().unwrap()) as usize
+}
+
+fn u16_at(b: &[u8], at: usize) -> usize {
+    u16::from_be_bytes(b[at..at + 2].try_into().unwrap()) as usize
+}
+
+/// An entry that lies in a segment.
+enum Entry<'a> {
+    Header { master: u64, segment: u64, is_head: bool },
+    Digest(&'a [u8]),
+    Safe(u64),
+    Object { table: u64, key: &'a [u8], version: u64, value: &'a [u8] },
+    Tombstone { table: u64, key: &'a [u8], version: u64, segment: u64 },
+}
+
+/// The entry at the front of the bytes, and its length; `None` if there is none.
+fn read_entry(b: &[u8]) -> Option<(Entry<'_>, usize)> {
+    match *b.first()? {
+        1 if b.len() >= HEADER && b[17] <= 1 => {
+            Some((Entry::Header { master: u64_at(b, 1), segment: u64_at(b, 9), is_head: b[17] == 0 }, HEADER))
         }
-        _ => Entry::Tombstone { segment: u64_at(b, 17), len: TOMBSTONE + u16_at(b, 25) },
+        2 if b.len() >= DIGEST => {
+            let len = DIGEST + 8 * u32_at(b, 1);
+            let ids = b.get(DIGEST..len)?;
+            let rises = ids.chunks_exact(8).zip(ids.chunks_exact(8).skip(1)).all(|(a, b)| a < b);
+            rises.then_some((Entry::Digest(ids), len))
+        }
+        3 if b.len() >= SAFE => {
+            let safe = u64_at(b, 1);
+            (1..=MAX_VERSION + 1).contains(&safe).then_some((Entry::Safe(safe), SAFE))
+        }
+        4 if b.len() >= OBJECT => {
+            let (table, version, k, v) = (u64_at(b, 1), u64_at(b, 9), u16_at(b, 17), u32_at(b, 19));
+            let len = OBJECT + k + v;
+            let is_good = (1..=MAX_VERSION).contains(&version) && (1..=MAX_KEY).contains(&k) && v <= MAX_VALUE && b.len() >= len;
+            is_good.then(|| (Entry::Object { table, key: &b[OBJECT..OBJECT + k], version, value: &b[OBJECT + k..len] }, len))
+        }
+        5 if b.len() >= TOMBSTONE => {
+            let (table, version, segment, k) = (u64_at(b, 1), u64_at(b, 9), u64_at(b, 17), u16_at(b, 25));
+            let len = TOMBSTONE + k;
+            let is_good = (1..=MAX_VERSION).contains(&version) && (1..=MAX_KEY).contains(&k) && b.len() >= len;
+            is_good.then(|| (Entry::Tombstone { table, key: &b[TOMBSTONE..len], version, segment }, len))
+        }
+        _ => None,
     }
 }
 
-/// The version and the value of the object at a place.
-fn object_at(bytes: &[u8], at: usize) -> (u64, &[u8]) {
-    let b = &bytes[at..];
-    let (k, v) = (u16_at(b, 17), u32_at(b, 19));
-    (u64_at(b, 9), &b[OBJECT + k..OBJECT + k + v])
+/// Appends an object.
+fn write_object(image: &mut Vec<u8>, table: u64, version: u64, key: &[u8], value: &[u8]) {
+    image.push(4);
+    image.extend_from_slice(&table.to_be_bytes());
+    image.extend_from_slice(&version.to_be_bytes());
+    image.extend_from_slice(&(key.len() as u16).to_be_bytes());
+    image.extend_from_slice(&(value.len() as u32).to_be_bytes());
+    image.extend_from_slice(key);
+    image.extend_from_slice(value);
 }
+
+/// Appends a tombstone that names a segment.
+fn write_tombstone(image: &mut Vec<u8>, table: u64, version: u64, segment: u64, key: &[u8]) {
+    image.push(5);
+    image.extend_from_slice(&table.to_be_bytes());
+    image.extend_from_slice(&version.to_be_bytes());
+    image.extend_from_slice(&segment.to_be_bytes());
+    image.extend_from_slice(&(key.len() as u16).to_be_bytes());
+    image.extend_from_slice(key);
+}
+
+fn header(master: u64, id: u64, role: u8, size: usize) -> Vec<u8> {
+    let mut image = Vec::with_capacity(size);
+    image.push(1);
+    image.extend_from_slice(&master.to_be_bytes());
+    image.extend_from_slice(&id.to_be_bytes());
+    image.push(role);
+    image
+}
+
+/// The opening of a segment that is read from a backup.
+enum Opening<'a> {
+    Head { ids: &'a [u8], safe: u64 },
+    Survivor,
+}
+
+/// What a replica shows, if its bytes are those of this segment of this master: its opening, and where that ends.
+fn read_opening(bytes: &[u8], master: u64, segment: u64) -> Option<(Opening<'_>, usize)> {
+    let (Entry::Header { master: m, segment: s, is_head }, mut at) = read_entry(bytes)? else {
+        return None;
+    };
+    if (m, s) != (master, segment) {
+        return None;
+    }
+    if !is_head {
+        return Some((Opening::Survivor, at));
+    }
+    let (Entry::Digest(ids), len) = read_entry(&bytes[at..])? else {
+        return None;
+    };
+    at += len;
+    let last = ids.chunks_exact(8).last()?;
+    let (Entry::Safe(safe), len) = read_entry(&bytes[at..])? else {
+        return None;
+    };
+    (u64_at(last, 0) == segment).then_some((Opening::Head { ids, safe }, at + len))
+}
+
+/// The same, if all behind the opening is objects and tombstones.
+fn read_segment(bytes: &[u8], master: u64, segment: u64) -> Option<Opening<'_>> {
+    if bytes.len() > MAX_SEGMENT {
+        return None;
+    }
+    let (opening, mut at) = read_opening(bytes, master, segment)?;
+    while at < bytes.len() {
+        match read_entry(&bytes[at..])? {
+            (Entry::Object { .. } | Entry::Tombstone { .. }, len) => at += len,
+            _ => return None,
+        }
+    }
+    Some(opening)
+}
+
+// ---- the index
 
 /// A place of the index: no key has hash 0.
 #[derive(Clone, Copy, Default)]
@@ -122,9 +313,145 @@ impl Index {
     }
 }
 
+// ---- backups
+
+struct Replica {
+    master: u64,
+    segment: u64,
+    bytes: Vec<u8>,
+    is_open: bool,
+}
+
+impl Replica {
+    fn place(&self) -> (u64, u64) {
+        (self.master, self.segment)
+    }
+}
+
+enum Act<'a> {
+    Open(&'a [u8]),
+    Extend { at: usize, bytes: &'a [u8] },
+    Close,
+    Seal(&'a [u8]),
+    Free,
+}
+
+enum TakeFault {
+    Wrong,
+    Fault,
+    Spent,
+}
+
+impl From<TakeFault> for Refusal {
+    fn from(fault: TakeFault) -> Refusal {
+        match fault {
+            TakeFault::Wrong => unreachable!("what a backup holds is what its master keeps of it"),
+            TakeFault::Fault => Refusal::Halted,
+            TakeFault::Spent => Refusal::Spent,
+        }
+    }
+}
+
+/// Replicas by master, then by segment.
+#[derive(Default)]
+struct Backup {
+    replicas: Vec<Replica>,
+    last: usize,
+}
+
+impl Backup {
+    /// Where the replica is, or would be. The one that was asked for last is looked at first.
+    fn find(&mut self, place: (u64, u64)) -> Result<usize, usize> {
+        if self.replicas.get(self.last).is_some_and(|it| it.place() == place) {
+            return Ok(self.last);
+        }
+        let found = self.replicas.binary_search_by(|it| it.place().cmp(&place));
+        self.last = found.unwrap_or_else(|at| at);
+        found
+    }
+
+    fn take(&mut self, master: u64, segment: u64, act: Act) -> Result<(), TakeFault> {
+        let found = self.find((master, segment));
+        match (act, found) {
+            (Act::Open(bytes), Err(at)) => {
+                let replica = Replica { master, segment, bytes: bytes.to_vec(), is_open: true };
+                self.replicas.insert(at, replica);
+            }
+            (Act::Seal(bytes), Err(at)) => {
+                let replica = Replica { master, segment, bytes: bytes.to_vec(), is_open: false };
+                self.replicas.insert(at, replica);
+            }
+            (Act::Extend { at, bytes }, Ok(found)) => {
+                let replica = &mut self.replicas[found];
+                if !replica.is_open || replica.bytes.len() != at {
+                    return Err(TakeFault::Wrong);
+                }
+                replica.bytes.extend_from_slice(bytes);
+            }
+            (Act::Close, Ok(found)) if self.replicas[found].is_open => self.replicas[found].is_open = false,
+            (Act::Free, Ok(found)) => drop(self.replicas.remove(found)),
+            _ => return Err(TakeFault::Wrong),
+        }
+        Ok(())
+    }
+}
+
+fn no_backups() -> Vec<Backup> {
+    (0..BACKUPS).map(|_| Backup::default()).collect()
+}
+
+struct Fleet {
+    backups: Vec<Backup>,
+    takes: u64,
+    end: u64,
+    /// The take from now that ends in a fault, 0 for none, and whether its op is taken.
+    asked: (u64, bool),
+}
+
+impl Fleet {
+    fn new() -> Fleet {
+        Fleet { backups: no_backups(), takes: 0, end: u64::MAX, asked: (0, false) }
+    }
+
+    /// Hands an op to a backup.
+    fn take(&mut self, backup: usize, master: u64, segment: u64, act: Act) -> Result<(), TakeFault> {
+        if self.takes == self.end {
+            return Err(TakeFault::Spent);
+        }
+        if self.asked.0 > 0 {
+            self.asked.0 -= 1;
+            if self.asked.0 == 0 {
+                if self.asked.1 {
+                    self.backups[backup].take(master, segment, act)?;
+                    self.takes += 1;
+                }
+                return Err(TakeFault::Fault);
+            }
+        }
+        self.backups.get_mut(backup).ok_or(TakeFault::Wrong)?.take(master, segment, act)?;
+        self.takes += 1;
+        Ok(())
+    }
+
+    /// Frees the replicas of all masters but one.
+    fn retire(&mut self, keep: u64) -> Result<(), TakeFault> {
+        for backup in 0..BACKUPS {
+            let others: Vec<_> = self.backups[backup].replicas.iter().map(Replica::place).filter(|it| it.0 != keep).collect();
+            for (master, segment) in others {
+                self.take(backup, master, segment, Act::Free)?;
+            }
+        }
+        Ok(())
+    }
+}
+
+// ---- the history
+
 /// The commands that were accepted, with their replies, packed in blocks.
+#[derive(Default)]
 struct History {
     blocks: Vec<Vec<u8>>,
+    len: usize,
 }
 
 impl History {
@@ -144,10 +471,46 @@ impl History {
         block.extend_from_slice(&(value.len() as u32).to_be_bytes());
         block.extend_from_slice(key);
         block.extend_from_slice(value);
+        self.len += 1;
     }
 }
 
-/// What an object or a tombstone that lies in a replica says of its key.
+// ---- masters
+
+#[derive(Clone, Copy)]
+struct Sizes {
+    segment: usize,
+    seglet: usize,
+    seglets: usize,
+}
+
+impl Sizes {
+    fn whole(&self) -> usize {
+        self.segment / self.seglet
+    }
+}
+
+struct Master {
+    number: u64,
+    sizes: Sizes,
+    tablets: Vec<Tablet>,
+    is_halted: bool,
+    images: Vec<Option<Vec<u8>>>,
+    /// How many ids the digest in force lists.
+    listed: usize,
+    /// The seglets of closed images.
+    closed: usize,
+    head: u64,
+    next: u64,
+    /// How many bytes of the head each replica has.
+    taken: [usize; REPLICAS],
+    /// The version of the next new key.
+    safe: u64,
+    index: Index,
+    history: History,
+}
+
+/// Everything that an object needs to be put in order.
 struct Claim<'a> {
     table: u64,
     key: &'a [u8],
@@ -156,70 +519,68 @@ struct Claim<'a> {
     value: &'a [u8],
 }
 
-struct Master {
-    number: u64,
-    size: usize,
-    seglet: usize,
-    images: Vec<Option<Vec<u8>>>,
-    head: u64,
-    next: u64,
-    /// The version of the next new key.
-    safe: u64,
-    backups: Vec<Vec<Option<Vec<u8>>>>,
-    index: Index,
-    history: History,
+impl Claim<'_> {
+    fn rank(&self, other: &Claim) -> Ordering {
+        (self.table, self.key, self.version, self.is_dead).cmp(&(other.table, other.key, other.version, other.is_dead))
+    }
 }
 
 impl Master {
     /// A master with this number, whose versions begin with `safe`.
-    fn new(number: u64, size: usize, seglet: usize, safe: u64) -> Master {
+    fn new(number: u64, sizes: Sizes, safe: u64, fleet: &mut Fleet) -> Result<Master, Refusal> {
         let mut master = Master {
             number,
-            size,
-            seglet,
+            sizes,
+            tablets: tablets(),
+            is_halted: false,
             images: vec![None],
-            head: 1,
+            listed: 0,
+            closed: 0,
+            head: 0,
             next: 1,
+            taken: [0; REPLICAS],
             safe,
-            backups: (0..BACKUPS).map(|_| vec![None]).collect(),
             index: Index::new(),
-            history: History { blocks: Vec::new() },
+            history: History::default(),
         };
-        master.open();
-        master
+        let id = master.take_id()?;
+        let image = master.opening(id, &[]);
+        master.open(fleet, id, image)?;
+        master.listed = 1;
+        Ok(master)
     }
 
-    fn take_id(&mut self) -> u64 {
+    fn take_id(&mut self) -> Result<u64, Refusal> {
+        if self.next > 1 << 62 {
+            return Err(Refusal::SegmentsSpent);
+        }
         let id = self.next;
         self.next += 1;
         self.images.push(None);
-        for backup in &mut self.backups {
-            backup.push(None);
-        }
-        id
+        Ok(id)
     }
 
-    fn header(&self, id: u64, role: u8) -> Vec<u8> {
-        let mut image = Vec::with_capacity(self.size);
-        image.push(1);
-        image.extend_from_slice(&self.number.to_be_bytes());
-        image.extend_from_slice(&id.to_be_bytes());
-        image.push(role);
-        image
+    fn image(&self, id: u64) -> &Vec<u8> {
+        self.images[id as usize].as_ref().unwrap()
     }
 
-    fn replicas(&mut self, id: u64) -> impl Iterator<Item = &mut Option<Vec<u8>>> {
-        let first = id % BACKUPS;
-        self.backups.iter_mut().enumerate().filter_map(move |(at, backup)| {
-            let j = (at as u64 + BACKUPS - first) % BACKUPS;
-            (j < REPLICAS).then(|| &mut backup[id as usize])
+    fn home(&self, segment: u64, replica: usize) -> usize {
+        ((segment * STEP + replica as u64) % BACKUPS as u64) as usize
+    }
+
+    /// Hands an op to the backup of a replica.
+    fn take(&mut self, fleet: &mut Fleet, segment: u64, replica: usize, act: Act) -> Result<(), Refusal> {
+        fleet.take(self.home(segment, replica), self.number, segment, act).map_err(|fault| {
+            self.is_halted |= matches!(fault, TakeFault::Fault);
+            fault.into()
         })
     }
 
-    fn open(&mut self) {
-        let id = self.take_id();
-        let ids: Vec<u64> = (1..id).filter(|&s| self.images[s as usize].is_some()).chain([id]).collect();
-        let mut image = self.header(id, 0);
+    /// The opening of a head whose digest leaves these out.
+    fn opening(&self, id: u64, leaving: &[u64]) -> Vec<u8> {
+        let mut image = header(self.number, id, 0, self.sizes.segment);
+        let is_listed = |s: &u64| *s == id || self.images[*s as usize].is_some() && !leaving.contains(s);
+        let ids: Vec<u64> = (1..=id).filter(is_listed).collect();
         image.push(2);
         image.extend_from_slice(&(ids.len() as u32).to_be_bytes());
         for id in ids {
@@ -227,184 +588,187 @@ impl Master {
         }
         image.push(3);
         image.extend_from_slice(&self.safe.to_be_bytes());
-        for replica in self.replicas(id) {
-            *replica = Some(image.clone());
-        }
-        self.images[id as usize] = Some(image);
-        self.head = id;
+        image
     }
 
-    fn roll(&mut self) {
-        let seglet = self.seglet;
-        let image = self.images[self.head as usize].as_mut().unwrap();
-        image.shrink_to(image.len().div_ceil(seglet) * seglet);
-        self.open();
+    /// Opens a head on its backups.
+    fn open(&mut self, fleet: &mut Fleet, id: u64, image: Vec<u8>) -> Result<(), Refusal> {
+        for replica in 0..REPLICAS {
+            self.take(fleet, id, replica, Act::Open(&image))?;
+        }
+        self.taken = [image.len(); REPLICAS];
+        self.images[id as usize] = Some(image);
+        self.head = id;
+        Ok(())
+    }
+
+    /// The replica that lacks most, and of several the first.
+    fn lagging(&self) -> Option<usize> {
+        let replica = (0..REPLICAS).min_by_key(|&j| self.taken[j])?;
+        (self.taken[replica] < self.image(self.head).len()).then_some(replica)
+    }
+
+    /// Hands each replica of the head all that it lacks.
+    fn push(&mut self, fleet: &mut Fleet) -> Result<(), Refusal> {
+        while let Some(replica) = self.lagging() {
+            if self.is_halted {
+                return Err(Refusal::Halted);
+            }
+            let at = self.taken[replica];
+            let image = self.images[self.head as usize].take().unwrap();
+            let taken = self.take(fleet, self.head, replica, Act::Extend { at, bytes: &image[at..] });
+            let len = image.len();
+            self.images[self.head as usize] = Some(image);
+            taken?;
+            self.taken[replica] = len;
+        }
+        Ok(())
+    }
+
+    fn count(&self, len: usize) -> usize {
+        len.div_ceil(self.sizes.seglet)
+    }
+
+    fn free(&self) -> usize {
+        self.sizes.seglets - self.closed - self.sizes.whole()
+    }
+
+    /// Whether a roll may begin that wants so many whole segments free.
+    fn may_roll(&self, wanted: usize) -> bool {
+        let most = self.sizes.segment / 32;
+        let needed = wanted * self.sizes.whole() + self.count(self.image(self.head).len());
+        self.listed + 1 <= most - 1 && needed <= self.free()
+    }
+
+    /// A roll, which may be the commit of a pass that has these victims.
+    fn roll(&mut self, fleet: &mut Fleet, leaving: &[u64]) -> Result<(), Refusal> {
+        let (old, id) = (self.head, self.take_id()?);
+        let opening = self.opening(id, leaving);
+        let listed = self.listed + 1;
+        self.push(fleet)?;
+        let (seglet, len) = (self.sizes.seglet, self.image(old).len());
+        self.open(fleet, id, opening)?;
+        for replica in 0..REPLICAS {
+            self.take(fleet, old, replica, Act::Close)?;
+        }
+        let seglets = self.count(len);
+        self.images[old as usize].as_mut().unwrap().shrink_to(seglets * seglet);
+        self.closed += seglets;
+        self.listed = listed;
+        Ok(())
     }
 
     /// The slot of the key, and the version of its object.
-    fn find(&self, hash: u64, table: u64, key: &[u8]) -> (Option<usize>, u64) {
+    fn find(&self, hash: u64, table: u64, key: &[u8]) -> Option<(usize, u64)> {
         let mut found = 0;
-        let slot = self.index.find(hash, |slot| {
-            let image = self.images[slot.segment as usize].as_ref().unwrap();
-            match entry_at(image, slot.at as usize) {
-                Entry::Object { table: t, key: k, version, .. } if t == table && k == key => {
-                    found = version;
-                    true
-                }
-                _ => false,
+        let slot = self.index.find(hash, |slot| match read_entry(&self.image(slot.segment as u64)[slot.at as usize..]) {
+            Some((Entry::Object { table: t, key: k, version, .. }, _)) if t == table && k == key => {
+                found = version;
+                true
             }
+            _ => false,
         });
-        (slot, found)
+        slot.map(|slot| (slot, found))
+    }
+
+    /// The tests of each command.
+    fn admit(&self, table: u64, key: &[u8]) -> Result<(), Refusal> {
+        if !have(&self.tablets, table, key) {
+            return Err(Refusal::NoTablet);
+        }
+        if self.history.len >= MAX_RECORDS {
+            return Err(Refusal::HistoryFull);
+        }
+        Ok(())
     }
 
     /// Writes the answer to a get.
-    fn get(&mut self, table: u64, key: &[u8], output: &mut impl Write) {
-        let Some(slot) = self.find(hash(table, key), table, key).0 else {
+    fn get(&mut self, table: u64, key: &[u8], output: &mut impl Write) -> Result<io::Result<()>, Refusal> {
+        if self.is_halted {
+            return Err(Refusal::Halted);
+        }
+        self.admit(table, key)?;
+        let Some((slot, version)) = self.find(hash(table, key), table, key) else {
             self.history.push(2, table, key, 0, &[]);
-            return output.write_all(b"none\n").unwrap();
+            return Ok(output.write_all(b"none\n"));
         };
         let slot = self.index.slots[slot];
         let image = self.images[slot.segment as usize].as_ref().unwrap();
-        let (version, value) = object_at(image, slot.at as usize);
+        let Some((Entry::Object { value, .. }, _)) = read_entry(&image[slot.at as usize..]) else {
+            unreachable!()
+        };
         self.history.push(1, table, key, version, value);
-        write!(output, "{version} ").unwrap();
-        output.write_all(value).unwrap();
-        output.write_all(b"\n").unwrap();
+        let wrote = write!(output, "{version} ").and_then(|()| output.write_all(value)).and_then(|()| output.write_all(b"\n"));
+        Ok(wrote)
     }
 
-    fn put(&mut self, table: u64, key: &[u8], value: &[u8]) -> u64 {
+    /// Puts, and pushes until it is durable. The version.
+    fn put(&mut self, fleet: &mut Fleet, table: u64, key: &[u8], value: &[u8]) -> Result<u64, Refusal> {
+        match self.try_put(table, key, value) {
+            Err(Refusal::Rolling) => {
+                self.roll(fleet, &[])?;
+                self.try_put(table, key, value)
+            }
+            put => put,
+        }
+        .and_then(|version| self.push(fleet).map(|()| version))
+    }
+
+    fn try_put(&mut self, table: u64, key: &[u8], value: &[u8]) -> Result<u64, Refusal> {
+        if self.is_halted {
+            return Err(Refusal::Halted);
+        }
+        if 50 + 2 * key.len() + value.len() > self.sizes.segment / 4 {
+            return Err(Refusal::TooBig);
+        }
+        self.admit(table, key)?;
         let hash = hash(table, key);
-        let (old, old_version) = self.find(hash, table, key);
+        let old = self.find(hash, table, key);
+        let version = old.map_or(self.safe, |(_, version)| version + 1);
+        if version > MAX_VERSION {
+            return Err(Refusal::VersionsSpent);
+        }
         let unit = OBJECT + key.len() + value.len() + if old.is_some() { TOMBSTONE + key.len() } else { 0 };
-        if self.images[self.head as usize].as_ref().unwrap().len() + unit > self.size {
-            self.roll();
+        if self.image(self.head).len() + unit > self.sizes.segment {
+            return Err(if self.may_roll(3) { Refusal::Rolling } else { Refusal::Full });
         }
-        let version = if old.is_some() { old_version + 1 } else { self.safe };
-        let head = self.head;
-        let image = self.images[head as usize].as_mut().unwrap();
-        let from = image.len();
-        if let Some(slot) = old {
-            image.push(5);
-            image.extend_from_slice(&table.to_be_bytes());
-            image.extend_from_slice(&old_version.to_be_bytes());
-            image.extend_from_slice(&(self.index.slots[slot].segment as u64).to_be_bytes());
-            image.extend_from_slice(&(key.len() as u16).to_be_bytes());
-            image.extend_from_slice(key);
+        let image = self.images[self.head as usize].as_mut().unwrap();
+        if let Some((slot, version)) = old {
+            write_tombstone(image, table, version, self.index.slots[slot].segment as u64, key);
         }
-        let at = image.len();
-        image.push(4);
-        image.extend_from_slice(&table.to_be_bytes());
-        image.extend_from_slice(&version.to_be_bytes());
-        image.extend_from_slice(&(key.len() as u16).to_be_bytes());
-        image.extend_from_slice(&(value.len() as u32).to_be_bytes());
-        image.extend_from_slice(key);
-        image.extend_from_slice(value);
-        let image = self.images[head as usize].take().unwrap();
-        for replica in self.replicas(head) {
-            replica.as_mut().unwrap().extend_from_slice(&image[from..]);
-        }
-        self.images[head as usize] = Some(image);
-        let new = Slot { hash, segment: head as u32, at: at as u32 };
+        let new = Slot { hash, segment: self.head as u32, at: image.len() as u32 };
+        write_object(image, table, version, key, value);
         match old {
-            Some(slot) => self.index.slots[slot] = new,
+            Some((slot, _)) => self.index.slots[slot] = new,
             None => {
                 self.index.insert(new);
                 self.safe += 1;
             }
         }
         self.history.push(0, table, key, version, value);
-        version
+        Ok(version)
     }
 
     /// Puts an object with its own version behind the head's others. No replica has it yet.
-    fn load(&mut self, claim: &Claim) {
-        let head = self.images[self.head as usize].as_ref().unwrap();
-        if head.len() + OBJECT + claim.key.len() + claim.value.len() > self.size {
-            self.push();
-            self.roll();
+    fn load(&mut self, fleet: &mut Fleet, claim: &Claim) -> Result<Slot, Refusal> {
+        if 50 + 2 * claim.key.len() + claim.value.len() > self.sizes.segment / 4 {
+            return Err(Refusal::TooBig);
+        }
+        if !have(&self.tablets, claim.table, claim.key) {
+            return Err(Refusal::NoTablet);
+        }
+        if self.image(self.head).len() + OBJECT + claim.key.len() + claim.value.len() > self.sizes.segment {
+            if !self.may_roll(2) {
+                return Err(Refusal::Full);
+            }
+            self.roll(fleet, &[])?;
         }
         let image = self.images[self.head as usize].as_mut().unwrap();
-        let at = image.len();
-        image.push(4);
-        image.extend_from_slice(&claim.table.to_be_bytes());
-        image.extend_from_slice(&claim.version.to_be_bytes());
-        image.extend_from_slice(&(claim.key.len() as u16).to_be_bytes());
-        image.extend_from_slice(&(claim.value.len() as u32).to_be_bytes());
-        image.extend_from_slice(claim.key);
-        image.extend_from_slice(claim.value);
-        self.index.insert(Slot { hash: hash(claim.table, claim.key), segment: self.head as u32, at: at as u32 });
-    }
-
-    /// Hands the head's replicas all that they lack.
-    fn push(&mut self) {
-        let head = self.head;
-        let image = self.images[head as usize].take().unwrap();
-        for replica in self.replicas(head) {
-            let replica = replica.as_mut().unwrap();
-            let from = replica.len();
-            replica.extend_from_slice(&image[from..]);
-        }
-        self.images[head as usize] = Some(image);
-    }
-
-    /// The ids of the digest of the newest head that a replica shows, and the safe version that it recorded.
-    fn digest(&self) -> (Vec<u64>, u64) {
-        let head = self.replica(self.head);
-        let count = u32_at(head, 19);
-        ((0..count).map(|n| u64_at(head, 23 + 8 * n)).collect(), u64_at(head, 24 + 8 * count))
-    }
-
-    /// The replica of a segment on the lowest backup.
-    fn replica(&self, id: u64) -> &[u8] {
-        self.backups.iter().find_map(|backup| backup[id as usize].as_deref()).unwrap()
-    }
-
-    /// The next master, from what the backups hold, and the table, written.
-    fn recover(&self, output: &mut impl Write) -> Master {
-        let (ids, mut safe) = self.digest();
-        let mut claims = Vec::new();
-        for id in ids {
-            let replica = self.replica(id);
-            let mut at = 0;
-            while at < replica.len() {
-                at += match entry_at(replica, at) {
-                    Entry::Opening(len) => len,
-                    Entry::Object { table, key, version, len } => {
-                        let value = object_at(replica, at).1;
-                        claims.push(Claim { table, key, version, is_dead: false, value });
-                        safe = safe.max(version + 1);
-                        len
-                    }
-                    Entry::Tombstone { len, .. } => {
-                        let (b, version) = (&replica[at..], u64_at(replica, at + 9));
-                        let key = &b[TOMBSTONE..len];
-                        claims.push(Claim { table: u64_at(b, 1), key, version, is_dead: true, value: &[] });
-                        safe = safe.max(version + 1);
-                        len
-                    }
-                };
-            }
-        }
-        claims.sort_unstable_by(|a, b| {
-            (a.table, a.key, a.version, a.is_dead).cmp(&(b.table, b.key, b.version, b.is_dead))
-        });
-        let mut next = Master::new(self.number + 1, self.size, self.seglet, safe);
-        let mut count = 0;
-        for (n, claim) in claims.iter().enumerate() {
-            let is_last = claims.get(n + 1).is_none_or(|later| (later.table, later.key) != (claim.table, claim.key));
-            if is_last && !claim.is_dead {
-                next.load(claim);
-                write!(output, "{} ", claim.table).unwrap();
-                output.write_all(claim.key).unwrap();
-                write!(output, " {} ", claim.version).unwrap();
-                output.write_all(claim.value).unwrap();
-                output.write_all(b"\n").unwrap();
-                count += 1;
-            }
-        }
-        next.push();
-        writeln!(output, "recovered {count}").unwrap();
-        next
+        let at = image.len() as u32;
+        write_object(image, claim.table, claim.version, claim.key, claim.value);
+        let slot = Slot { hash: hash(claim.table, claim.key), segment: self.head as u32, at };
+        self.index.insert(slot);
+        Ok(slot)
     }
 
     fn is_held(&self, table: u64, key: &[u8], id: u64, at: usize) -> Option<usize> {
@@ -413,22 +777,22 @@ impl Master {
 
     /// How many survivors what a pass keeps of these fills. It reads no more of them once all the rest fits the last one.
     fn count_survivors(&self, victims: &[u64]) -> usize {
-        let mut left: usize = victims.iter().map(|&id| self.images[id as usize].as_ref().unwrap().len()).sum();
+        let mut left: usize = victims.iter().map(|&id| self.image(id).len()).sum();
         let (mut count, mut level) = (1, HEADER);
         for &id in victims {
-            if level + left <= self.size {
+            if level + left <= self.sizes.segment || count > MAX_SURVIVORS {
                 break;
             }
-            let image = self.images[id as usize].as_ref().unwrap();
+            let image = self.image(id);
             left -= image.len();
             let mut at = 0;
-            while at < image.len() {
-                let (is_kept, len) = match entry_at(image, at) {
-                    Entry::Opening(len) => (false, len),
-                    Entry::Object { table, key, len, .. } => (self.is_held(table, key, id, at).is_some(), len),
-                    Entry::Tombstone { segment, len } => (self.images[segment as usize].is_some(), len),
+            while let Some((entry, len)) = read_entry(&image[at..]) {
+                let is_kept = match entry {
+                    Entry::Object { table, key, .. } => self.is_held(table, key, id, at).is_some(),
+                    Entry::Tombstone { segment, .. } => self.is_listed(segment),
+                    _ => false,
                 };
-                if is_kept && level + len > self.size {
+                if is_kept && level + len > self.sizes.segment {
                     (count, level) = (count + 1, HEADER);
                 }
                 level += if is_kept { len } else { 0 };
@@ -438,102 +802,453 @@ impl Master {
         count
     }
 
-    /// Cleans these segments. It answers the survivors and the new head.
-    fn clean(&mut self, victims: &[u64]) -> Option<(Vec<u64>, u64)> {
-        let count = self.count_survivors(victims);
-        if count > MOST_SURVIVORS {
-            return None;
+    fn is_listed(&self, id: u64) -> bool {
+        self.images.get(id as usize).is_some_and(Option::is_some)
+    }
+
+    /// The tests of a pass. How many survivors it has.
+    fn admit_pass(&self, victims: &[u64]) -> Result<usize, Refusal> {
+        if self.is_halted {
+            return Err(Refusal::Halted);
         }
-        let ids: Vec<u64> = (0..count).map(|_| self.take_id()).collect();
-        let mut survivors: Vec<Vec<u8>> = ids.iter().map(|&id| self.header(id, 1)).collect();
+        if victims.is_empty() {
+            return Err(Refusal::NoVictims);
+        }
+        if victims.len() > MAX_VICTIMS {
+            return Err(Refusal::TooMany);
+        }
+        for (at, id) in victims.iter().enumerate() {
+            if victims[..at].contains(id) {
+                return Err(Refusal::Twice(*id));
+            }
+            if *id == self.head {
+                return Err(Refusal::IsHead(*id));
+            }
+            if !self.is_listed(*id) {
+                return Err(Refusal::NotInLog(*id));
+            }
+        }
+        let count = self.count_survivors(victims);
+        if count > MAX_SURVIVORS {
+            return Err(Refusal::TooMuch);
+        }
+        let most = self.sizes.segment / 32;
+        if (count + 1) * self.sizes.whole() > self.free() || self.listed + count + 1 > most + victims.len() {
+            return Err(Refusal::Full);
+        }
+        Ok(count)
+    }
+
+    /// Copies what is kept of a victim to the survivors.
+    fn copy(&mut self, id: u64, ids: &[u64], survivors: &mut [Vec<u8>], filling: &mut usize) {
+        let victim = self.images[id as usize].take().unwrap();
+        let mut at = 0;
+        while let Some((entry, len)) = read_entry(&victim[at..]) {
+            let (slot, is_kept) = match entry {
+                Entry::Object { table, key, .. } => {
+                    let slot = self.is_held(table, key, id, at);
+                    (slot, slot.is_some())
+                }
+                Entry::Tombstone { segment, .. } => (None, segment == id || self.is_listed(segment)),
+                _ => (None, false),
+            };
+            if is_kept {
+                if survivors[*filling].len() + len > self.sizes.segment {
+                    *filling += 1;
+                }
+                if let Some(slot) = slot {
+                    let slot = &mut self.index.slots[slot];
+                    (slot.segment, slot.at) = (ids[*filling] as u32, survivors[*filling].len() as u32);
+                }
+                survivors[*filling].extend_from_slice(&victim[at..at + len]);
+            }
+            at += len;
+        }
+        self.images[id as usize] = Some(victim);
+    }
+
+    /// Cleans these segments. It answers the survivors and the new head.
+    fn clean(&mut self, fleet: &mut Fleet, victims: &[u64]) -> Result<(Vec<u64>, u64), Refusal> {
+        let count = self.admit_pass(victims)?;
+        let ids = (0..count).map(|_| self.take_id()).collect::<Result<Vec<u64>, Refusal>>()?;
+        let mut survivors: Vec<_> = ids.iter().map(|&id| header(self.number, id, 1, self.sizes.segment)).collect();
         let mut filling = 0;
         for &id in victims {
-            let victim = self.images[id as usize].take().unwrap();
-            let mut at = 0;
-            while at < victim.len() {
-                let (slot, is_kept, len) = match entry_at(&victim, at) {
-                    Entry::Opening(len) => (None, false, len),
-                    Entry::Object { table, key, len, .. } => {
-                        let slot = self.is_held(table, key, id, at);
-                        (slot, slot.is_some(), len)
-                    }
-                    Entry::Tombstone { segment, len } => {
-                        (None, self.images[segment as usize].is_some() || victims.contains(&segment), len)
-                    }
-                };
-                if is_kept {
-                    if survivors[filling].len() + len > self.size {
-                        filling += 1;
-                    }
-                    if let Some(slot) = slot {
-                        let slot = &mut self.index.slots[slot];
-                        (slot.segment, slot.at) = (ids[filling] as u32, survivors[filling].len() as u32);
-                    }
-                    survivors[filling].extend_from_slice(&victim[at..at + len]);
-                }
-                at += len;
-            }
-            self.images[id as usize] = Some(victim);
+            self.copy(id, &ids, &mut survivors, &mut filling);
         }
         for (&id, mut image) in ids.iter().zip(survivors) {
-            for replica in self.replicas(id) {
-                *replica = Some(image.clone());
+            for replica in 0..REPLICAS {
+                self.take(fleet, id, replica, Act::Seal(&image))?;
             }
-            image.shrink_to(image.len().div_ceil(self.seglet) * self.seglet);
+            let seglets = self.count(image.len());
+            image.shrink_to(seglets * self.sizes.seglet);
+            self.closed += seglets;
             self.images[id as usize] = Some(image);
         }
+        self.listed = self.listed + count - victims.len();
+        self.roll(fleet, victims)?;
         for &id in victims {
-            self.images[id as usize] = None;
+            let image = self.images[id as usize].take().unwrap();
+            self.closed -= self.count(image.len());
         }
-        self.roll();
-        for &id in victims {
-            for replica in self.replicas(id) {
-                *replica = None;
+        let mut waiting = victims.to_vec();
+        waiting.sort_unstable();
+        for id in waiting {
+            for replica in 0..REPLICAS {
+                self.take(fleet, id, replica, Act::Free)?;
             }
         }
-        Some((ids, self.head))
+        Ok((ids, self.head))
     }
 }
 
-fn main() {
-    let words: Vec<usize> = std::env::args().skip(1).map(|word| word.parse().unwrap()).collect();
-    let mut master = Master::new(1, words[0], words[1], 1);
-    let mut input = std::io::stdin().lock();
-    let mut output = BufWriter::new(std::io::stdout().lock());
-    let mut line = Vec::new();
-    while input.read_until(b'\n', &mut line).unwrap() > 0 {
-        let mut words = line.strip_suffix(b"\n").unwrap_or(&line).split(|&byte| byte == b' ');
-        let number = |word: &[u8]| std::str::from_utf8(word).unwrap().parse::<u64>().unwrap();
-        match words.next() {
-            Some(b"put") => {
-                let table = number(words.next().unwrap());
-                let version = master.put(table, words.next().unwrap(), words.next().unwrap());
-                writeln!(output, "ok {version}").unwrap();
-            }
-            Some(b"get") => {
-                let table = number(words.next().unwrap());
-                master.get(table, words.next().unwrap(), &mut output);
-            }
-            Some(b"crash") => {
-                let Master { number, size, seglet, head, next, backups, .. } = master;
-                let mut left = Master::new(number, size, seglet, 1);
-                (left.head, left.next, left.backups) = (head, next, backups);
-                master = left;
-                writeln!(output, "crashed").unwrap();
-            }
-            Some(b"recover") => master = master.recover(&mut output),
-            _ => {
-                let victims: Vec<u64> = words.map(number).collect();
-                match master.clean(&victims) {
-                    Some((survivors, head)) => {
-                        write!(output, "cleaned").unwrap();
-                        survivors.iter().for_each(|id| write!(output, " {id}").unwrap());
-                        writeln!(output, " {head}").unwrap();
+// ---- recovery
+
+/// Which replicas a recovery reads, and the safe version of the head.
+struct Plan<'a> {
+    texts: Vec<&'a [u8]>,
+    safe: u64,
+}
+
+/// The replica of a segment that a recovery reads: a closed one, else the longest open one; of several the first.
+fn usable(backups: &[Backup], master: u64, segment: u64) -> Option<&[u8]> {
+    let mut best: Option<&Replica> = None;
+    for backup in backups {
+        let Ok(at) = backup.replicas.binary_search_by(|it| it.place().cmp(&(master, segment))) else {
+            continue;
+        };
+        let one = &backup.replicas[at];
+        if best.is_none_or(|best| best.is_open && (!one.is_open || best.bytes.len() < one.bytes.len())) {
+            best = Some(one);
+        }
+    }
+    best.map(|it| &it.bytes[..])
+}
+
+/// Tests each replica of the master, and finds the newest log.
+fn plan(backups: &[Backup], master: u64) -> Result<Plan<'_>, Refusal> {
+    let (mut newest, mut head): (u64, Option<&Replica>) = (0, None);
+    for (at, backup) in backups.iter().enumerate() {
+        for one in backup.replicas.iter().filter(|it| it.master == master) {
+            match read_segment(&one.bytes, master, one.segment) {
+                None => return Err(Refusal::BadReplica(at, one.segment)),
+                Some(Opening::Survivor) => {}
+                Some(Opening::Head { .. }) => {
+                    if one.segment > newest {
+                        (newest, head) = (one.segment, None);
                     }
-                    None => writeln!(output, "refused TooMuch").unwrap(),
+                    let is_better = one.is_open && head.is_none_or(|best| best.bytes.len() < one.bytes.len());
+                    if one.segment == newest && is_better {
+                        head = Some(one);
+                    }
                 }
             }
         }
-        line.clear();
     }
+    if newest == 0 {
+        return Err(Refusal::NoHead);
+    }
+    let head = head.ok_or(Refusal::HeadClosed(newest))?;
+    let Some((Opening::Head { ids, safe }, _)) = read_opening(&head.bytes, master, newest) else {
+        unreachable!()
+    };
+    let others = &ids[..ids.len() - 8];
+    let mut texts = others
+        .chunks_exact(8)
+        .map(|id| usable(backups, master, u64_at(id, 0)).ok_or(Refusal::Missing(u64_at(id, 0))))
+        .collect::<Result<Vec<_>, Refusal>>()?;
+    texts.push(&head.bytes);
+    Ok(Plan { texts, safe })
+}
+
+/// The objects of a plan in order, and its safe version.
+fn rebuild<'a>(plan: &Plan<'a>, tablets: &[Tablet]) -> Result<(Vec<Claim<'a>>, u64), Refusal> {
+    let (mut claims, mut safe) = (Vec::new(), plan.safe);
+    for text in &plan.texts {
+        let mut at = 0;
+        while let Some((entry, len)) = read_entry(&text[at..]) {
+            at += len;
+            let claim = match entry {
+                Entry::Object { table, key, version, value } => Claim { table, key, version, is_dead: false, value },
+                Entry::Tombstone { table, key, version, .. } => Claim { table, key, version, is_dead: true, value: &[] },
+                _ => continue,
+            };
+            if !have(tablets, claim.table, claim.key) {
+                return Err(Refusal::Stray);
+            }
+            safe = safe.max(claim.version + 1);
+            claims.push(claim);
+        }
+    }
+    claims.sort_unstable_by(Claim::rank);
+    for pair in claims.windows(2) {
+        if pair[0].rank(&pair[1]).is_eq() && pair[0].value != pair[1].value {
+            return Err(Refusal::Clash);
+        }
+    }
+    let mut left = 0;
+    for at in 0..claims.len() {
+        let is_last = claims.get(at + 1).is_none_or(|it| (it.table, it.key) != (claims[at].table, claims[at].key));
+        if is_last && !claims[at].is_dead {
+            claims.swap(left, at);
+            left += 1;
+        }
+    }
+    claims.truncate(left);
+    Ok((claims, safe))
+}
+
+// ---- the session
+
+struct Session {
+    sizes: Sizes,
+    fleet: Fleet,
+    master: Option<Master>,
+    /// The master that a recovery is for, and the greatest number that was used.
+    number: u64,
+    used: u64,
+}
+
+enum Line<'a> {
+    Idle,
+    Put(u64, &'a [u8], &'a [u8]),
+    Get(u64, &'a [u8]),
+    Clean(Vec<u64>),
+    Stop(u64),
+    Fault(u64, bool),
+    Lose(usize),
+    Crash,
+    Recover,
+}
+
+/// A number in decimal digits, without leading zeros.
+fn number(word: &[u8]) -> Option<u64> {
+    if word.first()? == &b'0' && word.len() > 1 || !word.iter().all(u8::is_ascii_digit) {
+        return None;
+    }
+    std::str::from_utf8(word).ok()?.parse().ok()
+}
+
+fn is_word(word: &[u8]) -> bool {
+    !word.is_empty() && word.iter().all(|byte| (0x21..=0x7E).contains(byte))
+}
+
+fn key(word: &[u8]) -> Option<&[u8]> {
+    (is_word(word) && word.len() <= MAX_KEY).then_some(word)
+}
+
+fn parse(text: &[u8]) -> Option<Line<'_>> {
+    if text.is_empty() || text[0] == b'#' {
+        return Some(Line::Idle);
+    }
+    let mut words = text.split(|&byte| byte == b' ');
+    let line = match words.next()? {
+        b"put" => {
+            let (table, key, value) = (number(words.next()?)?, key(words.next()?)?, words.next()?);
+            is_word(value).then_some(Line::Put(table, key, value))?
+        }
+        b"get" => Line::Get(number(words.next()?)?, key(words.next()?)?),
+        b"clean" => {
+            let ids = words.by_ref().map(number).collect::<Option<Vec<u64>>>()?;
+            (!ids.is_empty()).then_some(Line::Clean(ids))?
+        }
+        b"stop" => Line::Stop(number(words.next()?)?),
+        b"fault" => {
+            let takes = number(words.next()?).filter(|&takes| takes > 0)?;
+            match words.next()? {
+                b"taken" => Line::Fault(takes, true),
+                b"lost" => Line::Fault(takes, false),
+                _ => return None,
+            }
+        }
+        b"lose" => Line::Lose(number(words.next()?).filter(|&backup| backup < BACKUPS as u64)? as usize),
+        b"crash" => Line::Crash,
+        b"recover" => Line::Recover,
+        _ => return None,
+    };
+    words.next().is_none().then_some(line)
+}
+
+impl Session {
+    fn start(sizes: Sizes) -> Option<Session> {
+        let mut fleet = Fleet::new();
+        let master = Master::new(1, sizes, 1, &mut fleet).ok()?;
+        Some(Session { sizes, fleet, master: Some(master), number: 1, used: 1 })
+    }
+
+    /// Writes why a line was refused. A fleet that takes no more drops its master.
+    fn refuse(&mut self, refusal: Refusal, output: &mut impl Write) -> io::Result<()> {
+        if let Refusal::Spent = refusal {
+            self.fleet.end = u64::MAX;
+            self.master = None;
+            return output.write_all(b"stopped\n");
+        }
+        writeln!(output, "refused {refusal}")
+    }
+
+    fn run(&mut self, line: Line, output: &mut impl Write) -> io::Result<()> {
+        match line {
+            Line::Idle => Ok(()),
+            Line::Put(table, key, value) => {
+                let Some(master) = &mut self.master else {
+                    return self.refuse(Refusal::Down, output);
+                };
+                match master.put(&mut self.fleet, table, key, value) {
+                    Ok(version) => writeln!(output, "ok {version}"),
+                    Err(refusal) => self.refuse(refusal, output),
+                }
+            }
+            Line::Get(table, key) => {
+                let Some(master) = &mut self.master else {
+                    return self.refuse(Refusal::Down, output);
+                };
+                match master.get(table, key, output) {
+                    Ok(wrote) => wrote,
+                    Err(refusal) => self.refuse(refusal, output),
+                }
+            }
+            Line::Clean(victims) => self.clean(&victims, output),
+            Line::Stop(takes) => {
+                self.fleet.end = self.fleet.takes.saturating_add(takes);
+                writeln!(output, "stop {takes}")
+            }
+            Line::Fault(takes, taken) => {
+                self.fleet.asked = (takes, taken);
+                writeln!(output, "fault {takes} {}", if taken { "taken" } else { "lost" })
+            }
+            Line::Lose(backup) => {
+                if self.master.is_some() {
+                    return self.refuse(Refusal::Up, output);
+                }
+                self.fleet.backups[backup] = Backup::default();
+                writeln!(output, "lost {backup}")
+            }
+            Line::Crash => {
+                if self.master.take().is_none() {
+                    return self.refuse(Refusal::Down, output);
+                }
+                output.write_all(b"crashed\n")
+            }
+            Line::Recover => self.recover(output),
+        }
+    }
+
+    fn clean(&mut self, victims: &[u64], output: &mut impl Write) -> io::Result<()> {
+        let Some(master) = &mut self.master else {
+            return self.refuse(Refusal::Down, output);
+        };
+        match master.clean(&mut self.fleet, victims) {
+            Ok((survivors, head)) => {
+                write!(output, "cleaned")?;
+                for id in survivors {
+                    write!(output, " {id}")?;
+                }
+                writeln!(output, " {head}")
+            }
+            Err(refusal) => self.refuse(refusal, output),
+        }
+    }
+
+    /// Rebuilds the table from these backups, and makes the next master of it, with the objects' slots in their order.
+    fn adopt(&mut self, old: &[Backup]) -> Result<(Master, Vec<Slot>), Refusal> {
+        let plan = plan(old, self.number)?;
+        let (claims, safe) = rebuild(&plan, &tablets())?;
+        self.used += 1;
+        let mut master = Master::new(self.used, self.sizes, safe, &mut self.fleet)?;
+        let slots = claims.iter().map(|claim| master.load(&mut self.fleet, claim)).collect::<Result<Vec<_>, Refusal>>()?;
+        master.push(&mut self.fleet)?;
+        Ok((master, slots))
+    }
+
+    fn recover(&mut self, output: &mut impl Write) -> io::Result<()> {
+        if self.master.is_some() {
+            return self.refuse(Refusal::Up, output);
+        }
+        // What the old masters have lies apart while the new one is loaded.
+        let old = std::mem::replace(&mut self.fleet.backups, no_backups());
+        let adopted = self.adopt(&old);
+        for (backup, old) in self.fleet.backups.iter_mut().zip(old) {
+            backup.replicas.splice(0..0, old.replicas);
+        }
+        let (master, slots) = match adopted {
+            Ok(adopted) => adopted,
+            Err(refusal) => return self.refuse(refusal, output),
+        };
+        self.number = master.number;
+        if let Err(fault) = self.fleet.retire(master.number) {
+            return self.refuse(fault.into(), output);
+        }
+        for slot in &slots {
+            let image = &master.image(slot.segment as u64)[slot.at as usize..];
+            let Some((Entry::Object { table, key, version, value }, _)) = read_entry(image) else {
+                unreachable!()
+            };
+            write!(output, "{table} ")?;
+            output.write_all(key)?;
+            write!(output, " {version} ")?;
+            output.write_all(value)?;
+            output.write_all(b"\n")?;
+        }
+        self.master = Some(master);
+        writeln!(output, "recovered {}", slots.len())
+    }
+}
+
+enum RunFault {
+    BadLine(u64),
+    Read,
+    Write,
+}
+
+/// Runs a line. The answer is whether more lines may come.
+fn run_next(
+    input: &mut BufReader<impl Read>,
+    output: &mut impl Write,
+    line: &mut Vec<u8>,
+    session: &mut Session,
+    at: u64,
+) -> Result<ControlFlow<()>, RunFault> {
+    line.clear();
+    // Whoever sends a line and waits for its answer gets it.
+    if input.buffer().is_empty() {
+        output.flush().map_err(|_| RunFault::Write)?;
+    }
+    let read = input.by_ref().take(MAX_LINE + 1).read_until(b'\n', line).map_err(|_| RunFault::Read)?;
+    if read == 0 {
+        return Ok(ControlFlow::Break(()));
+    }
+    let text = match line.strip_suffix(b"\n") {
+        Some(text) => text,
+        None if read as u64 > MAX_LINE => return Err(RunFault::BadLine(at)),
+        None => line,
+    };
+    let line = parse(text).ok_or(RunFault::BadLine(at))?;
+    session.run(line, output).map_err(|_| RunFault::Write)?;
+    Ok(ControlFlow::Continue(()))
+}
+
+fn main() -> ExitCode {
+    let words: Vec<usize> = std::env::args().skip(1).map(|word| word.parse().unwrap()).collect();
+    let mut session = Session::start(Sizes { segment: words[0], seglet: words[1], seglets: words[2] }).unwrap();
+    let mut input = BufReader::with_capacity(BUFFER, io::stdin().lock());
+    let mut output = BufWriter::with_capacity(BUFFER, io::stdout().lock());
+    let mut line = Vec::new();
+    let mut at = 1;
+    let ran = loop {
+        match run_next(&mut input, &mut output, &mut line, &mut session, at) {
+            Ok(ControlFlow::Continue(())) => at += 1,
+            Ok(ControlFlow::Break(())) => break output.flush().map_err(|_| RunFault::Write),
+            Err(fault) => break output.flush().map_err(|_| RunFault::Write).and(Err(fault)),
+        }
+    };
+    match ran {
+        Ok(()) => return ExitCode::SUCCESS,
+        Err(RunFault::BadLine(at)) => {
+            eprintln!("plain: bad line {at}");
+            return ExitCode::from(2);
+        }
+        Err(RunFault::Read) => eprintln!("plain: cannot read"),
+        Err(RunFault::Write) => eprintln!("plain: cannot write"),
+    }
+    ExitCode::FAILURE
 }
