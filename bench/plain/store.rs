@@ -1023,25 +1023,31 @@ enum Line<'a> {
 
 /// A number in decimal digits, without leading zeros.
 fn number(word: &[u8]) -> Option<u64> {
-    if word.first()? == &b'0' && word.len() > 1 || !word.iter().all(u8::is_ascii_digit) {
+    if word.is_empty() || word[0] == b'0' && word.len() > 1 {
         return None;
     }
-    std::str::from_utf8(word).ok()?.parse().ok()
+    word.iter().try_fold(0u64, |number, &byte| {
+        let digit = byte.is_ascii_digit().then(|| u64::from(byte - b'0'))?;
+        number.checked_mul(10)?.checked_add(digit)
+    })
 }
 
+/// Whether all bytes are visible. Its loop has no way out, so that it tests many bytes at once.
 fn is_word(word: &[u8]) -> bool {
-    !word.is_empty() && word.iter().all(|byte| (0x21..=0x7E).contains(byte))
+    word.iter().fold(!word.is_empty(), |all, byte| all & (0x21..=0x7E).contains(byte))
 }
 
 fn key(word: &[u8]) -> Option<&[u8]> {
-    (is_word(word) && word.len() <= MAX_KEY).then_some(word)
+    (word.len() <= MAX_KEY && is_word(word)).then_some(word)
 }
 
+/// What a line says. A value is the rest of its line: a space in it isn't visible.
 fn parse(text: &[u8]) -> Option<Line<'_>> {
     if text.is_empty() || text[0] == b'#' {
         return Some(Line::Idle);
     }
-    let mut words = text.split(|&byte| byte == b' ');
+    let count = if text.starts_with(b"put ") { 4 } else { usize::MAX };
+    let mut words = text.splitn(count, |&byte| byte == b' ');
     let line = match words.next()? {
         b"put" => {
             let (table, key, value) = (number(words.next()?)?, key(words.next()?)?, words.next()?);

@@ -1,5 +1,5 @@
 -- The records of rows: what stays when the texts grow, what one more row adds, and how a row is read.
-use Rattle.std.proofs.Common.{◌≡◌, ℕ, ◌+◌, ◌<◌, List, [], ◌∷◌, ◌++◌, length, get_or, take, drop, Some}
+use Rattle.std.proofs.Common.{◌≡◌, ℕ, zero, suc, ◌+◌, ◌<◌, List, [], ◌∷◌, ◌++◌, length, get_or, take, drop, Some, not, true}
 use Rattle.std.proofs.Common.{refl, sym, ap, subst, ◌∙◌, arith}
 use Rattle.std.proofs.lemmas.List.{take-take, drop-drop, drop-take, map-append}
 use Rattle.std.proofs.lemmas.Option.{slice_get-map, slice_get_read}
@@ -9,35 +9,44 @@ use Rattle.entry.specs.Key.{IsKeyBytes}
 use Rattle.entry.specs.Limits.{IsValue}
 use Rattle.versioned_map.specs.declared.command.Record.{Record}
 use Rattle.history.specs.declared.packing.Row.{Row}
-use Rattle.history.specs.Packing.{unpacked, key_of, value_of}
+use Rattle.history.specs.declared.numbers.Numbers.{Numbers}
+use Rattle.history.specs.Numbers.{are_small, front_of, AreWords}
+use Rattle.history.specs.Packing.{unpacked, record_of, row_numbers, front_len, key_of, value_of}
 use Rattle.history.specs.Texts.{TextsValue, text_at, part, IsWithin, KeepsParts}
-use Rattle.history.specs.Records.{key_at, value_at, record_in, records_in, IsRow, AreRows}
+use Rattle.history.proofs.Fronts.{front_long, numbers_are}
+use Rattle.history.specs.Records.{front_at, key_at, value_at, record_in, records_in, IsRow, AreRows}
 
 -- ---- texts that grow
 
 module _ (old new : TextsValue) (keeps : KeepsParts old new) where
   module _ (r : Row) (is : IsRow old r) where
-    key_within : IsWithin old r.block r.start r.key_len
+    front_within : IsWithin old r.block r.start (front_len r)
+    front_within = record { among = is.within.among; ends = omega (arith, is.within.ends) }
+
+    key_within : IsWithin old r.block (r.start + front_len r) r.key_len
     key_within = record { among = is.within.among; ends = omega (arith, is.within.ends) }
 
-    value_within : IsWithin old r.block (r.start + r.key_len) r.value_len
+    value_within : IsWithin old r.block (r.start + front_len r + r.key_len) r.value_len
     value_within = record { among = is.within.among; ends = omega (arith, is.within.ends) }
 
+    front_kept : front_at new r ≡ front_at old r
+    front_kept = keeps.same r.block r.start (front_len r) front_within
+
     key_kept : key_at new r ≡ key_at old r
-    key_kept = keeps.same r.block r.start r.key_len key_within
+    key_kept = keeps.same r.block (r.start + front_len r) r.key_len key_within
 
     value_kept : value_at new r ≡ value_at old r
-    value_kept = keeps.same r.block (r.start + r.key_len) r.value_len value_within
+    value_kept = keeps.same r.block (r.start + front_len r + r.key_len) r.value_len value_within
 
     row_kept : IsRow new r
     row_kept = record {
-      within = keeps.within r.block r.start (r.key_len + r.value_len) is.within;
+      within = keeps.within r.block r.start (front_len r + r.key_len + r.value_len) is.within;
       key = subst (λ (bytes : List ℕ). IsKeyBytes bytes) (sym key_kept) is.key;
       value = subst (λ (bytes : List ℕ). IsValue bytes) (sym value_kept) is.value;
     }
 
     record_kept : record_in new r ≡ record_in old r
-    record_kept = λ i. unpacked r (key_kept i) (value_kept i)
+    record_kept = λ i. unpacked r (front_kept i) (key_kept i) (value_kept i)
 
   pub rows_kept : (rows : List Row) → AreRows old rows → AreRows new rows
   rows_kept [] are = tt
@@ -49,28 +58,38 @@ module _ (old new : TextsValue) (keeps : KeepsParts old new) where
 
 -- ---- one more row
 
-module _ (t : TextsValue) (row : Row) (r : Record) (block start : ℕ) (key value : List ℕ)
+module _ (t : TextsValue) (row : Row) (r : Record) (numbers : Numbers) (block start : ℕ) (key value : List ℕ)
     (has_key : key ≡ key_of r) (has_value : value ≡ value_of r) (in_block : row.block ≡ block)
     (at_start : row.start ≡ start) (key_len : row.key_len ≡ length (key_of r))
-    (value_len : row.value_len ≡ length (value_of r))
-    (same : unpacked row (key_of r) (value_of r) ≡ r)
-    (within : IsWithin t block start (length key + length value))
-    (key_there : part t block start (length key) ≡ key)
-    (value_there : part t block (start + length key) (length value) ≡ value) where
+    (value_len : row.value_len ≡ length (value_of r)) (is_long : row.is_long ≡ not (are_small numbers))
+    (fit : AreWords numbers) (small : are_small numbers ≡ true → (front : List ℕ) → row_numbers row front ≡ numbers)
+    (same : record_of row numbers (key_of r) (value_of r) ≡ r)
+    (within : IsWithin t block start (length (front_of numbers) + length key + length value))
+    (front_there : part t block start (length (front_of numbers)) ≡ front_of numbers)
+    (key_there : part t block (start + length (front_of numbers)) (length key) ≡ key)
+    (value_there : part t block (start + length (front_of numbers) + length key) (length value) ≡ value) where
   key_long : row.key_len ≡ length key
   key_long = key_len ∙ sym (ap (λ (bytes : List ℕ). length bytes) has_key)
 
   value_long : row.value_len ≡ length value
   value_long = value_len ∙ sym (ap (λ (bytes : List ℕ). length bytes) has_value)
 
+  before_key : front_len row ≡ length (front_of numbers)
+  before_key = front_long row numbers is_long
+
+  front_is : front_at t row ≡ front_of numbers
+  front_is = (λ i. part t (in_block i) (at_start i) (before_key i)) ∙ front_there
+
   key_is : key_at t row ≡ key
-  key_is = (λ i. part t (in_block i) (at_start i) (key_long i)) ∙ key_there
+  key_is = (λ i. part t (in_block i) (at_start i + before_key i) (key_long i)) ∙ key_there
 
   value_is : value_at t row ≡ value
-  value_is = (λ i. part t (in_block i) (at_start i + key_long i) (value_long i)) ∙ value_there
+  value_is = (λ i. part t (in_block i) (at_start i + before_key i + key_long i) (value_long i)) ∙ value_there
 
   pub new_record : record_in t row ≡ r
-  new_record = (λ i. unpacked row ((key_is ∙ has_key) i) ((value_is ∙ has_value) i)) ∙ same
+  new_record =
+      (λ i. record_of row (numbers_are row numbers is_long fit small (front_at t row) front_is i)
+      ((key_is ∙ has_key) i) ((value_is ∙ has_value) i)) ∙ same
 
   pub new_row : IsKeyBytes key → IsValue value → IsRow t row
   new_row is_key is_value = record {
@@ -79,6 +98,7 @@ module _ (t : TextsValue) (row : Row) (r : Record) (block start : ℕ) (key valu
       ends = omega (
         arith,
         at_start,
+        before_key,
         key_long,
         value_long,
         ap (λ (b : ℕ). length (text_at t b)) in_block,
@@ -102,22 +122,57 @@ records_and_one t rows row r is =
 
 -- ---- a row that is read
 
-pub read_row : (t : TextsValue) (rows : List Row) (place : ℕ) (row : Row) (bytes key value : List ℕ)
-    → place < length rows → row ≡ get_or rows place row
-    → bytes ≡ part t row.block row.start (row.key_len + row.value_len)
-    → key ≡ take row.key_len bytes → value ≡ drop row.key_len bytes
-    → Some (unpacked row key value) ≡ slice_get (records_in t rows) place
-read_row t rows place row bytes key value below is there front back =
-    let text = text_at t row.block in
-    let k = row.key_len in
-    let v = row.value_len in
-    let key_is : key ≡ key_at t row =
-    front ∙ ap (λ (bs : List ℕ). take k bs) there
-    ∙ take-take k (k + v) (drop row.start text) (omega arith) in
-    let value_is : value ≡ value_at t row =
-    back ∙ ap (λ (bs : List ℕ). drop k bs) there ∙ drop-take k v (drop row.start text)
-    ∙ ap (λ (bs : List ℕ). take v bs) (drop-drop k row.start text) in
-    let found = slice_get_read rows (length rows) place row refl below is in
-    (λ i. Some (unpacked row (key_is i) (value_is i)))
-    ∙ sym (ap (λ x. option_map (λ (r : Row). record_in t r) x) found)
-    ∙ sym (slice_get-map (λ (r : Row). record_in t r) rows place)
+grouped : (f k v : ℕ) → f + k + v ≡ f + (k + v)
+grouped f k v = omega arith
+
+row_at : (t : TextsValue) (rows : List Row) (place : ℕ) (row : Row) → AreRows t rows → place < length rows
+    → row ≡ get_or rows place row → IsRow t row
+row_at t [] place row are below is = absurd (omega (arith, below))
+row_at t (r ∷ rs) zero row are below is = subst (λ (x : Row). IsRow t x) (sym is) are.0
+row_at t (r ∷ rs) (suc n) row are below is = row_at t rs n row are.1 (omega (arith, below)) is
+
+module _ (t : TextsValue) (rows : List Row) (place : ℕ) (row : Row) (bytes front rest key value : List ℕ) (f : ℕ)
+    (below : place < length rows) (is : row ≡ get_or rows place row) (f_is : f ≡ front_len row)
+    (there : bytes ≡ part t row.block row.start (f + row.key_len + row.value_len))
+    (front_is : front ≡ take f bytes) (rest_is : rest ≡ drop f bytes)
+    (key_is : key ≡ take row.key_len rest) (value_is : value ≡ drop row.key_len rest) where
+  front_there : front ≡ front_at t row
+  front_there =
+      front_is ∙ ap (λ (bs : List ℕ). take f bs) there
+      ∙ take-take f (f + row.key_len + row.value_len) (drop row.start (text_at t row.block)) (omega arith)
+      ∙ ap (λ (n : ℕ). part t row.block row.start n) f_is
+
+  rest_there : rest ≡ take (row.key_len + row.value_len) (drop (row.start + front_len row) (text_at t row.block))
+  rest_there =
+      let from = drop row.start (text_at t row.block) in
+      let n = row.key_len + row.value_len in
+      rest_is ∙ ap (λ (bs : List ℕ). drop f bs) there
+      ∙ ap (λ (m : ℕ). drop f (take m from)) (grouped f row.key_len row.value_len) ∙ drop-take f n from
+      ∙ ap (λ (bs : List ℕ). take n bs) (drop-drop f row.start (text_at t row.block))
+      ∙ ap (λ (m : ℕ). take n (drop (row.start + m) (text_at t row.block))) f_is
+
+  pub key_there : key ≡ key_at t row
+  key_there =
+      key_is ∙ ap (λ (bs : List ℕ). take row.key_len bs) rest_there
+      ∙ take-take row.key_len (row.key_len + row.value_len) (drop (row.start + front_len row) (text_at t row.block))
+      (omega arith)
+
+  pub value_there : value ≡ value_at t row
+  value_there =
+      let start = row.start + front_len row in
+      value_is ∙ ap (λ (bs : List ℕ). drop row.key_len bs) rest_there
+      ∙ drop-take row.key_len row.value_len (drop start (text_at t row.block))
+      ∙ ap (λ (bs : List ℕ). take row.value_len bs) (drop-drop row.key_len start (text_at t row.block))
+
+  pub key_valid : AreRows t rows → IsKeyBytes key
+  key_valid are = subst (λ (bs : List ℕ). IsKeyBytes bs) (sym key_there) (row_at t rows place row are below is).key
+
+  pub value_valid : AreRows t rows → IsValue value
+  value_valid are = subst (λ (bs : List ℕ). IsValue bs) (sym value_there) (row_at t rows place row are below is).value
+
+  pub read_row : Some (unpacked row front key value) ≡ slice_get (records_in t rows) place
+  read_row =
+      let found = slice_get_read rows (length rows) place row refl below is in
+      (λ i. Some (unpacked row (front_there i) (key_there i) (value_there i)))
+      ∙ sym (ap (λ x. option_map (λ (r : Row). record_in t r) x) found)
+      ∙ sym (slice_get-map (λ (r : Row). record_in t r) rows place)

@@ -1,3 +1,4 @@
 pub mod Blocked
+pub mod Fronts
 pub mod Kept
 pub mod Replied

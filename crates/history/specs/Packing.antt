@@ -1,5 +1,5 @@
 -- How a record is packed: as a row, and the bytes of its key and its value.
-use Rattle.std.specs.Prelude.{◌≡◌, ℕ, List, [], Some, None}
+use Rattle.std.specs.Prelude.{◌≡◌, ℕ, List, [], Some, None, if◌then◌else◌}
 use Rattle.entry.specs.declared.key.Key.{Key}
 use Rattle.versioned_map.specs.declared.command.If.TheVariants as when
 use Rattle.versioned_map.specs.declared.command.Command.{Command}
@@ -13,6 +13,8 @@ use Rattle.history.specs.declared.packing.CommandKind.TheVariants as command
 use Rattle.history.specs.declared.packing.ReplyKind.{ReplyKind}
 use Rattle.history.specs.declared.packing.ReplyKind.TheVariants as reply
 use Rattle.history.specs.declared.packing.Row.{Row}
+use Rattle.history.specs.declared.numbers.Numbers.{Numbers}
+use Rattle.history.specs.Numbers.{numbers_in}
 
 -- ---- from a row to a record
 
@@ -32,13 +34,25 @@ reply_of reply.Ok version value = said.Ok version
 reply_of reply.Absent version value = said.Mismatch None
 reply_of reply.Mismatch version value = said.Mismatch (Some version)
 
--- the record of this row, key and value
-abbrev pub unpacked : Row → List ℕ → List ℕ → Record
-unpacked r key value = record {
-  seat = r.seat;
-  command = command_of r.command (record { table = r.table; bytes = key }) value r.number;
+-- the numbers of this row, if these bytes lie before its key
+abbrev pub row_numbers : Row → List ℕ → Numbers
+row_numbers r front = if r.is_long then numbers_in front else record { seat = r.seat; table = r.table; asked = 0 }
+
+-- the record of these numbers, key and value, of the kinds and the version that the row has
+abbrev pub record_of : Row → Numbers → List ℕ → List ℕ → Record
+record_of r n key value = record {
+  seat = n.seat;
+  command = command_of r.command (record { table = n.table; bytes = key }) value n.asked;
   reply = reply_of r.reply r.version value;
 }
+
+-- the record of this row, of the bytes before its key, of the key and the value
+abbrev pub unpacked : Row → List ℕ → List ℕ → List ℕ → Record
+unpacked r front key value = record_of r (row_numbers r front) key value
+
+-- how many bytes lie before the key
+abbrev pub front_len : Row → ℕ
+front_len r = if r.is_long then 24 else 0
 
 -- ---- from a record to its parts
 
@@ -80,9 +94,25 @@ IsReplyTo (asked.Delete k) r = Unit {0}
 abbrev pub HasOneValue : Record → Type 0
 HasOneValue r = IsReplyTo r.command r.reply
 
--- a command is of this kind, and asks for this version, if it asks for any
-abbrev pub IsKindOf : Command → CommandKind → ℕ → Type 0
-IsKindOf c kind number = (r : Reply) → command_of kind (command_key c) (value_in c r) number ≡ c
+-- the kind of a command
+abbrev pub kind_of : Command → CommandKind
+kind_of (asked.Get k) = command.Get
+kind_of (asked.Put k value when.Any) = command.Put
+kind_of (asked.Put k value when.Absent) = command.PutAbsent
+kind_of (asked.Put k value (when.Version number)) = command.PutVersion
+kind_of (asked.Delete k) = command.Delete
+
+-- the version that a put asks for; 0 if it asks for none
+abbrev pub asked_of : Command → ℕ
+asked_of (asked.Get k) = 0
+asked_of (asked.Put k value when.Any) = 0
+asked_of (asked.Put k value when.Absent) = 0
+asked_of (asked.Put k value (when.Version number)) = number
+asked_of (asked.Delete k) = 0
+
+-- the numbers of a record
+abbrev pub numbers_of : Record → Numbers
+numbers_of r = record { seat = r.seat; table = (command_key r.command).table; asked = asked_of r.command }
 
 -- a reply is of this kind, and has this version, if it has any
 abbrev pub IsReplyKindOf : Reply → ReplyKind → ℕ → Type 0

@@ -5,7 +5,7 @@ use Rattle.entry.specs.Key.{IsKeyBytes}
 use Rattle.entry.specs.Limits.{IsValue}
 use Rattle.versioned_map.specs.declared.command.Record.{Record}
 use Rattle.history.specs.declared.packing.Row.{Row}
-use Rattle.history.specs.Packing.{unpacked, key_of, value_of}
+use Rattle.history.specs.Packing.{unpacked, front_len, key_of, value_of}
 use Rattle.history.specs.Texts.{TextsValue, part, IsWithin}
 
 -- the records, and how many bytes of a key and a value one more may have, for which memory was taken
@@ -19,22 +19,27 @@ len_of r = length (key_of r) + length (value_of r)
 
 -- ---- how it is packed
 
+-- the numbers, if the row has no room for them
+abbrev pub front_at : TextsValue → Row → List ℕ
+front_at t r = part t r.block r.start (front_len r)
+
+-- it lies behind them
 abbrev pub key_at : TextsValue → Row → List ℕ
-key_at t r = part t r.block r.start r.key_len
+key_at t r = part t r.block (r.start + front_len r) r.key_len
 
 -- it lies behind the key
 abbrev pub value_at : TextsValue → Row → List ℕ
-value_at t r = part t r.block (r.start + r.key_len) r.value_len
+value_at t r = part t r.block (r.start + front_len r + r.key_len) r.value_len
 
 abbrev pub record_in : TextsValue → Row → Record
-record_in t r = unpacked r (key_at t r) (value_at t r)
+record_in t r = unpacked r (front_at t r) (key_at t r) (value_at t r)
 
 abbrev pub records_in : TextsValue → List Row → List Record
 records_in t rows = map (λ (r : Row). record_in t r) rows
 
 -- the texts have a key and a value for the row
 pub record IsRow (t : TextsValue) (r : Row) : Type 0 where
-  pub within : IsWithin t r.block r.start (r.key_len + r.value_len)
+  pub within : IsWithin t r.block r.start (front_len r + r.key_len + r.value_len)
   pub key : IsKeyBytes (key_at t r)
   pub value : IsValue (value_at t r)
 

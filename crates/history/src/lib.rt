@@ -1,4 +1,4 @@
-//! The accepted commands of a log, packed: a row of 48 bytes for each, and its key and value in large blocks of text.
+//! The accepted commands of a log, packed: a row of 32 bytes for each, and its key and value in large blocks of text.
 //!
 //! A contract sees a list of records. `History` takes no memory for a single record: `reserve` takes a block now and
 //! then, and `push` takes none. No record moves once it is there. `RecordRef` is a record that lies elsewhere, in a
@@ -6,6 +6,7 @@
 #![tactic(auto)]
 
 mod laws;
+mod numbers;
 mod owning;
 mod packing;
 mod records;

@@ -6,21 +6,22 @@ ghost use Rattle.history.specs.View.{shown_record};
 ghost use Rattle.history.specs.Packing.{HasOneValue};
 ghost use Rattle.history.specs.Records.{len_of};
 
+use crate::numbers::NUMBERS_LEN;
 use crate::owning::{view_command, view_reply};
-use crate::packing::{key_of, pack, unpack, value_of};
+use crate::packing::{key_of, numbers_of, pack, unpack, value_of};
 use crate::rows::Rows;
 use crate::texts::Texts;
 use crate::view::RecordRef;
 use entry::NoMemory;
-use std::alloc::Global;
+use std::alloc::{AllocError, Global};
 use std::marker::Model;
 use versioned_map::Record;
 
 /// The accepted commands, in order, each with its seat and its reply. A contract sees a list of records, and how many
 /// bytes of a key and a value one more may have (*room*): memory for it was taken.
 ///
-/// A record takes 48 bytes, and those of its key and its value. Memory is taken for 1,024 records at a time, and for
-/// 262,112 bytes of keys and values, or for those of one record if it has more. What doesn't fit into the rest of a
+/// A record takes 32 bytes, and those of its key and its value; and 24 more if it is of a seat above 65,535, of a table
+/// above 4,294,967,295, or a put that asks for a version. Memory is taken for 1,024 records at a time, and for 262,112 bytes of keys and values, or for those of one record if it has more. What doesn't fit into the rest of a
 /// block begins the next one. What is there never moves.
 #[derive(Drop)]
 pub struct History {
@@ -30,12 +31,13 @@ pub struct History {
 }
 
 impl Model for History {
-    ghost use Rattle.std.specs.Prelude.{◌<◌};
+    ghost use Rattle.std.specs.Prelude.{◌<◌, ◌-◌};
     ghost use Rattle.history.specs.Records.{HistoryValue, records_in, AreRows};
 
     ghost Value = { HistoryValue };
 
-    ghost view = { λ h. record { records = records_in h.texts h.rows.rows; room = h.texts.room } };
+    // the texts have room for the numbers of a record besides
+    ghost view = { λ h. record { records = records_in h.texts h.rows.rows; room = h.texts.room - 24 } };
 
     ghost invariant = { λ h. AreRows h.texts h.rows.rows × (0 < h.texts.room → 0 < h.rows.room) };
 }
@@ -74,8 +76,11 @@ impl History {
         ensures records { self.new.records ≡ self.old.records }
         ensures err { OnErr result (self.new ≡ self.old) }
     {
+        let Some(len) = bytes.checked_add(NUMBERS_LEN) else {
+            return Err(AllocError);
+        };
         self.rows.reserve(self.alloc)?;
-        self.texts.reserve(bytes, self.alloc)
+        self.texts.reserve(len, self.alloc)
     }
 
     /// One more record, for which memory was taken: it takes none and can't fail. It uses up the room.
@@ -88,8 +93,9 @@ impl History {
     {
         let key = key_of(&accepted.command);
         let value = value_of(&accepted.command, &accepted.reply);
-        let (block, start) = self.texts.push(key.bytes, value);
-        self.rows.push(pack(accepted, block, start));
+        let numbers = numbers_of(accepted);
+        let (block, start) = self.texts.push(&numbers, key.bytes, value);
+        self.rows.push(pack(accepted, &numbers, block, start));
     }
 
     /// `push` of a record that is not in a history yet.
@@ -116,9 +122,11 @@ impl History {
         }
         let row = self.rows.get(place);
         let start = row.start as usize;
-        let len = row.key_len as usize + row.value_len as usize;
+        let (front_len, key_len) = (row.front_len(), row.key_len as usize);
+        let len = front_len + key_len + row.value_len as usize;
         let bytes = self.texts.part(row.block as usize, start, len);
-        let (key, value) = bytes.split_at(row.key_len as usize);
-        Some(unpack(&row, key, value))
+        let (front, bytes) = bytes.split_at(front_len);
+        let (key, value) = bytes.split_at(key_len);
+        Some(unpack(&row, front, key, value))
     }
 }

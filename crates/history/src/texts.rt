@@ -1,8 +1,10 @@
 //! The bytes of keys and values, in blocks of text.
 
-ghost use Rattle.std.specs.Prelude.{◌≡◌, ◌+◌, ◌<◌, ◌≤◌, [], length, OnOk, OnErr};
+ghost use Rattle.std.specs.Prelude.{◌≡◌, ◌+◌, ◌<◌, ◌≤◌, ◌++◌, [], length, OnOk, OnErr, vec_len, vec_capacity};
+ghost use Rattle.history.specs.Numbers.{front_of, spelled};
 ghost use Rattle.history.specs.Texts.{text_at, part, IsWithin, KeepsParts};
 
+use crate::numbers::Numbers;
 use entry::NoMemory;
 use std::alloc::{AllocError, Global};
 use std::marker::Model;
@@ -89,22 +91,52 @@ impl Texts {
         Ok(())
     }
 
-    /// The bytes of a key and of a value, one behind the other, for which memory was taken. The number of their text,
-    /// and how many of its bytes come before them.
-    pub(crate) fn push(&mut self, key: &[u8], value: &[u8]) -> (u32, u32)
+    /// The bytes of a key and of a value, one behind the other, for which memory was taken, and before them the numbers,
+    /// unless these are small. The number of their text, and how many of its bytes come before them.
+    #[inline(always)]
+    pub(crate) fn push(&mut self, numbers: &Numbers, key: &[u8], value: &[u8]) -> (u32, u32)
         requires some { 0 < length key.now }
-        requires room { length key.now + length value.now ≤ self.old.room }
+        requires room { 24 + length key.now + length value.now ≤ self.old.room }
         ensures room { self.new.room ≡ 0 }
         ensures parts { KeepsParts self.old self.new }
-        ensures within { IsWithin self.new result.0 result.1 (length key.now + length value.now) }
-        ensures key { part self.new result.0 result.1 (length key.now) ≡ key.now }
-        ensures value { part self.new result.0 (result.1 + length key.now) (length value.now) ≡ value.now }
+        ensures within { let n = length (front_of numbers.now) in
+            IsWithin self.new result.0 result.1 (n + length key.now + length value.now) }
+        ensures front { part self.new result.0 result.1 (length (front_of numbers.now)) ≡ front_of numbers.now }
+        ensures key { let n = length (front_of numbers.now) in
+            part self.new result.0 (result.1 + n) (length key.now) ≡ key.now }
+        ensures value { let n = length (front_of numbers.now) in
+            part self.new result.0 (result.1 + n + length key.now) (length value.now) ≡ value.now }
     {
         let block = self.full.len() as u32;
         let start = self.last.len() as u32;
+        put_front(&mut self.last, numbers);
         self.last.extend_from_slice(key).unwrap();
         self.last.extend_from_slice(value).unwrap();
         self.room = 0;
         (block, start)
     }
+}
+
+/// Appends the numbers, unless they are small, if there is room for them.
+#[inline(always)]
+fn put_front(out: &mut Vec<u8>, numbers: &Numbers)
+    requires { vec_len out.old + 24 ≤ vec_capacity out.old }
+    ensures items { out.new.items ≡ out.old.items ++ front_of numbers.now }
+    ensures capacity { vec_capacity out.old ≤ vec_capacity out.new }
+    ensures short { length (front_of numbers.now) ≤ 24 }
+{
+    if !numbers.are_small() {
+        put_numbers(out, numbers);
+    }
+}
+
+/// Appends the numbers, if there is room for them.
+#[inline(never)]
+fn put_numbers(out: &mut Vec<u8>, numbers: &Numbers)
+    requires { vec_len out.old + 24 ≤ vec_capacity out.old }
+    ensures items { out.new.items ≡ out.old.items ++ spelled numbers.now }
+    ensures capacity { vec_capacity out.old ≤ vec_capacity out.new }
+    ensures long { length (spelled numbers.now) ≡ 24 }
+{
+    out.extend_from_slice(&numbers.to_bytes()).unwrap()
 }

@@ -303,13 +303,12 @@ impl Head {
     pub fn append(
         &mut self,
         unit: &[EntryRef<'_>],
-        number: usize,
+        number: u32,
         limit: usize,
     ) -> Result<(), AppendFault>
         requires some { 0 < length unit.now }
         requires data { are_data (map shown unit.now) ≡ true }
         requires limit { limit ≤ 8388608 }
-        requires number { number < 2 ^ 32 }
         ensures ok { OnOk result (self.new ≡ with_unit_end self.old number (map shown unit.now)) }
         ensures limit { OnOk result (len_with self.old.image (map shown unit.now) ≤ limit) }
         ensures full { IsErrOf result AppendFault.Full → limit < len_with self.old.image (map shown unit.now) }
@@ -322,7 +321,7 @@ impl Head {
         self.image.append(unit, limit)?;
         let end = self.image.bytes().len();
         self.units.push_reserved(UnitEnd {
-            number: number as u32,
+            number,
             end: end as u32,
         });
         Ok(())

@@ -135,11 +135,12 @@ fn add(core: &mut Core, accepted: &RecordRef<'_>, judged: &Judged) -> Result<u64
     ensures valid { OnOk result (IsCore core.new) }
     ensures refused { OnErr result (core.new ≡ core.old) }
 {
-    let place = core.history.len() as u64;
+    let place = core.history.len();
     enact(
         &mut core.head,
         &mut core.index,
         &mut core.history,
+        place as u32,
         accepted.byte_len(),
         &accepted.command,
         judged,
@@ -148,7 +149,7 @@ fn add(core: &mut Core, accepted: &RecordRef<'_>, judged: &Judged) -> Result<u64
     core.safe = judged.change.safe_after(core.safe);
     replies_have_one_value();
     core.history.push(accepted);
-    Ok(place)
+    Ok(place as u64)
 }
 
 /// Adds a command other than a get that passed all tests, with the reply that its change tells.

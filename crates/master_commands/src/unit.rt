@@ -93,11 +93,10 @@ fn append_change(
     command: &CommandRef<'_>,
     change: &Change,
     segment: u64,
-    number: usize,
+    number: u32,
     limit: usize,
 ) -> Result<(), AppendFault>
     requires limit { limit ≤ 8388608 }
-    requires number { number < 2 ^ 32 }
     ensures ok { let unit = unit_of_change segment (shown_command command.now) change.now in
         OnOk result (head.new ≡ appended head.old number unit) }
     ensures full { let unit = unit_of_change segment (shown_command command.now) change.now in
@@ -128,19 +127,19 @@ fn append_change(
     }
 }
 
-/// Appends the unit of a command's change, which fits, and changes the index. The history gets room for the record, of
-/// which so many bytes are key and value. On `Err` only memory was taken.
+/// Appends the unit of a command's change, which fits, and changes the index. The command's record will have this
+/// number, and the history gets room for it; so many of its bytes are key and value. On `Err` only memory was taken.
 pub fn enact(
     head: &mut Head,
     index: &mut Index,
     history: &mut History,
+    number: u32,
     bytes: usize,
     command: &CommandRef<'_>,
     judged: &Judged,
     limit: usize,
 ) -> Result<(), NoMemory>
     requires limit { limit ≤ 8388608 }
-    requires records { length history.old.records < 2 ^ 32 }
     requires fits { let asked = shown_command command.now in
         let unit = unit_of_change judged.now.held.place.segment asked judged.now.change in
         is_empty unit ≡ false → len_with head.old.image unit ≤ limit }
@@ -151,7 +150,7 @@ pub fn enact(
     ensures valid { OnOk result (IsHeadValue head.new) }
     ensures head { let asked = shown_command command.now in
         let unit = unit_of_change judged.now.held.place.segment asked judged.now.change in
-        OnOk result (head.new ≡ appended head.old (length history.old.records) unit) }
+        OnOk result (head.new ≡ appended head.old number unit) }
     ensures index { OnOk result ((at : ℕ) × BeginsAt head.old.image (shown_command command.now) judged.now.change at
         × IsMoved index.old.held judged.now.change (command_key (shown_command command.now)) judged.now.held.place
         (record { segment = head.old.id; at = at }) index.new.held) }
@@ -169,7 +168,7 @@ pub fn enact(
     if change.creates() {
         index.reserve(1)?;
     }
-    match append_change(head, command, change, dead, history.len(), limit) {
+    match append_change(head, command, change, dead, number, limit) {
         Ok(()) => {}
         Err(AppendFault::Full) => unreachable!(),
         Err(AppendFault::NoMemory) => return Err(NoMemory),

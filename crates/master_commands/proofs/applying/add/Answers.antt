@@ -37,14 +37,14 @@ enact-requires-clause-fits c =
     rw (← c.core.view_is) at c.requires.judged in
     fits d c.core.invariant.2 command c.args.judged.now.change c.args.judged.now.held.place.segment judged passed
 
-pub enact-requires-clause-records : goal.enact-requires-clause-records
-enact-requires-clause-records c =
+pub overflow_cast-place : goal.overflow_cast-place
+overflow_cast-place c =
     let d : MasterData = the_view c.core.inside in
     let command = shown_command c.args.accepted.now.command in
     let passed : command_refusal d command ≡ None = rw (← c.core.view_is) at c.requires.passed in
     let room = (is_admitted d command (passed_early d command passed)).room in
     let few = few_records d.config c.core.invariant.2.config in
-    omega arith
+    omega (arith, c.len-place.ensures, room, few)
 
 -- ---- the core with the record, where memory was given
 
@@ -70,8 +70,13 @@ module _ (c : goal.After-push) where
   reply : shown_reply c.args.accepted.now.reply ≡ reply_now d command
   reply = rw (← c.core.view_is) at c.requires.reply
 
+  head_is : c.enact.new.head ≡ appended d.head (length d.history) (unit_of_change dead command change)
+  head_is =
+      c.in_ok-enact.ensures.head
+      ∙ ap (λ (n : ℕ). appended d.head n (unit_of_change dead command change)) c.len-place.ensures
+
   head : IsHeadValue (appended d.head (length d.history) (unit_of_change dead command change))
-  head = subst (λ (h : HeadValue). IsHeadValue h) c.in_ok-enact.ensures.head c.in_ok-enact.ensures.valid
+  head = subst (λ (h : HeadValue). IsHeadValue h) head_is c.in_ok-enact.ensures.valid
 
   sought : IsSought d (command_key command) c.args.judged.now.held
   sought = rw (← c.core.view_is) at c.requires.sought
@@ -90,7 +95,7 @@ module _ (c : goal.After-push) where
 
   roll_then : c.enact.new.head.roll ≡ d.head.roll
   roll_then =
-      ap (λ (h : HeadValue). h.roll) c.in_ok-enact.ensures.head
+      ap (λ (h : HeadValue). h.roll) head_is
       ∙ (same_appended d.head (length d.history) (unit_of_change dead command change)).2
 
   items : c.push.new.self.records ≡ d.history ++ shown_record c.args.accepted.now ∷ []
@@ -116,7 +121,7 @@ module _ (c : goal.After-push) where
 
   knows : e ≡ left
   knows = λ i. record d {
-    head = sym c.in_ok-enact.ensures.head i;
+    head = sym head_is i;
     index = c.enact.new.index.held;
     safe = sym c.safe_after-core-inside.ensures i;
     history = sym (items ∙ ap with_reply reply) i;

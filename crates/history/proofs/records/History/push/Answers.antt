@@ -13,17 +13,20 @@ key_has : (c : After-push) → c.key_of-key.result.bytes.now ≡ key_of (shown_r
 key_has c = ap (λ (k : Key). k.bytes) c.key_of-key.ensures
 
 is_new : (c : After-push) → IsRow c.push-block.new.self c.pack.result
-is_new c = new_row c.push-block.new.self c.pack.result (shown_record c.args.accepted.now) c.push-block.result.0
-    c.push-block.result.1 c.key_of-key.result.bytes.now c.value_of-value.result.now (key_has c)
+is_new c = new_row c.push-block.new.self c.pack.result (shown_record c.args.accepted.now) c.numbers_of-numbers.result
+    c.push-block.result.0 c.push-block.result.1 c.key_of-key.result.bytes.now c.value_of-value.result.now (key_has c)
     c.value_of-value.ensures.value c.pack.ensures.lies.0 c.pack.ensures.lies.1 c.pack.ensures.key c.pack.ensures.value
-    c.pack.ensures.same c.push-block.ensures.within c.push-block.ensures.key c.push-block.ensures.value
+    c.pack.ensures.long c.numbers_of-numbers.ensures.fit c.pack.ensures.small c.pack.ensures.same c.push-block.ensures.within
+    c.push-block.ensures.front c.push-block.ensures.key c.push-block.ensures.value
     c.key_of-key.result.limits c.value_of-value.ensures.valid
 
 is_record : (c : After-push) → record_in c.push-block.new.self c.pack.result ≡ shown_record c.args.accepted.now
-is_record c = new_record c.push-block.new.self c.pack.result (shown_record c.args.accepted.now) c.push-block.result.0
-    c.push-block.result.1 c.key_of-key.result.bytes.now c.value_of-value.result.now (key_has c)
+is_record c = new_record c.push-block.new.self c.pack.result (shown_record c.args.accepted.now)
+    c.numbers_of-numbers.result c.push-block.result.0 c.push-block.result.1 c.key_of-key.result.bytes.now
+    c.value_of-value.result.now (key_has c)
     c.value_of-value.ensures.value c.pack.ensures.lies.0 c.pack.ensures.lies.1 c.pack.ensures.key c.pack.ensures.value
-    c.pack.ensures.same c.push-block.ensures.within c.push-block.ensures.key c.push-block.ensures.value
+    c.pack.ensures.long c.numbers_of-numbers.ensures.fit c.pack.ensures.small c.pack.ensures.same c.push-block.ensures.within
+    c.push-block.ensures.front c.push-block.ensures.key c.push-block.ensures.value
 
 pub invariant_of-self : goal.invariant_of-self
 invariant_of-self c =
