@@ -6,7 +6,7 @@ rules of docs/SPECIFICATION.md. It reads nothing of the program. If a count is w
 """
 
 import random
-from collections import Counter
+from collections import Counter, defaultdict
 from dataclasses import dataclass, field
 
 # Bytes of a key, of a value if nothing else is said, and of what the log has beside them.
@@ -15,15 +15,22 @@ TOMBSTONE, HEADER = 27 + KEY, 18
 MOST_VICTIMS, MOST_SURVIVORS = 32, 4
 # So many segments are free if a put's roll may begin however full the head is: three, and one for the head that it closes.
 LEAST_SPARE = 4
+# A cleaner that compacts too passes over segments once the log has so many times the segments that fill memory, or once tombstones
+# have this share of what isn't live.
+MOST_SEGMENTS, MOST_STONES = 1.2, 0.4
 
 
 @dataclass(eq=False)
 class Segment:
     number: int
     length: int
+    # The bytes before the first object or tombstone.
+    opening: int
     # In their order: the key of an object, or ~N of a tombstone that names segment N.
     entries: list = field(default_factory=list)
     live: int = 0
+    # How many tombstones name a segment of the log.
+    stones: int = 0
     named: Counter = field(default_factory=Counter)
 
 
@@ -39,9 +46,11 @@ class Log:
         self.size, self.seglet, self.whole = segment, seglet, segment // seglet
         self.seglets, self.most_survivors = segments * self.whole, most_survivors
         self.next, self.closed, self.place = 2, {}, {}
-        self.head = Segment(1, 40)
+        self.head = Segment(1, 40, 40)
+        # The segments with tombstones that name one.
+        self.naming = defaultdict(set)
         self.used = self.whole
-        self.copied = self.passes = self.survivors = 0
+        self.keys = self.copied = self.passes = self.survivors = self.compacted = self.compactions = 0
 
     def count(self, length):
         return -(-length // self.seglet)
@@ -56,7 +65,8 @@ class Log:
             raise Full
         self.closed[self.head.number] = self.head
         self.used += closes
-        self.head = Segment(self.next, 32 + 8 * (len(self.closed) + 1))
+        opening = 32 + 8 * (len(self.closed) + 1)
+        self.head = Segment(self.next, opening, opening)
         self.next += 1
 
     def add(self, segment, key):
@@ -68,7 +78,9 @@ class Log:
     def bury(self, segment, named):
         """Adds a tombstone that names this segment."""
         segment.entries.append(~named)
+        segment.stones += 1
         segment.named[named] += 1
+        self.naming[named].add(segment)
         segment.length += TOMBSTONE
 
     def put(self, key):
@@ -81,6 +93,8 @@ class Log:
         if old:
             old[0].live -= 1
             self.bury(self.head, old[0].number)
+        else:
+            self.keys += 1
         self.add(self.head, key)
         return rolls
 
@@ -89,8 +103,7 @@ class Log:
 
     def kept(self, segment):
         """The bytes that a pass keeps of a segment."""
-        stones = sum(n for named, n in segment.named.items() if self.is_listed(named))
-        return segment.live * self.object + stones * TOMBSTONE
+        return segment.live * self.object + segment.stones * TOMBSTONE
 
     def kept_entries(self, segment):
         """The entries that a pass keeps of a segment, each with its length."""
@@ -138,13 +151,44 @@ class Log:
                 room -= kept[number]
         return victims
 
+    def compact(self, number):
+        """A compaction."""
+        old = self.closed[number]
+        new = Segment(number, old.opening, old.opening)
+        kept = list(self.kept_entries(old))
+        for named in old.named:
+            self.naming[named].discard(old)
+        for entry, _ in kept:
+            if entry >= 0:
+                self.add(new, entry)
+            else:
+                self.bury(new, ~entry)
+        self.closed[number] = new
+        self.used += self.count(new.length) - self.count(old.length)
+        self.compacted += new.length - new.opening
+        self.compactions += 1
+
+    def choose_compaction(self):
+        """The segment that gives back most for what it keeps; none if it gives nothing, or if the log is too long."""
+        dead = self.seglets * self.seglet - self.keys * self.object
+        stones = TOMBSTONE * sum(segment.stones for segment in self.closed.values())
+        if len(self.closed) >= MOST_SEGMENTS * self.seglets / self.whole or stones >= MOST_STONES * dead:
+            return None
+
+        def worth(segment):
+            kept = self.kept(segment)
+            return (self.count(segment.length) - self.count(segment.opening + kept)) / (kept + 1)
+
+        best = max(self.closed.values(), key=worth)
+        return best.number if worth(best) > 0 else None
+
     def clean(self, victims):
         """A whole pass."""
-        survivors = [Segment(self.next, HEADER)]
+        survivors = [Segment(self.next, HEADER, HEADER)]
         for victim in (self.closed[number] for number in victims):
             for entry, length in self.kept_entries(victim):
                 if survivors[-1].length + length > self.size:
-                    survivors.append(Segment(survivors[-1].number + 1, HEADER))
+                    survivors.append(Segment(survivors[-1].number + 1, HEADER, HEADER))
                 if entry >= 0:
                     self.add(survivors[-1], entry)
                 else:
@@ -154,7 +198,12 @@ class Log:
         self.passes += 1
         self.survivors += len(survivors)
         for number in victims:
-            self.used -= self.count(self.closed.pop(number).length)
+            victim = self.closed.pop(number)
+            self.used -= self.count(victim.length)
+            for named in victim.named:
+                self.naming[named].discard(victim)
+            for segment in self.naming.pop(number, ()):
+                segment.stones -= segment.named.pop(number)
         for survivor in survivors:
             self.closed[survivor.number] = survivor
             self.used += self.count(survivor.length)
@@ -170,8 +219,9 @@ def fill(log, keys):
     return [f"put 1 key{key:06} {key:0{log.value}}\n" for key in range(keys) if log.put(key) is not None]
 
 
-def overwrites(log, keys, puts, by_share=True, spare=LEAST_SPARE):
-    """Puts of keys at random, with passes after rolls while fewer segments than `spare` are free.
+def overwrites(log, keys, puts, by_share=True, spare=LEAST_SPARE, compacts=False):
+    """Puts of keys at random, with passes after rolls while fewer segments than `spare` are free, and compactions before them if
+    the cleaner compacts too: then a pass takes the segments that keep least.
 
     It also says how many puts were made before the log was full.
     """
@@ -186,7 +236,12 @@ def overwrites(log, keys, puts, by_share=True, spare=LEAST_SPARE):
         lines.append(f"put 1 key{key:06} {made:0{log.value}}\n")
         made += 1
         while rolled and log.is_short(spare):
-            victims, before = log.choose(by_share), log.used
+            compacted = log.choose_compaction() if compacts else None
+            if compacted:
+                log.compact(compacted)
+                lines.append(f"compact {compacted}\n")
+                continue
+            victims, before = log.choose(by_share and not compacts), log.used
             if not victims or log.free() < 2 * log.whole:
                 break
             log.clean(victims)

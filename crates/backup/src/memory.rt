@@ -1,6 +1,6 @@
 //! What one backup holds.
 
-ghost use Rattle.std.specs.Prelude.{◌≡◌, ℕ, ◌++◌, [], length, OnOk, OnErr, IfOk, None, Err, is_some};
+ghost use Rattle.std.specs.Prelude.{◌≡◌, ℕ, ◌++◌, [], length, OnOk, OnErr, IfOk, IfSome, None, Err, is_some};
 ghost use Rattle.std.specs.Prelude.{◌+◌, ◌<◌, vec_len, vec_capacity};
 ghost use Rattle.replica.specs.Op.{shown_act, Extend, Close, Free};
 ghost use Rattle.replica.specs.Take.{effect};
@@ -16,6 +16,22 @@ use std::alloc::Global;
 
 /// How many freed replicas leave their memory for the next ones.
 const SPARES: usize = 8;
+
+/// A replica that is opened gets this much memory at first: the head that a pass commits stays short. A longer one moves.
+const FIRST: usize = 16_384;
+
+/// The first of some memory that has so many bytes, and not many more.
+fn fitting(spares: &[Vec<u8>], wanted: usize) -> Option<usize>
+    ensures { IfSome result (λ at. at < length spares.now) }
+{
+    for (at, spare) in spares.iter().enumerate() {
+        let capacity = spare.capacity();
+        if capacity >= wanted && capacity - wanted <= wanted / 16 {
+            return Some(at);
+        }
+    }
+    None
+}
 
 /// A backup in memory: its replicas by master, then by segment.
 #[derive(Drop)]
@@ -50,7 +66,7 @@ impl MemoryBackup {
         let place = (op.master, op.segment);
         match op.act {
             Act::Open(bytes) => self.add(alloc, place, bytes, true),
-            Act::Extend { at, bytes } => self.extend(place, at, bytes),
+            Act::Extend { at, bytes } => self.extend(alloc, place, at, bytes),
             Act::Close => self.close(place),
             Act::Seal(bytes) => self.add(alloc, place, bytes, false),
             Act::Free => self.free(place),
@@ -69,22 +85,23 @@ impl MemoryBackup {
         }
     }
 
-    /// Memory for a replica that comes to so many bytes: that of a freed one if there is one. If more is refused, it is
-    /// what there is.
+    /// Memory for a replica that comes to so many bytes: that of a freed one that had about as much, if there is one. If
+    /// more is refused, it is what there is.
     fn room(&mut self, alloc: Global, len: usize) -> Vec<u8>
         ensures room { result.items ≡ [] }
         ensures same { self.new.replicas ≡ self.old.replicas }
     {
-        let mut room = match self.spares.pop() {
-            Some(spare) => spare,
+        let wanted = block_len(len);
+        let mut room = match fitting(self.spares.as_slice(), wanted) {
+            Some(at) => self.spares.swap_remove(at),
             None => Vec::new(alloc),
         };
         room.clear();
-        let _ = room.reserve_exact(block_len(len));
+        let _ = room.reserve_exact(wanted);
         room
     }
 
-    /// A copy of the bytes of a new replica. If it is to grow, there is room for as many as one here has come to.
+    /// A copy of the bytes of a new replica.
     fn copy(&mut self, alloc: Global, bytes: &[u8], is_open: bool) -> Result<Vec<u8>, NoMemory>
         ensures copy { IfOk result (λ copy. copy.items ≡ bytes.now) }
         ensures same { self.new.replicas ≡ self.old.replicas }
@@ -92,19 +109,44 @@ impl MemoryBackup {
         if self.spares.capacity() == 0 {
             let _ = self.spares.reserve_exact(SPARES);
         }
-        let grows_to = if is_open { self.longest } else { 0 };
+        let grows_to = if is_open { self.longest.min(FIRST) } else { 0 };
         let mut copy = self.room(alloc, grows_to.max(bytes.len()));
         copy.extend_from_slice(bytes)?;
         Ok(copy)
     }
 
-    /// Keeps memory for the next replicas, as long as few are kept. It takes none.
+    /// Makes room in a replica for so many bytes more, if it has none, and may come to no more than one here has.
+    #[inline(always)]
+    fn make_room(&mut self, alloc: Global, found: usize, more: usize)
+        requires { found < length self.old.replicas }
+        ensures { self.new.replicas ≡ self.old.replicas }
+    {
+        if self.replicas.as_slice()[found].1.outgrows(more, self.longest) {
+            self.enlarge(alloc, found);
+        }
+    }
+
+    /// Moves a replica that grows into memory for as many bytes as one here has come to.
+    #[inline(never)]
+    fn enlarge(&mut self, alloc: Global, found: usize)
+        requires { found < length self.old.replicas }
+        ensures { self.new.replicas ≡ self.old.replicas }
+    {
+        let room = self.room(alloc, self.longest);
+        self.replicas.move_into(found, room);
+    }
+
+    /// Keeps memory for the next replicas, in the place of the oldest if there are enough. It takes none.
     fn spare(&mut self, bytes: Vec<u8>)
         ensures { self.new.replicas ≡ self.old.replicas }
     {
-        if self.spares.len() < self.spares.capacity() {
-            self.spares.push_reserved(bytes);
+        if bytes.capacity() <= FIRST || self.spares.capacity() == 0 {
+            return;
         }
+        if self.spares.len() == self.spares.capacity() {
+            self.spares.remove(0);
+        }
+        self.spares.push_reserved(bytes);
     }
 
     fn add(
@@ -129,12 +171,21 @@ impl MemoryBackup {
         }
     }
 
-    fn extend(&mut self, place: (u64, u64), at: usize, bytes: &[u8]) -> Result<(), TakeFault>
+    fn extend(
+        &mut self,
+        alloc: Global,
+        place: (u64, u64),
+        at: usize,
+        bytes: &[u8],
+    ) -> Result<(), TakeFault>
         ensures named { ActsAt (Extend at bytes.now) place.0 place.1 self.old result self.new }
         ensures others { KeepsOthers place.0 place.1 self.old self.new }
     {
         match self.replicas.find(place) {
-            Ok(found) => self.replicas.stored_mut(found).extend(at, bytes),
+            Ok(found) => {
+                self.make_room(alloc, found, bytes.len());
+                self.replicas.stored_mut(found).extend(at, bytes)
+            }
             Err(_) => Err(TakeFault::Wrong),
         }
     }

@@ -69,6 +69,14 @@ impl Shelf {
         &mut self.slots[at].1
     }
 
+    /// Moves the bytes of a replica into other memory.
+    pub(crate) fn move_into(&mut self, at: usize, memory: Vec<u8>)
+        requires { at < length self.old }
+        ensures { self.new ≡ self.old }
+    {
+        self.slots[at].1.move_into(memory);
+    }
+
     /// One more replica, at the place that was found for it. On `Err` nothing changed.
     pub(crate) fn insert(
         &mut self,

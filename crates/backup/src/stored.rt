@@ -93,6 +93,26 @@ impl Stored {
         }
     }
 
+    /// Whether so many bytes more don't fit into the memory that it has, though they would into that of one that came to
+    /// `longest`.
+    #[inline(always)]
+    pub(crate) fn outgrows(&self, more: usize, longest: usize) -> bool {
+        let len = self.bytes.len();
+        let capacity = self.bytes.capacity();
+        more > capacity.saturating_sub(len) && longest.saturating_sub(len) >= more
+    }
+
+    /// Moves its bytes into other memory, if it takes no more than that.
+    pub(crate) fn move_into(&mut self, memory: Vec<u8>)
+        ensures { self.new ≡ self.old }
+    {
+        let mut bytes = memory;
+        bytes.clear();
+        if bytes.extend_from_slice(self.bytes.as_slice()).is_ok() {
+            self.bytes = bytes;
+        }
+    }
+
     /// Appends bytes to an open replica of the length `at`.
     pub fn extend(&mut self, at: usize, bytes: &[u8]) -> Result<(), TakeFault>
         ensures { Acts (Extend at bytes.now) (Some self.old) result (Some self.new) }
