@@ -25,6 +25,7 @@ impl<'a> Claim<'a> {
     ghost use Rattle.claims.specs.Claims.{claimed, claim_of, object_of, is_clash};
 
     /// The claim of an object or a tombstone.
+    #[inline(always)]
     pub fn of(entry: &EntryRef<'a>) -> Option<Claim<'a>>
         ensures { option_map claimed result ≡ claim_of (shown entry.entry.now) }
     {

@@ -116,6 +116,7 @@ impl<'a> Iterator for ObjectsLeft<'a> {
 
     ghost remaining = { λ os. at_most (length os) };
 
+    #[inline(always)]
     fn next(&mut self) -> Option<ObjectRef<'a>> {
         while self.part.is_empty() {
             let Some((next, rest)) = self.others.split_first() else {

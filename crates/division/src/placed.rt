@@ -86,6 +86,7 @@ impl<'a, 'g> Iterator for EntriesLeft<'a, 'g> {
 
     ghost remaining = { λ es. at_most (length es) };
 
+    #[inline(always)]
     fn next(&mut self) -> Option<EntryRef<'a>> {
         let Some((at, rest)) = self.places.split_first() else {
             return None;

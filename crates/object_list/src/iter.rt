@@ -42,6 +42,7 @@ impl<'a> Iterator for ObjectsIn<'a> {
 
     ghost remaining = { λ os. at_most (length os) };
 
+    #[inline(always)]
     fn next(&mut self) -> Option<ObjectRef<'a>> {
         let text = self.rest;
         if text.is_empty() {
