@@ -1,6 +1,6 @@
 //! What a master is made with.
 
-ghost use Rattle.std.specs.Prelude.{◌≡◌, ◌<◌, ◌≤◌, length, None, Some, IfSome};
+ghost use Rattle.std.specs.Prelude.{◌≡◌, ◌<◌, ◌≤◌, ◌%◌, length, None, Some, IfSome};
 ghost use Rattle.std.specs.Result.{result_err};
 ghost use Rattle.master_state.specs.Config.{config_fault, has_backups};
 ghost use Rattle.master_state.specs.Log.{backup_at, home, working, place_in};
@@ -82,6 +82,25 @@ impl ConfigFault {
     }
 }
 
+/// The rest of a division. By a number that the compiler knows it takes a multiplication, and mostly there are few
+/// backups.
+#[inline(always)]
+fn rest(number: u64, divisor: u64) -> u64
+    requires { 0 < divisor }
+    ensures { result ≡ number % divisor }
+{
+    match divisor {
+        2 => number % 2,
+        3 => number % 3,
+        4 => number % 4,
+        5 => number % 5,
+        6 => number % 6,
+        7 => number % 7,
+        8 => number % 8,
+        _ => number % divisor,
+    }
+}
+
 impl Config {
     /// Whether the configuration is within its limits. The first thing that is wrong is named, in this order: backups,
     /// step, seglet, segment, budget, tablets, history, format.
@@ -140,12 +159,16 @@ impl Config {
     }
 
     /// The backup at this place of a segment's order.
+    #[inline(always)]
     fn backup_at(&self, segment: u64, place: u64) -> u64
         requires config { config_fault self.now ≡ None }
         requires place { place < 64 }
         ensures { result ≡ backup_at self.now segment place }
     {
-        ((segment % self.backups) * self.step + place) % self.backups
+        rest(
+            rest(segment, self.backups) * self.step + place,
+            self.backups,
+        )
     }
 
     /// The home of a replica, if some backup failed.

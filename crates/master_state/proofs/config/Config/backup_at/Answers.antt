@@ -10,4 +10,8 @@ cut_first s step j b =
     ∙ sym (add-mod (s * step) j b)
 
 pub returns : goal.returns
-returns c = cut_first c.args.segment c.args.self.now.step c.args.place c.args.self.now.backups
+returns c =
+    let step = c.args.self.now.step in
+    let backups = c.args.self.now.backups in
+    c.rest-2.ensures ∙ ap (λ (r : ℕ). (r * step + c.args.place) % backups) c.rest.ensures
+    ∙ cut_first c.args.segment step c.args.place backups
