@@ -15,9 +15,9 @@ TOMBSTONE, HEADER = 27 + KEY, 18
 MOST_VICTIMS, MOST_SURVIVORS = 32, 4
 # So many segments are free if a put's roll may begin however full the head is: three, and one for the head that it closes.
 LEAST_SPARE = 4
-# A cleaner that compacts too passes over segments once the log has so many times the segments that fill memory, or once tombstones
-# have this share of what isn't live.
-MOST_SEGMENTS, MOST_STONES = 1.2, 0.4
+# A cleaner that compacts too passes over segments once their replicas have this share of the memory of the images, or tombstones
+# this share of what isn't live.
+MOST_STORED, MOST_STONES = 1.2, 0.2
 
 
 @dataclass(eq=False)
@@ -26,6 +26,8 @@ class Segment:
     length: int
     # The bytes before the first object or tombstone.
     opening: int
+    # The bytes of a replica.
+    stored: int = 0
     # In their order: the key of an object, or ~N of a tombstone that names segment N.
     entries: list = field(default_factory=list)
     live: int = 0
@@ -47,9 +49,9 @@ class Log:
         self.seglets, self.most_survivors = segments * self.whole, most_survivors
         self.next, self.closed, self.place = 2, {}, {}
         self.head = Segment(1, 40, 40)
-        # The segments with tombstones that name one.
-        self.naming = defaultdict(set)
-        self.used = self.whole
+        # The segments with tombstones that name one, and how many name it.
+        self.naming, self.buried = defaultdict(set), Counter()
+        self.used, self.stored = self.whole, 0
         self.keys = self.copied = self.passes = self.survivors = self.compacted = self.compactions = 0
 
     def count(self, length):
@@ -63,11 +65,22 @@ class Log:
         closes = self.count(self.head.length)
         if need is not None and self.free() < need + closes:
             raise Full
-        self.closed[self.head.number] = self.head
+        self.close(self.head)
         self.used += closes
         opening = 32 + 8 * (len(self.closed) + 1)
         self.head = Segment(self.next, opening, opening)
         self.next += 1
+
+    def close(self, segment):
+        self.closed[segment.number] = segment
+        segment.stored = segment.length
+        self.stored += segment.stored
+
+    def forget(self, segment):
+        """The tombstones of a segment name no others any more."""
+        for named, count in segment.named.items():
+            self.naming[named].discard(segment)
+            self.buried[named] -= count
 
     def add(self, segment, key):
         self.place[key] = (segment, len(segment.entries))
@@ -81,6 +94,7 @@ class Log:
         segment.stones += 1
         segment.named[named] += 1
         self.naming[named].add(segment)
+        self.buried[named] += 1
         segment.length += TOMBSTONE
 
     def put(self, key):
@@ -122,9 +136,13 @@ class Log:
             length += more
         return survivors, length
 
-    def choose(self, by_share):
-        """Victims by the least share of their length that is kept, or as the master chooses them."""
-        return self.choose_by_share() if by_share else self.choose_by_bytes()
+    def kept_share(self, segment):
+        return self.kept(segment) / segment.length
+
+    def kept_for_worth(self, segment):
+        """What is kept of a segment, for each byte that it gives back: its own, and those of the tombstones that name it."""
+        gives = self.count(segment.length) * self.seglet - self.kept(segment) + TOMBSTONE * self.buried[segment.number]
+        return self.kept(segment) / (gives + 1)
 
     def choose_by_bytes(self):
         """The rule of the master: by least kept bytes, up to the first segment that a pass may not have too."""
@@ -137,27 +155,25 @@ class Log:
             victims.append(number)
         return victims
 
-    def choose_by_share(self):
-        """A segment that doesn't fit is passed over. A put's roll would find its memory while the pass is open."""
-        kept = {number: self.kept(segment) for number, segment in self.closed.items()}
+    def choose_by(self, rank):
+        """Victims by rank. A segment that doesn't fit is passed over. A put's roll would find its memory while the pass is open."""
         survivors = (self.free() - self.count(self.head.length)) // self.whole - 2
         survivors = max(1, min(survivors, self.most_survivors))
         # Of each survivor but the last, less than an object may stay empty.
         room = survivors * (self.size - HEADER) - (survivors - 1) * (self.object - 1)
         victims = []
-        for number in sorted(kept, key=lambda n: (kept[n] / self.closed[n].length, n)):
-            if kept[number] <= room and len(victims) < MOST_VICTIMS:
-                victims.append(number)
-                room -= kept[number]
+        for segment in sorted(self.closed.values(), key=lambda it: (rank(it), it.number)):
+            if self.kept(segment) <= room and len(victims) < MOST_VICTIMS:
+                victims.append(segment.number)
+                room -= self.kept(segment)
         return victims
 
     def compact(self, number):
         """A compaction."""
         old = self.closed[number]
-        new = Segment(number, old.opening, old.opening)
+        new = Segment(number, old.opening, old.opening, old.stored)
         kept = list(self.kept_entries(old))
-        for named in old.named:
-            self.naming[named].discard(old)
+        self.forget(old)
         for entry, _ in kept:
             if entry >= 0:
                 self.add(new, entry)
@@ -169,10 +185,10 @@ class Log:
         self.compactions += 1
 
     def choose_compaction(self):
-        """The segment that gives back most for what it keeps; none if it gives nothing, or if the log is too long."""
+        """The segment that gives back most for what it keeps; none if a pass has to come, or if it gives nothing."""
         dead = self.seglets * self.seglet - self.keys * self.object
         stones = TOMBSTONE * sum(segment.stones for segment in self.closed.values())
-        if len(self.closed) >= MOST_SEGMENTS * self.seglets / self.whole or stones >= MOST_STONES * dead:
+        if self.stored >= MOST_STORED * self.seglets * self.seglet or stones >= MOST_STONES * dead:
             return None
 
         def worth(segment):
@@ -200,12 +216,13 @@ class Log:
         for number in victims:
             victim = self.closed.pop(number)
             self.used -= self.count(victim.length)
-            for named in victim.named:
-                self.naming[named].discard(victim)
+            self.stored -= victim.stored
+            self.forget(victim)
+            self.buried.pop(number, None)
             for segment in self.naming.pop(number, ()):
                 segment.stones -= segment.named.pop(number)
         for survivor in survivors:
-            self.closed[survivor.number] = survivor
+            self.close(survivor)
             self.used += self.count(survivor.length)
         self.roll(None)
 
@@ -220,12 +237,13 @@ def fill(log, keys):
 
 
 def overwrites(log, keys, puts, by_share=True, spare=LEAST_SPARE, compacts=False):
-    """Puts of keys at random, with passes after rolls while fewer segments than `spare` are free, and compactions before them if
-    the cleaner compacts too: then a pass takes the segments that keep least.
+    """Puts of keys at random, with passes after rolls while fewer segments than `spare` are free.
 
-    It also says how many puts were made before the log was full.
+    Victims are those of which the least share is kept, or else the master's choice. A cleaner that compacts too does that first,
+    and its victims are those that keep least for what they give back. It also says how many puts were made before the log was full.
     """
     dice = random.Random(1)
+    rank = log.kept_for_worth if compacts else log.kept_share
     lines, made = [], 0
     for _ in range(puts):
         key = dice.randrange(keys)
@@ -241,7 +259,7 @@ def overwrites(log, keys, puts, by_share=True, spare=LEAST_SPARE, compacts=False
                 log.compact(compacted)
                 lines.append(f"compact {compacted}\n")
                 continue
-            victims, before = log.choose(by_share and not compacts), log.used
+            victims, before = log.choose_by(rank) if by_share else log.choose_by_bytes(), log.used
             if not victims or log.free() < 2 * log.whole:
                 break
             log.clean(victims)
