@@ -121,7 +121,8 @@ impl MemoryBackup {
         requires { found < length self.old.replicas }
         ensures { self.new.replicas ≡ self.old.replicas }
     {
-        if self.replicas.as_slice()[found].1.outgrows(more, self.longest) {
+        let (_, stored) = &self.replicas.as_slice()[found];
+        if stored.outgrows(more, self.longest) {
             self.enlarge(alloc, found);
         }
     }
