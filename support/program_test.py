@@ -251,8 +251,9 @@ class Change:
     lines: str
     # Of images: a head and each survivor of an open pass have a whole segment, others their length.
     images: int
-    # Of replicas. They grow as they are written, and may have up to twice their length. One that is opened takes an eighth more than
-    # the longest that its backup closed, and one that is freed leaves its memory there for the next.
+    # Of replicas. They grow as they are written, and may have up to twice their length. One that is opened takes little at first, and
+    # once it needs more as much as the longest that its backup closed. One that is freed leaves its memory there for the next of
+    # about its length.
     replicas: int = 0
     # Of values in the history of the master. Each may take some bytes more.
     values: int = 0
@@ -274,19 +275,20 @@ CHANGES = [
     Change("roll\n", TEXT),
     # One object lives, and tombstones stay.
     Change("compact 4\n", G - TEXT),
-    # The new head's replicas take a little more than the old one's have, and these leave theirs. So the new ones don't grow.
-    Change("clean 4\n", 0, 2 * TEXT),
+    # The new head's replicas are short, and the freed ones leave their memory.
+    Change("clean 4\n", 0),
+    # That is what the new ones grow into.
     Change(PUTS, 0, 0, N * VALUE),
     # The images of the head and of four short segments go, and the whole history.
     Change("crash\n", -S - 4 * G, 0, -2 * N * VALUE),
-    # A replica goes, and the memory of a freed one.
-    Change("lose 1\n", 0, -2 * TEXT),
-    # The new master has one object. One of its replicas has the memory of a freed one, and one takes its own.
-    Change("recover\n", S, TEXT),
+    # A long replica goes.
+    Change("lose 1\n", 0, -TEXT),
+    # The new master has one object, and its replicas are short.
+    Change("recover\n", S),
     Change("crash\n", -S),
 ]
-# So many long pieces are left: what a freed replica had, and the two of the last head.
-LEFT = 3
+# So many long pieces are left: what a freed replica had.
+LEFT = 1
 
 # So many objects of other keys fill a segment.
 FILL = (S - 48) // (23 + 5 + VALUE)
@@ -294,15 +296,15 @@ KEYS = 2 * FILL
 PASSES = [
     Change("# the first head is made at the start\n", S),
     Change("".join(f"put 1 k{key:04} {VALUE * 'v'}\n" for key in range(KEYS)), S, 4 * S, KEYS * VALUE),
-    # One of its backups has closed a replica, and takes as much for the new one.
-    Change("roll\n", S, S),
+    # Its replicas are short.
+    Change("roll\n", S),
     # Each of two survivors takes a segment.
     Change("begin 1 2\n", 2 * S),
     Change("copy\n" * KEYS, 0),
     Change("seal\n" * 4, 0, 4 * S),
-    # The commit's head takes a segment, and so do its two replicas; the old one keeps a seglet. The images of the victims leave
-    # their memory, and so do the freed replicas.
-    Change("roll\n" + "free\n" * 4, G, 2 * S),
+    # The commit's head takes a segment, and the old one keeps a seglet. The images of the victims leave their memory, and so do the
+    # freed replicas.
+    Change("roll\n" + "free\n" * 4, G),
     # That is what the next survivors have.
     Change("begin 4 5\n", 0),
 ]
