@@ -137,7 +137,7 @@ impl MemoryBackup {
         self.replicas.move_into(found, room);
     }
 
-    /// Keeps memory for the next replicas, in the place of the oldest if there are enough. It takes none.
+    /// Keeps memory for the next replicas, in the place of some kept earlier if there is enough. It takes none.
     fn spare(&mut self, bytes: Vec<u8>)
         ensures { self.new.replicas ≡ self.old.replicas }
     {

@@ -21,8 +21,9 @@ use versioned_map::Record;
 /// bytes of a key and a value one more may have (*room*): memory for it was taken.
 ///
 /// A record takes 32 bytes, and those of its key and its value; and 24 more if it is of a seat above 65,535, of a table
-/// above 4,294,967,295, or a put that asks for a version. Memory is taken for 1,024 records at a time, and for 262,112 bytes of keys and values, or for those of one record if it has more. What doesn't fit into the rest of a
-/// block begins the next one. What is there never moves.
+/// above 4,294,967,295, or a put that asks for a version. Memory is taken for 1,024 records at a time, and for 262,112
+/// bytes of keys and values, or for those of one record if it has more. What doesn't fit into the rest of a block begins
+/// the next one. What is there never moves.
 #[derive(Drop)]
 pub struct History {
     rows: Rows,
