@@ -10,7 +10,9 @@ use crate::digest::is_len;
 use crate::entry::{Entry, Header, Role};
 use crate::fault::EntryFault;
 use crate::key::MAX_KEY_LEN;
-use crate::kind::{DIGEST_LEN, HEADER_LEN, Kind, OBJECT_LEN, SAFE_LEN, TOMBSTONE_LEN};
+use crate::kind::{
+    DIGEST_LEN, HEADER_LEN, Kind, OBJECT, OBJECT_LEN, SAFE_LEN, TOMBSTONE, TOMBSTONE_LEN,
+};
 use crate::limits::{MAX_VALUE_LEN, SafeVersion, Version};
 use crate::view::{DigestRef, EntryRef, KeyRef, ObjectRef, TombstoneRef};
 use std::alloc::Global;
@@ -211,6 +213,35 @@ fn read_kind(kind: Kind, bytes: &[u8]) -> Result<(EntryRef<'_>, usize), EntryFau
     }
 }
 
+/// The entry at the front of bytes that begin with the byte of this kind.
+#[inline(always)]
+fn read_as(kind: Kind, bytes: &[u8]) -> Result<(EntryRef<'_>, usize), EntryFault>
+    requires some { 0 < length bytes.now }
+    requires first { slice_index bytes.now 0 ≡ kind_byte kind }
+    ensures found { IfOk result (λ read. Begins bytes.entry.now (shown read.0) read.1) }
+    ensures front { IfOk result (λ read. front_of bytes.entry.now ≡ Some (shown read.0, read.1)) }
+    ensures fault { IfErr result (λ fault. first_fault bytes.entry.now ≡ Some fault) }
+{
+    read_kind(kind, bytes)
+}
+
+/// The entry at the front of bytes that begin with this byte.
+#[inline(never)]
+fn read_any(byte: u8, bytes: &[u8]) -> Result<(EntryRef<'_>, usize), EntryFault>
+    requires some { 0 < length bytes.now }
+    requires first { slice_index bytes.now 0 ≡ byte }
+    ensures found { IfOk result (λ read. Begins bytes.entry.now (shown read.0) read.1) }
+    ensures front { IfOk result (λ read. front_of bytes.entry.now ≡ Some (shown read.0, read.1)) }
+    ensures fault { IfErr result (λ fault. first_fault bytes.entry.now ≡ Some fault) }
+{
+    match Kind::from_byte(byte) {
+        Some(kind) => read_as(kind, bytes),
+        None => Err(EntryFault::UnknownKind),
+    }
+}
+
+// Most entries are objects and tombstones. Only these are read in the caller, so that it keeps what it reads in
+// registers.
 #[inline(always)]
 fn read_front(bytes: &[u8]) -> Result<(EntryRef<'_>, usize), EntryFault>
     ensures found { IfOk result (λ read. Begins bytes.entry.now (shown read.0) read.1) }
@@ -220,10 +251,14 @@ fn read_front(bytes: &[u8]) -> Result<(EntryRef<'_>, usize), EntryFault>
     let Some(byte) = bytes.first() else {
         return Err(EntryFault::Short);
     };
-    let Some(kind) = Kind::from_byte(*byte) else {
-        return Err(EntryFault::UnknownKind);
-    };
-    read_kind(kind, bytes)
+    match *byte {
+        OBJECT => read_as(Kind::Object, bytes),
+        TOMBSTONE => read_as(Kind::Tombstone, bytes),
+        _ => match read_any(*byte, bytes) {
+            Ok((entry, taken)) => Ok((entry, taken)),
+            Err(fault) => Err(fault),
+        },
+    }
 }
 
 impl<'a> EntryRef<'a> {

@@ -128,6 +128,7 @@ fn tombstone_front(table: u64, version: u64, segment: u64, key_len: u16) -> [u8;
 }
 
 /// Appends an object's fixed part at once, and then its key and its value.
+#[inline(always)]
 fn put_object(out: &mut Vec<u8>, key: &KeyRef, version: Version, value: &[u8])
     requires limit { length value.now ≤ 2097152 }
     requires room { vec_len out.old + (23 + length key.now.bytes.now + length value.now) ≤ vec_capacity out.old }
@@ -146,6 +147,7 @@ fn put_object(out: &mut Vec<u8>, key: &KeyRef, version: Version, value: &[u8])
     put_bytes(out, value);
 }
 
+#[inline(always)]
 fn put_tombstone(out: &mut Vec<u8>, key: &KeyRef, version: Version, segment: u64)
     requires { vec_len out.old + (27 + length key.now.bytes.now) ≤ vec_capacity out.old }
     ensures items { out.new.items ≡ out.old.items ++

@@ -104,6 +104,7 @@ impl Segment {
 
     /// Appends objects and tombstones, all or none of them, if the segment then has at most `limit` bytes. The answer
     /// is the offset of the first.
+    #[inline(always)]
     pub fn append(&mut self, unit: &[EntryRef<'_>], limit: usize) -> Result<usize, AppendFault>
         requires data { are_data (map shown unit.now) ≡ true }
         requires limit { limit ≤ MAX_SEGMENT_LEN }
