@@ -125,21 +125,28 @@ records_and_one t rows row r is =
 grouped : (f k v : ℕ) → f + k + v ≡ f + (k + v)
 grouped f k v = omega arith
 
-row_at : (t : TextsValue) (rows : List Row) (place : ℕ) (row : Row) → AreRows t rows → place < length rows
+pub row_at : (t : TextsValue) (rows : List Row) (place : ℕ) (row : Row) → AreRows t rows → place < length rows
     → row ≡ get_or rows place row → IsRow t row
 row_at t [] place row are below is = absurd (omega (arith, below))
 row_at t (r ∷ rs) zero row are below is = subst (λ (x : Row). IsRow t x) (sym is) are.0
 row_at t (r ∷ rs) (suc n) row are below is = row_at t rs n row are.1 (omega (arith, below)) is
 
-module _ (t : TextsValue) (rows : List Row) (place : ℕ) (row : Row) (bytes front rest key value : List ℕ) (f : ℕ)
-    (below : place < length rows) (is : row ≡ get_or rows place row) (f_is : f ≡ front_len row)
-    (there : bytes ≡ part t row.block row.start (f + row.key_len + row.value_len))
+pub record_at : (t : TextsValue) (rows : List Row) (place : ℕ) (row : Row) → place < length rows
+    → row ≡ get_or rows place row → Some (record_in t row) ≡ slice_get (records_in t rows) place
+record_at t rows place row below is =
+    let found = slice_get_read rows (length rows) place row refl below is in
+    sym (ap (λ x. option_map (λ (r : Row). record_in t r) x) found)
+    ∙ sym (slice_get-map (λ (r : Row). record_in t r) rows place)
+
+-- The bytes of a row are read at once, and taken apart: so many before the key, the key, and the value.
+module _ (t : TextsValue) (row : Row) (f len : ℕ) (bytes front rest key value : List ℕ) (f_is : f ≡ front_len row)
+    (len_is : len ≡ f + row.key_len + row.value_len) (there : bytes ≡ part t row.block row.start len)
     (front_is : front ≡ take f bytes) (rest_is : rest ≡ drop f bytes)
     (key_is : key ≡ take row.key_len rest) (value_is : value ≡ drop row.key_len rest) where
-  front_there : front ≡ front_at t row
+  pub front_there : front ≡ front_at t row
   front_there =
       front_is ∙ ap (λ (bs : List ℕ). take f bs) there
-      ∙ take-take f (f + row.key_len + row.value_len) (drop row.start (text_at t row.block)) (omega arith)
+      ∙ take-take f len (drop row.start (text_at t row.block)) (omega (arith, len_is))
       ∙ ap (λ (n : ℕ). part t row.block row.start n) f_is
 
   rest_there : rest ≡ take (row.key_len + row.value_len) (drop (row.start + front_len row) (text_at t row.block))
@@ -147,7 +154,7 @@ module _ (t : TextsValue) (rows : List Row) (place : ℕ) (row : Row) (bytes fro
       let from = drop row.start (text_at t row.block) in
       let n = row.key_len + row.value_len in
       rest_is ∙ ap (λ (bs : List ℕ). drop f bs) there
-      ∙ ap (λ (m : ℕ). drop f (take m from)) (grouped f row.key_len row.value_len) ∙ drop-take f n from
+      ∙ ap (λ (m : ℕ). drop f (take m from)) (len_is ∙ grouped f row.key_len row.value_len) ∙ drop-take f n from
       ∙ ap (λ (bs : List ℕ). take n bs) (drop-drop f row.start (text_at t row.block))
       ∙ ap (λ (m : ℕ). take n (drop (row.start + m) (text_at t row.block))) f_is
 
@@ -164,15 +171,11 @@ module _ (t : TextsValue) (rows : List Row) (place : ℕ) (row : Row) (bytes fro
       ∙ drop-take row.key_len row.value_len (drop start (text_at t row.block))
       ∙ ap (λ (bs : List ℕ). take row.value_len bs) (drop-drop row.key_len start (text_at t row.block))
 
-  pub key_valid : AreRows t rows → IsKeyBytes key
-  key_valid are = subst (λ (bs : List ℕ). IsKeyBytes bs) (sym key_there) (row_at t rows place row are below is).key
+  pub key_valid : IsRow t row → IsKeyBytes key
+  key_valid is = subst (λ (bs : List ℕ). IsKeyBytes bs) (sym key_there) is.key
 
-  pub value_valid : AreRows t rows → IsValue value
-  value_valid are = subst (λ (bs : List ℕ). IsValue bs) (sym value_there) (row_at t rows place row are below is).value
+  pub value_valid : IsRow t row → IsValue value
+  value_valid is = subst (λ (bs : List ℕ). IsValue bs) (sym value_there) is.value
 
-  pub read_row : Some (unpacked row front key value) ≡ slice_get (records_in t rows) place
-  read_row =
-      let found = slice_get_read rows (length rows) place row refl below is in
-      (λ i. Some (unpacked row (front_there i) (key_there i) (value_there i)))
-      ∙ sym (ap (λ x. option_map (λ (r : Row). record_in t r) x) found)
-      ∙ sym (slice_get-map (λ (r : Row). record_in t r) rows place)
+  pub read_as : (n : Numbers) → n ≡ row_numbers row front → record_of row n key value ≡ record_in t row
+  read_as n is = (λ i. record_of row (is i) (key_there i) (value_there i)) ∙ ap (λ (bs : List ℕ). unpacked row bs (key_at t row) (value_at t row)) front_there

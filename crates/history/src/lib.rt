@@ -9,6 +9,7 @@ mod laws;
 mod numbers;
 mod owning;
 mod packing;
+mod reading;
 mod records;
 mod rows;
 mod texts;

@@ -2,16 +2,18 @@
 
 ghost use Rattle.std.specs.Prelude.{◌≡◌, ◌==◌, ◌≤◌, ◌∷◌, ◌++◌, [], length, slice_get, OnOk, OnErr};
 ghost use Rattle.std.specs.Option.{option_map};
-ghost use Rattle.history.specs.View.{shown_record};
+ghost use Rattle.history.specs.View.{shown_record, shown_reply};
+ghost use Rattle.versioned_map.specs.declared.command.Record.{Record as RecordValue};
 ghost use Rattle.history.specs.Packing.{HasOneValue};
 ghost use Rattle.history.specs.Records.{len_of};
 
 use crate::numbers::NUMBERS_LEN;
 use crate::owning::{view_command, view_reply};
-use crate::packing::{key_of, numbers_of, pack, unpack, value_of};
+use crate::packing::{key_of, numbers_of, pack, value_of};
+use crate::reading::{read_reply, read_row};
 use crate::rows::Rows;
 use crate::texts::Texts;
-use crate::view::RecordRef;
+use crate::view::{RecordRef, ReplyRef};
 use entry::NoMemory;
 use std::alloc::{AllocError, Global};
 use std::marker::Model;
@@ -21,7 +23,7 @@ use versioned_map::Record;
 /// bytes of a key and a value one more may have (*room*): memory for it was taken.
 ///
 /// A record takes 32 bytes, and those of its key and its value; and 24 more if it is of a seat above 65,535, of a table
-/// above 4,294,967,295, or a put that asks for a version. Memory is taken for 1,024 records at a time, and for 262,112
+/// above 4,294,967,295, or a put that asks for a version. Memory is taken for 1,024 records at a time, and for 131,040
 /// bytes of keys and values, or for those of one record if it has more. What doesn't fit into the rest of a block begins
 /// the next one. What is there never moves.
 #[derive(Drop)]
@@ -121,13 +123,18 @@ impl History {
         if place >= self.rows.len() {
             return None;
         }
-        let row = self.rows.get(place);
-        let start = row.start as usize;
-        let (front_len, key_len) = (row.front_len(), row.key_len as usize);
-        let len = front_len + key_len + row.value_len as usize;
-        let bytes = self.texts.part(row.block as usize, start, len);
-        let (front, bytes) = bytes.split_at(front_len);
-        let (key, value) = bytes.split_at(key_len);
-        Some(unpack(&row, front, key, value))
+        Some(read_row(&self.texts, self.rows.get(place)))
+    }
+
+    /// The reply of the record at a place, as `get` shows it. Nothing else of the record is read.
+    #[inline(always)]
+    pub fn reply(&self, place: usize) -> Option<ReplyRef<'_>>
+        ensures { option_map shown_reply result ≡
+            option_map (λ (r : RecordValue). r.reply) (slice_get self.entry.now.records place) }
+    {
+        if place >= self.rows.len() {
+            return None;
+        }
+        Some(read_reply(&self.texts, self.rows.get(place)))
     }
 }

@@ -54,15 +54,16 @@ impl Rows {
     }
 
     /// A row.
-    pub(crate) fn get(&self, at: usize) -> Row
+    #[inline(always)]
+    pub(crate) fn get(&self, at: usize) -> &Row
         requires { at < length self.now.rows }
-        ensures { result ≡ slice_index_or self.now.rows at result }
+        ensures { result.now ≡ slice_index_or self.entry.now.rows at result.now }
     {
         let block = at / BLOCK;
         if block < self.full.len() {
-            self.full[block][at % BLOCK]
+            &self.full[block][at % BLOCK]
         } else {
-            self.last[at - BLOCK * self.full.len()]
+            &self.last[at - BLOCK * self.full.len()]
         }
     }
 

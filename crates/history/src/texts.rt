@@ -10,9 +10,9 @@ use std::alloc::{AllocError, Global};
 use std::marker::Model;
 use std::mem::replace;
 
-/// How many bytes an allocation takes memory for, unless one record needs more. With the heap's own words they are 64
-/// pages of memory.
-const TEXT: usize = 262_112;
+/// How many bytes an allocation takes memory for, unless one record needs more. A block of 128 kilobytes or more would
+/// come from the system, and go back to it when it is freed; one of these serves again.
+const TEXT: usize = 131_040;
 
 /// What the numbers of blocks and of bytes in one are below.
 const LIMIT: usize = 4_294_967_296;
@@ -50,6 +50,7 @@ impl Texts {
     }
 
     /// The text of this number; the last one, if no full one has it.
+    #[inline(always)]
     fn text(&self, block: usize) -> &[u8]
         ensures { result.now ≡ text_at self.entry.now block }
     {
@@ -61,6 +62,7 @@ impl Texts {
     }
 
     /// A part of a text: so many bytes, behind so many others.
+    #[inline(always)]
     pub(crate) fn part(&self, block: usize, start: usize, len: usize) -> &[u8]
         requires { IsWithin self.now block start len }
         ensures { result.now ≡ part self.entry.now block start len }

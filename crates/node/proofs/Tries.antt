@@ -81,13 +81,10 @@ no_reply (Up m) place reply other at = other m refl
 no_reply (Down f) place reply other at = at
 no_reply Changing place reply other at = at
 
--- what is found at the place has the reply
-pub reply_found : (node : Node) (m : MasterValue MemoryFleet) (place : ℕ) (reply : Reply) (found : Option Record)
-    → node ≡ Up m → found ≡ slice_get m.knows.history place → IsReplyAt node place reply
-    → option_map (λ (r : Record). r.reply) found ≡ Some reply
-reply_found node m place reply found up there at =
-    ap (option_map (λ (r : Record). r.reply)) there
-    ∙ subst (λ (n : Node). IsReplyAt n place reply) up at
+-- the record at the place has the reply
+pub reply_found : (node : Node) (m : MasterValue MemoryFleet) (place : ℕ) (reply : Reply) → node ≡ Up m
+    → IsReplyAt node place reply → option_map (λ (r : Record). r.reply) (slice_get m.knows.history place) ≡ Some reply
+reply_found node m place reply up at = subst (λ (n : Node). IsReplyAt n place reply) up at
 
 pub replied_try : (node : Node) (up m : MasterValue MemoryFleet) → node ≡ Up up → (command : Command) (reply : Reply)
     → Tries (world fleet_state up) command (Ok reply) (world fleet_state m)

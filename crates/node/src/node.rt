@@ -4,8 +4,7 @@ ghost use Rattle.std.specs.Prelude.{◌≡◌, true, false, None, Some, Ok, OnOk
 ghost use Rattle.std.specs.Io.KnownBytes.{Appends};
 ghost use Rattle.versioned_map.specs.declared.command.Reply.{Reply as ReplyValue};
 ghost use Rattle.std.specs.Option.{option_map};
-ghost use Rattle.versioned_map.specs.declared.command.Record.{Record as RecordValue};
-ghost use Rattle.history.specs.View.{shown_command, shown_record};
+ghost use Rattle.history.specs.View.{shown_command, shown_reply};
 ghost use Rattle.answers.specs.Texts.{reply_text};
 ghost use Rattle.store_clients.specs.master.master_state.declared.config.Config.{Config};
 ghost use Rattle.node.specs.Served.{IsDropped, KeepsFleet, fleet_of, is_up};
@@ -23,9 +22,7 @@ use replica::{Bench, Fleet, Labels};
 use std::alloc::Global;
 use std::io::{self, Write};
 use std::mem::replace;
-use store_clients::master::{
-    CommandRef, Look, Master, RecordRef, Refusal, Shown, Step, StepAnswer,
-};
+use store_clients::master::{CommandRef, Look, Master, Refusal, ReplyRef, Shown, Step, StepAnswer};
 
 /// A fleet, and the master over it if there is one.
 #[derive(Drop)]
@@ -97,20 +94,20 @@ impl Node {
         ensures { (reply : ReplyValue) → IsReplyAt self.now place reply →
             OnOk result (Appends (W.contents writer.old) (W.contents writer.new) (reply_text reply)) }
     {
-        match self.lent_record(place) {
-            Some(record) => write_reply(writer, &record.reply),
+        match self.lent_reply(place) {
+            Some(reply) => write_reply(writer, &reply),
             None => unreachable!(),
         }
     }
 
-    /// The record at this place of the history, if there is one.
+    /// The reply of the record at this place of the history, if there is one.
     #[inline(always)]
-    fn lent_record(&self, place: u64) -> Option<RecordRef<'_>>
+    fn lent_reply(&self, place: u64) -> Option<ReplyRef<'_>>
         ensures { (reply : ReplyValue) → IsReplyAt self.entry.now place reply →
-            option_map (λ (r : RecordValue). r.reply) (option_map shown_record result) ≡ Some reply }
+            option_map shown_reply result ≡ Some reply }
     {
         match self {
-            Node::Up(up) => up.history().get(place as usize),
+            Node::Up(up) => up.history().reply(place as usize),
             _ => None,
         }
     }

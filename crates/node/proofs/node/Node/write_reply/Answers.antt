@@ -12,7 +12,7 @@ unreachable-requires g c = let there = c.in-None.ensures c.requires.0 c.requires
 
 pub returns : goal.returns
 returns g c = λ reply at.
-    let same : shown_reply c.in-Some.record.reply ≡ reply = same_Some _ _ (c.in-Some.ensures reply at) in
+    let same : shown_reply c.in-Some.reply ≡ reply = same_Some _ _ (c.in-Some.ensures reply at) in
     let held = g.W.Write.contents c.args.writer.now in
     let holds = g.W.Write.contents c.write_reply.new.writer in
     subst (λ (r : Reply). OnOk c.write_reply.result (Appends held holds (reply_text r))) same c.write_reply.ensures
