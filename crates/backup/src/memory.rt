@@ -6,6 +6,7 @@ ghost use Rattle.replica.specs.Op.{shown_act, Extend, Close, Free};
 ghost use Rattle.replica.specs.Take.{effect};
 ghost use Rattle.backup.specs.Acts.{adding, MayGrow};
 ghost use Rattle.backup.specs.Retire.{spots_of_others};
+ghost use Rattle.backup.specs.Slots.{AreOrdered, IsAt};
 ghost use Rattle.backup.specs.Shelf.{replica_at, holdings_of, ActsAt, KeepsOthers, IsInOrder};
 
 use crate::shelf::Shelf;
@@ -115,26 +116,17 @@ impl MemoryBackup {
         Ok(copy)
     }
 
-    /// Makes room in a replica for so many bytes more, if it has none, and may come to no more than one here has.
-    #[inline(always)]
-    fn make_room(&mut self, alloc: Global, found: usize, more: usize)
+    /// Moves a replica that gets so many bytes more into memory for as many as one here has come to, unless that is too
+    /// little.
+    fn enlarge(&mut self, alloc: Global, found: usize, more: usize)
         requires { found < length self.old.replicas }
         ensures { self.new.replicas ≡ self.old.replicas }
     {
         let (_, stored) = &self.replicas.as_slice()[found];
-        if stored.outgrows(more, self.longest) {
-            self.enlarge(alloc, found);
+        if self.longest.saturating_sub(stored.len()) >= more {
+            let room = self.room(alloc, self.longest);
+            self.replicas.move_into(found, room);
         }
-    }
-
-    /// Moves a replica that grows into memory for as many bytes as one here has come to.
-    #[inline(never)]
-    fn enlarge(&mut self, alloc: Global, found: usize)
-        requires { found < length self.old.replicas }
-        ensures { self.new.replicas ≡ self.old.replicas }
-    {
-        let room = self.room(alloc, self.longest);
-        self.replicas.move_into(found, room);
     }
 
     /// Keeps memory for the next replicas, in the place of some kept earlier if there is enough. It takes none.
@@ -172,6 +164,26 @@ impl MemoryBackup {
         }
     }
 
+    /// Extends a replica that has no room for the bytes: mostly it moves before.
+    #[inline(never)]
+    fn extend_moved(
+        &mut self,
+        alloc: Global,
+        place: (u64, u64),
+        found: usize,
+        at: usize,
+        bytes: &[u8],
+    ) -> Result<(), TakeFault>
+        requires ordered { AreOrdered self.old.replicas }
+        requires found { IsAt self.old.replicas place found }
+        ensures named { ActsAt (Extend at bytes.now) place.0 place.1 self.old result self.new }
+        ensures others { KeepsOthers place.0 place.1 self.old self.new }
+    {
+        self.enlarge(alloc, found, bytes.len());
+        self.replicas.stored_mut(found).extend(at, bytes)
+    }
+
+    #[inline(always)]
     fn extend(
         &mut self,
         alloc: Global,
@@ -184,7 +196,9 @@ impl MemoryBackup {
     {
         match self.replicas.find(place) {
             Ok(found) => {
-                self.make_room(alloc, found, bytes.len());
+                if !self.replicas.has_room(found, bytes.len()) {
+                    return self.extend_moved(alloc, place, found, at, bytes);
+                }
                 self.replicas.stored_mut(found).extend(at, bytes)
             }
             Err(_) => Err(TakeFault::Wrong),

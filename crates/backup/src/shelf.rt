@@ -69,6 +69,14 @@ impl Shelf {
         &mut self.slots[at].1
     }
 
+    /// Whether a replica has memory for so many bytes more.
+    #[inline(always)]
+    pub(crate) fn has_room(&self, at: usize, more: usize) -> bool
+        requires { at < length self.now }
+    {
+        self.slots[at].1.has_room(more)
+    }
+
     /// Moves the bytes of a replica into other memory.
     pub(crate) fn move_into(&mut self, at: usize, memory: Vec<u8>)
         requires { at < length self.old }

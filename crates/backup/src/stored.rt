@@ -93,13 +93,10 @@ impl Stored {
         }
     }
 
-    /// Whether so many bytes more don't fit into the memory that it has, though they would into that of one that came to
-    /// `longest`.
+    /// Whether it has memory for so many bytes more.
     #[inline(always)]
-    pub(crate) fn outgrows(&self, more: usize, longest: usize) -> bool {
-        let len = self.bytes.len();
-        let capacity = self.bytes.capacity();
-        more > capacity.saturating_sub(len) && longest.saturating_sub(len) >= more
+    pub(crate) fn has_room(&self, more: usize) -> bool {
+        more <= self.bytes.capacity() - self.bytes.len()
     }
 
     /// Moves its bytes into other memory, if it takes no more than that.
@@ -114,6 +111,7 @@ impl Stored {
     }
 
     /// Appends bytes to an open replica of the length `at`.
+    #[inline(always)]
     pub fn extend(&mut self, at: usize, bytes: &[u8]) -> Result<(), TakeFault>
         ensures { Acts (Extend at bytes.now) (Some self.old) result (Some self.new) }
     {

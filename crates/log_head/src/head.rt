@@ -372,7 +372,29 @@ fn first_digest(alloc: Global, id: u64, format: u64) -> Result<Digest, NoMemory>
 }
 
 /// The first place of the least number, if that is below `units`.
+#[inline(always)]
 fn lagging(taken: &[usize], units: usize) -> Option<usize>
+    ensures { IsLagging units taken.now result }
+{
+    match taken {
+        [first, second] => lagging_of_two(*first, *second, units),
+        _ => lagging_of_all(taken, units),
+    }
+}
+
+/// The same of two numbers: mostly a head has two replicas.
+#[inline(always)]
+fn lagging_of_two(first: usize, second: usize, units: usize) -> Option<usize>
+    ensures { IsLagging units (first ∷ second ∷ []) result }
+{
+    if second < first && second < units {
+        return Some(1);
+    }
+    (first < units).then_some(0)
+}
+
+/// The same of any numbers.
+fn lagging_of_all(taken: &[usize], units: usize) -> Option<usize>
     ensures { IsLagging units taken.now result }
 {
     let mut found = None;

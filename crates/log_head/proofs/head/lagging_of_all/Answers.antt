@@ -1,8 +1,8 @@
 use Rattle.std.proofs.Common.{ℕ, ◌+◌, take, sym, subst, arith}
 use Rattle.std.specs.Prelude.{Option, Some}
 use Rattle.log_head.proofs.Heads.{Lags, lags_here, lags_before}
-use Rattle.log_head.proofs.head.lagging.Goals.{then-taken-place, else-taken-place}
-use Rattle.log_head.proofs.head.lagging.Goals as goal
+use Rattle.log_head.proofs.head.lagging_of_all.Goals.{then-taken-place, else-taken-place}
+use Rattle.log_head.proofs.head.lagging_of_all.Goals as goal
 
 pub loop-place-preserved : goal.loop-place-preserved
 loop-place-preserved c =

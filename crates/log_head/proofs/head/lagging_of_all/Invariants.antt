@@ -1,6 +1,6 @@
 use Rattle.std.proofs.Common.{◌≤◌, ◌-◌, take, length}
 use Rattle.log_head.proofs.Heads.{Lags}
-use Rattle.log_head.proofs.head.lagging.Given as goal
+use Rattle.log_head.proofs.head.lagging_of_all.Given as goal
 
 abbrev pub invariant-loop-place : goal.invariant-loop-place
 invariant-loop-place l = record {
