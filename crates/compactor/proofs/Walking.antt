@@ -119,6 +119,12 @@ module _ (ids : List ℕ) (held : Places) (segment : ℕ) (es : List Entry) wher
     low = omega (arith, s.low);
   }
 
+  pub IsSummed-next : (at len : ℕ) (s : IsSummed at len) (e : Entry) (n : ℕ) → IsHere es s.before s.rest at e n
+      → (b : Bool) → kept ids held (record { segment = segment; at = at }) e ≡ b → IsSummed (at + n) (len + cond b n 0)
+  IsSummed-next at len s e n here true keeps = IsSummed-kept at len s e n here keeps
+  IsSummed-next at len s e n here false keeps =
+      subst (λ m. IsSummed (at + n) m) (omega arith) (IsSummed-dropped at len s e n here keeps)
+
   pub IsSummed-end : (at len : ℕ) → IsSummed at len → length (text_of es) ≤ at
       → len ≡ length (text_of (kept_of ids held segment es))
   IsSummed-end at len s past =

@@ -7,32 +7,12 @@ ghost use Rattle.compactor.specs.Log.{ids_of_log};
 ghost use Rattle.compactor.specs.Moved.{Follows};
 ghost use Rattle.compactor.specs.Piece.{piece};
 
-use crate::keeping::{kept, kept_and_moved};
+use crate::keeping::{kept_and_moved, kept_len};
 use crate::log_set::LogSet;
 use entry::{EntryRef, NoMemory};
 use hash_index::{Index, Place};
 use segment::{Segment, SegmentRef};
 use std::alloc::Global;
-
-/// How many bytes the kept entries of a segment have.
-fn kept_len(id: u64, segment: &SegmentRef<'_>, index: &Index, log: &LogSet<'_>) -> usize
-    ensures { result ≡ length (text_of (kept_of (ids_of_log log.now) index.now.held id segment.now)) }
-{
-    let text = segment.bytes();
-    let mut len = 0;
-    let mut at = 0;
-    while at < text.len() {
-        let Ok((entry, taken)) = EntryRef::read(&text[at..]) else {
-            unreachable!()
-        };
-        let place = Place { segment: id, at };
-        if kept(&entry, place, index, log) {
-            len += taken;
-        }
-        at += taken;
-    }
-    len
-}
 
 /// Appends the bytes of a text between two offsets. There is room for them.
 fn append_piece(text: &[u8], from: usize, to: usize, out: &mut Vec<u8>)

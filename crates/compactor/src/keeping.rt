@@ -121,6 +121,47 @@ fn count(
     }
 }
 
+/// Counts one more entry of a segment as `count` does. An opening entry counts too.
+fn count_any(
+    entry: &EntryRef<'_>,
+    place: Place,
+    len: usize,
+    asked: &mut ArrayVec<Asked, SIDE_BY_SIDE>,
+    index: &Index,
+    log: &LogSet<'_>,
+) -> usize
+    requires { asked_bytes asked.old.items + len ≤ 8388608 }
+    ensures sum { result + held_bytes index.now.held place.segment asked.new.items
+        ≡ held_bytes index.now.held place.segment asked.old.items
+        + (if kept (ids_of_log log.now) index.now.held place (shown entry.now) then len else 0) }
+    ensures limit { result + asked_bytes asked.new.items ≤ asked_bytes asked.old.items + len }
+{
+    match entry {
+        EntryRef::Object(_) => count(entry, place, len, asked, index, log),
+        EntryRef::Tombstone(_) => count(entry, place, len, asked, index, log),
+        _ => len,
+    }
+}
+
+/// How many bytes the kept entries of a segment have.
+pub(crate) fn kept_len(id: u64, segment: &SegmentRef<'_>, index: &Index, log: &LogSet<'_>) -> usize
+    ensures { result ≡ length (text_of (kept_of (ids_of_log log.now) index.now.held id segment.now)) }
+{
+    let text = segment.bytes();
+    let mut asked = ArrayVec::new();
+    let mut len = 0;
+    let mut at = 0;
+    while at < text.len() {
+        let Ok((entry, taken)) = EntryRef::read(&text[at..]) else {
+            unreachable!()
+        };
+        let place = Place { segment: id, at };
+        len += count_any(&entry, place, taken, &mut asked, index, log);
+        at += taken;
+    }
+    len + held_bytes(asked.as_slice(), id, index)
+}
+
 /// How many bytes the kept objects and tombstones of a segment have. Its opening entries don't count.
 pub fn kept_bytes(id: u64, segment: &SegmentRef<'_>, index: &Index, log: &LogSet<'_>) -> usize
     ensures kept { result ≡ length (text_of
