@@ -8,6 +8,7 @@
 mod claim;
 mod fault;
 mod gathering;
+mod growing;
 mod objects;
 mod placed;
 mod rebuilt;

@@ -76,11 +76,41 @@ impl Objects {
         Ok(())
     }
 
+    /// Puts the objects of others behind these. They are not copied. If memory runs out, nothing changes.
+    pub fn append(&mut self, later: Objects) -> Result<(), NoMemory>
+        ensures ok { OnOk result (self.new ≡ self.old ++ later) }
+        ensures err { OnErr result (self.new ≡ self.old) }
+    {
+        let Some(count) = self.count.checked_add(later.count) else {
+            return Err(NoMemory);
+        };
+        let Objects {
+            first,
+            others,
+            count: _,
+        } = later;
+        let mut lists = others;
+        if lists.insert(0, first).is_err() {
+            return Err(NoMemory);
+        }
+        self.others.append(&mut lists)?;
+        self.count = count;
+        Ok(())
+    }
+
     /// How many objects there are.
     pub fn len(&self) -> usize
         ensures { result ≡ length self.now }
     {
         self.count
+    }
+
+    /// The first object. It looks on over the lists that are empty.
+    pub fn first(&self) -> Option<ObjectRef<'_>>
+        ensures some { IfSome result (λ o. (rest : List Object) × (self.entry.now ≡ shown_object o ∷ rest)) }
+        ensures none { IsNone result → self.entry.now ≡ [] }
+    {
+        self.iter().next()
     }
 
     /// The last object. It looks back over the lists that are empty.

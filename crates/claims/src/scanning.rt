@@ -7,8 +7,9 @@ ghost use Rattle.claims.specs.Claims.{objects_in, tops, IsRefusedFor};
 
 use crate::claim::Claim;
 use crate::fault::ReplayFault;
+use crate::growing::Growing;
+use crate::objects::Objects;
 use entry::SafeVersion;
-use object_list::ObjectList;
 use std::alloc::Global;
 
 /// The least safe version that is no less than this one and above the version of each claim.
@@ -40,31 +41,14 @@ pub fn is_last(claim: &Claim<'_>, later: &[Claim<'_>]) -> Result<bool, ReplayFau
     }
 }
 
-/// How many bytes the spellings of the objects that are left have together, for room.
-fn winners_len(claims: &[Claim<'_>]) -> usize {
-    let mut len: usize = 0;
-    let mut left = claims;
-    while let [claim, rest @ ..] = left {
-        let is_last = match rest.first() {
-            Some(next) => claim.key != next.key,
-            None => true,
-        };
-        if is_last && !claim.dead {
-            len = len.saturating_add(claim.object().spelled_len());
-        }
-        left = rest;
-    }
-    len
-}
-
-/// The objects of the last claims of their keys, if no two neighbours clash. Memory for them is taken once.
-pub fn winners(alloc: Global, claims: &[Claim<'_>]) -> Result<ObjectList, ReplayFault>
+/// The objects of the last claims of their keys, if no two neighbours clash, in memory of their own.
+pub fn winners(alloc: Global, claims: &[Claim<'_>]) -> Result<Objects, ReplayFault>
     ensures objects { IfOk result (λ objects. objects ≡ objects_in (tops (map claimed claims.now))) }
     ensures valid { IfOk result (λ objects. All IsObject objects) }
     ensures clean { OnOk result (has_clash (map claimed claims.now) ≡ false) }
     ensures err { IfErr result (IsRefusedFor (has_clash (map claimed claims.now))) }
 {
-    let mut objects = ObjectList::with_capacity(alloc, winners_len(claims))?;
+    let mut objects = Growing::new(alloc);
     let mut left = claims;
     while let [claim, rest @ ..] = left {
         let last = is_last(claim, rest)?;
@@ -73,5 +57,5 @@ pub fn winners(alloc: Global, claims: &[Claim<'_>]) -> Result<ObjectList, Replay
         }
         left = rest;
     }
-    Ok(objects)
+    Ok(objects.finish()?)
 }

@@ -6,7 +6,6 @@ ghost use Rattle.claims.specs.Settled.{AreRebuilt, AreCleanClaims, AreRefused};
 
 use crate::claim::Claim;
 use crate::fault::ReplayFault;
-use crate::objects::Objects;
 use crate::rebuilt::Rebuilt;
 use crate::scanning::{safe_above, winners};
 use entry::SafeVersion;
@@ -24,6 +23,6 @@ pub fn rebuilt_from(
 {
     let safe = safe_above(recorded, claims.as_slice());
     claims.sort_unstable();
-    let objects = Objects::new(alloc, winners(alloc, claims.as_slice())?);
+    let objects = winners(alloc, claims.as_slice())?;
     Ok(Rebuilt { objects, safe })
 }

@@ -70,6 +70,17 @@ impl ObjectList {
         Ok(())
     }
 
+    /// Whether there is memory for one more object.
+    #[inline(always)]
+    pub fn has_room(&self, object: &ObjectRef<'_>) -> bool {
+        object.spelled_len() <= self.text.capacity() - self.text.len()
+    }
+
+    /// For how many bytes of spellings there is memory.
+    pub fn capacity(&self) -> usize {
+        self.text.capacity()
+    }
+
     /// How many objects there are.
     pub fn len(&self) -> usize
         ensures { result ≡ length self.now }

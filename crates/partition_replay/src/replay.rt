@@ -171,7 +171,7 @@ impl<'a> Replay<'a> {
         let greatest = safe_above(SafeVersion::first(), claims.as_slice()).get() - 1;
         drop_dead(&mut claims);
         claims.sort_unstable();
-        let objects = Objects::new(self.alloc, winners(self.alloc, claims.as_slice())?);
+        let objects = winners(self.alloc, claims.as_slice())?;
         Ok(Replayed { objects, greatest })
     }
 }

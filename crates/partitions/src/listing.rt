@@ -22,7 +22,7 @@ use std::marker::{Model, PhantomData};
 #[derive(Drop)]
 pub struct PartList<D: Division> {
     partition: u32,
-    objects: ObjectList,
+    objects: Objects,
     safe: SafeVersion,
     of: PhantomData<D>,
 }
@@ -40,7 +40,7 @@ impl<D: Division> Model for PartList<D> {
 
 impl<D: Division> PartList<D> {
     /// The list of a partition.
-    pub fn new(partition: u32, objects: ObjectList, safe: SafeVersion) -> PartList<D>
+    pub fn new(partition: u32, objects: Objects, safe: SafeVersion) -> PartList<D>
         requires { IsListed (bag_in D.parts partition D.segments) D.safe objects safe }
         ensures { result ≡ partition }
     {
@@ -82,7 +82,7 @@ impl<D: Division> Model for Joined<D> {
 }
 
 /// Whether the keys of the later list come behind those of the other.
-fn follows(objects: &Objects, later: &ObjectList) -> bool
+fn follows(objects: &Objects, later: &Objects) -> bool
     requires objects { AreOrdered objects.now }
     requires later { AreOrdered later.now }
     ensures { IsTrue result → AreOrdered (objects.now ++ later.now) }
@@ -136,7 +136,7 @@ impl<D: Division> Joined<D> {
             safe,
             of: _,
         } = list;
-        self.objects.add(objects)?;
+        self.objects.append(objects)?;
         self.safe = greater(self.safe, safe);
         self.count += 1;
         Ok(())

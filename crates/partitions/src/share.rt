@@ -9,9 +9,8 @@ ghost use Rattle.partitions.specs.Setbacks.{IsSetback};
 use crate::listing::PartList;
 use crate::parcel::{Division, Parcel};
 use crate::setback::Setback;
-use claims::{Claim, ReplayFault, add_claims, safe_above, winners};
+use claims::{Claim, Objects, ReplayFault, add_claims, safe_above, winners};
 use entry::{NoMemory, SafeVersion};
-use object_list::ObjectList;
 use std::alloc::{AllocError, Global};
 use std::marker::{Model, PhantomData};
 
@@ -85,7 +84,7 @@ fn claims_in<'a, D: Division>(
 }
 
 /// The objects that are left of claims in order, if no two neighbours clash.
-fn listed(alloc: Global, claims: &[Claim<'_>]) -> Result<ObjectList, Setback>
+fn listed(alloc: Global, claims: &[Claim<'_>]) -> Result<Objects, Setback>
     ensures objects { IfOk result (λ objects. objects ≡ objects_in (tops (map claimed claims.now))) }
     ensures valid { IfOk result (λ objects. All IsObject objects) }
     ensures clean { OnOk result (has_clash (map claimed claims.now) ≡ false) }

@@ -10,7 +10,7 @@ loop-left-preserved-in_ok-push c =
     let left = c.loop-left.left.now in
     let claim = c.claim-item.result in
     let last = sym c.in_ok-last.ensures.last ∙ c.if-last.true in
-    let pushed = c.in_ok-push.ensures.ok in
+    let pushed = c.in_ok-push.ensures in
     let object = c.object.ensures in
     record {
       found =

@@ -31,14 +31,14 @@ safe_is c =
     c.safe_above-safe.ensures
     ∙ ap (λ (cs : List Claim). max c.args.recorded (bound_of_claims (map claimed cs))) c.as_slice.ensures.value
 
-pub returns-in_err-winners-clause-err : goal.returns-in_err-winners-clause-err
-returns-in_err-winners-clause-err c =
-    let all = (goal.at.returns-in_err-winners-clause-err c).After-as_slice-2 in
-    let refused : AreRefused (map claimed c.args.claims.now.items) c.in_err-winners.field-0.0 =
+pub returns-in_err-objects-clause-err : goal.returns-in_err-objects-clause-err
+returns-in_err-objects-clause-err c =
+    let all = (goal.at.returns-in_err-objects-clause-err c).After-as_slice-2 in
+    let refused : AreRefused (map claimed c.args.claims.now.items) c.in_err-objects.field-0.0 =
     record {
       each =
-          λ segments of. refused-for segments _ c.in_err-winners.field-0.0 (sorted all segments of)
-          c.in_err-winners.ensures.err;
+          λ segments of. refused-for segments _ c.in_err-objects.field-0.0 (sorted all segments of)
+          c.in_err-objects.ensures.err;
     } in
     search (rules, refused)
 
@@ -46,8 +46,8 @@ pub invariant_of-result : goal.invariant_of-result
 invariant_of-result c =
     let all = (goal.at.invariant_of-result c).After-as_slice-2 in
     let after = c.sort_unstable.new.self.items in
-    let listed : c.new-objects.result ≡ objects_in (tops (map claimed after)) =
-    c.new-objects.ensures ∙ c.in_ok-winners.ensures.objects
+    let listed : c.in_ok-objects.objects ≡ objects_in (tops (map claimed after)) =
+    c.in_ok-objects.ensures.objects
     ∙ ap (λ (cs : List Claim). objects_in (tops (map claimed cs))) c.as_slice-2.ensures.value in
     record {
       ordered = subst AreOrdered (sym listed)
@@ -61,12 +61,11 @@ pub returns-clause-ok : goal.returns-clause-ok
 returns-clause-ok c =
     let all = (goal.at.returns-clause-ok c).After-as_slice-2 in
     λ segments of. rebuilt segments (map claimed c.as_slice-2.result.now) (map claimed c.args.claims.now.items)
-    c.args.recorded _ (sorted all segments of) of c.in_ok-winners.ensures.clean
-    (c.new-objects.ensures ∙ c.in_ok-winners.ensures.objects)
-    (subst (λ (os : List Object). All IsObject os) (sym c.new-objects.ensures) c.in_ok-winners.ensures.valid)
+    c.args.recorded _ (sorted all segments of) of c.in_ok-objects.ensures.clean
+    c.in_ok-objects.ensures.objects c.in_ok-objects.ensures.valid
     (safe_is all)
 
 pub returns-clause-clean : goal.returns-clause-clean
 returns-clause-clean c =
     let all = (goal.at.returns-clause-clean c).After-as_slice-2 in
-    λ segments of. unclashed_clean (segments_bag segments) _ (sorted all segments of) c.in_ok-winners.ensures.clean
+    λ segments of. unclashed_clean (segments_bag segments) _ (sorted all segments of) c.in_ok-objects.ensures.clean

@@ -31,17 +31,17 @@ each c =
     c.sort_unstable.new.self.items c.drop_dead.ensures c.sort_unstable.ensures.permutation
     c.in_ok-claims.ensures.only c.in_ok-claims.ensures.each
 
-pub returns-in_err-winners-clause-fault : goal.returns-in_err-winners-clause-fault
-returns-in_err-winners-clause-fault c =
-    let a = (goal.at.returns-in_err-winners-clause-fault c).After-as_slice-4 in
+pub returns-in_err-objects-clause-fault : goal.returns-in_err-objects-clause-fault
+returns-in_err-objects-clause-fault c =
+    let a = (goal.at.returns-in_err-objects-clause-fault c).After-as_slice-4 in
     let inside = c.self.inside in
     let clean : has_clash (map claimed c.as_slice-4.result.now) ≡ false =
     ap (λ (cs : List Claim). has_clash (map claimed cs)) c.as_slice-4.ensures.value
     ∙ unclashed (bag_of (map grouped inside.groups.items)) (kept_at inside.kept.entries) c.self.invariant
     (map claimed c.sort_unstable.new.self.items) (rises a) (only a) (each a) in
-    let refused : IsFinishFault c.args.self.now c.in_err-winners.field-0.0 =
-    unfinished c.args.self.now (map claimed c.as_slice-4.result.now) c.in_err-winners.field-0.0 clean
-    c.in_err-winners.ensures.err in
+    let refused : IsFinishFault c.args.self.now c.in_err-objects.field-0.0 =
+    unfinished c.args.self.now (map claimed c.as_slice-4.result.now) c.in_err-objects.field-0.0 clean
+    c.in_err-objects.ensures.err in
     search (rules, refused)
 
 pub returns-clause-ok : goal.returns-clause-ok
@@ -54,7 +54,7 @@ returns-clause-ok c =
     subst (λ (ids : List ℕ). IsLowest ids (map grouped inside.groups.items) None) c.as_slice.ensures.value
     (subst (λ (gs : List Group). IsLowest c.as_slice.result.now (map grouped gs) None) c.as_slice-2.ensures.value
     c.in_default.ensures) in
-    let listed = c.new-objects.ensures ∙ c.in_ok-winners.ensures.objects
+    let listed = c.in_ok-objects.ensures.objects
     ∙ ap (λ (cs : List Claim). objects_in (tops (map claimed cs))) c.as_slice-4.ensures.value in
     let greatest : c.get-greatest.result ≡ max 1 (bound_of_claims (map claimed all)) =
     c.get-greatest.ensures.value ∙ c.safe_above.ensures
@@ -63,5 +63,5 @@ returns-clause-ok c =
     rw (← c.self.view_is)
     (replayed inside.partition inside.ids.items (map grouped inside.groups.items) inside.kept.entries
     (map claimed all) (map claimed sorted) _ c.self.invariant whole (rises a) c.in_ok-claims.ensures.only
-    c.in_ok-claims.ensures.each (only a) (each a) listed (rw c.new-objects.ensures c.in_ok-winners.ensures.valid)
+    c.in_ok-claims.ensures.each (only a) (each a) listed c.in_ok-objects.ensures.valid
     (one_less _ _ greatest))

@@ -18,4 +18,4 @@ invariant_of-self-2 g c =
     let ordered : AreOrdered (os ++ ps) =
     c.follows.ensures c.if-not-follows.false in
     joined_more qs segments recorded here.count here.safe list.safe c.greater-self-inside.result os ps
-    c.add.new.self c.self.invariant next ordered c.greater-self-inside.ensures c.in_ok-add.ensures.ok
+    c.append.new.self c.self.invariant next ordered c.greater-self-inside.ensures c.in_ok-append.ensures.ok

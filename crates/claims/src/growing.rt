@@ -1,0 +1,83 @@
+//! A list of objects that grows.
+
+ghost use Rattle.std.specs.Prelude.{◌≡◌, ◌++◌, ◌∷◌, [], IfOk, OnOk};
+ghost use Rattle.entry.specs.View.{shown_object};
+
+use crate::objects::Objects;
+use entry::{NoMemory, ObjectRef};
+use object_list::ObjectList;
+use std::alloc::Global;
+use std::marker::Model;
+use std::mem::replace;
+
+/// For how many bytes of objects memory is taken at first.
+const FIRST: usize = 4_096;
+
+/// For how many it is taken at most, unless one object needs more. So these lists fit where a history was.
+const MOST: usize = 131_040;
+
+/// Objects behind which further ones are put. They lie in several lists, each with twice the memory of the one before,
+/// and none of them moves. A contract sees one list.
+#[derive(Drop)]
+pub(crate) struct Growing {
+    alloc: Global,
+    whole: Objects,
+    last: ObjectList,
+}
+
+impl Model for Growing {
+    ghost use Rattle.std.specs.Prelude.{List, ◌++◌};
+    ghost use Rattle.entry.specs.declared.entry.Object.{Object};
+
+    ghost Value = { List Object };
+
+    ghost view = { λ g. g.whole ++ g.last };
+}
+
+impl Growing {
+    /// No objects. It takes no memory.
+    pub(crate) fn new(alloc: Global) -> Growing
+        ensures { result ≡ [] }
+    {
+        Growing {
+            alloc,
+            whole: Objects::new(alloc, ObjectList::new(alloc)),
+            last: ObjectList::new(alloc),
+        }
+    }
+
+    /// Puts an object behind the others.
+    pub(crate) fn push(&mut self, object: &ObjectRef<'_>) -> Result<(), NoMemory>
+        ensures { OnOk result (self.new ≡ self.old ++ shown_object object.now ∷ []) }
+    {
+        if !self.last.has_room(object) {
+            self.begin_list(object.spelled_len())?;
+        }
+        self.last.push(object)
+    }
+
+    /// Begins the next list, with memory for at least so many bytes.
+    #[inline(never)]
+    fn begin_list(&mut self, len: usize) -> Result<(), NoMemory>
+        ensures { OnOk result (self.new ≡ self.old) }
+    {
+        let room = self.last.capacity().saturating_mul(2).clamp(FIRST, MOST);
+        let next = ObjectList::with_capacity(self.alloc, room.max(len))?;
+        let full = replace(&mut self.last, next);
+        self.whole.add(full)
+    }
+
+    /// The objects.
+    pub(crate) fn finish(self) -> Result<Objects, NoMemory>
+        ensures { IfOk result (λ objects. objects ≡ self) }
+    {
+        let Growing {
+            alloc: _,
+            whole,
+            last,
+        } = self;
+        let mut objects = whole;
+        objects.add(last)?;
+        Ok(objects)
+    }
+}
