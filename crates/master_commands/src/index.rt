@@ -80,14 +80,12 @@ pub fn find_object<'a>(
 {
     let place = index.candidate(hash)?;
     match object_there(head, closed, place) {
-        Some(object) => {
-            if *key == object.key {
-                Some((place, object))
-            } else {
-                find_by_keys(head, closed, index, hash, key)
-            }
-        }
-        None => find_by_keys(head, closed, index, hash, key),
+        Some(object) if *key == object.key => Some((place, object)),
+        // The result is taken apart, so that the usual one doesn't lie in memory.
+        _ => match find_by_keys(head, closed, index, hash, key) {
+            Some((place, object)) => Some((place, object)),
+            None => None,
+        },
     }
 }
 
