@@ -5,7 +5,7 @@ use Rattle.entry.specs.declared.entry.Entry.TheVariants as entry
 use Rattle.entry.specs.declared.entry.Role.TheVariants as role
 use Rattle.entry.specs.Bag.{IsAmong}
 use Rattle.log_model.specs.Data.{Start, ids_of}
-use Rattle.clean_model.specs.Memory.{Place, Pass}
+use Rattle.clean_model.specs.Memory.{Pass}
 
 -- ---- a pass
 
@@ -36,8 +36,3 @@ pub record IsCommit (in_force : Start) (pass : Pass) (n : Start) : Type 0 where
   pub from : (s : ℕ) → IsAmong s n.others → Stays in_force pass s ⊎ IsAmong s pass.survivors
   pub stays : (s : ℕ) → IsAmong s (ids_of in_force) → (IsAmong s pass.victims → ⊥) → IsAmong s n.others
   pub survivors : (s : ℕ) → IsAmong s pass.survivors → IsAmong s n.others
-
--- A pass's cursor is at its end, and all replicas of its survivors are sealed.
-pub record IsReady (replicas : ℕ) (pass : Pass) (rest : List Place) (sealed : ℕ → ℕ) : Type 0 where
-  pub done : rest ≡ []
-  pub sealed_all : (s : ℕ) → IsAmong s pass.survivors → sealed s ≡ replicas

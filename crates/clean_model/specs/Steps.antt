@@ -1,12 +1,9 @@
 -- What images and index become: a pass begins, an entry is copied or appended.
-use Rattle.std.specs.Prelude.{ℕ, ◌==◌, List, [], ◌∷◌, length, Bool, false, Option, Some, None, if◌then◌else◌}
+use Rattle.std.specs.Prelude.{ℕ, List, [], ◌∷◌, length, Bool, false, Option, Some, None, if◌then◌else◌}
 use Rattle.entry.specs.declared.key.Key.{Key}
 use Rattle.entry.specs.declared.entry.Entry.{Entry}
 use Rattle.entry.specs.declared.entry.Entry.TheVariants as entry
 use Rattle.entry.specs.Order.{key_eq}
-use Rattle.replica.specs.Op.{Free}
-use Rattle.replica.specs.Picture.{Picture}
-use Rattle.log_model.specs.Ops.{LogOp}
 use Rattle.log_model.specs.Ids.{has}
 use Rattle.clean_model.specs.Compaction.{kept}
 use Rattle.clean_model.specs.Intact.{survivor_entries}
@@ -55,15 +52,3 @@ images_with images s (e ∷ es) = images_with (grown images s e) s es
 abbrev pub index_with : Images → Index → ℕ → List Entry → Index
 index_with images index s [] = index
 index_with images index s (e ∷ es) = index_with (grown images s e) (index_after images index s e) s es
-
--- ---- seal and free
-
--- the op that frees a replica
-abbrev pub free_op : ℕ → ℕ → LogOp
-free_op s b = record { backup = b; segment = s; act = Free }
-
--- ---- a fault
-
--- the replicas of this master as the first picture has them, and all others as the second has them
-abbrev pub with_own : ℕ → Picture → Picture → Picture
-with_own master p q = λ b m s. if m == master then p b m s else q b m s

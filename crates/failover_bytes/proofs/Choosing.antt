@@ -19,7 +19,7 @@ use Rattle.failover_model.specs.Choice.{Choice as ModelChoice, Holding as ModelH
 use Rattle.failover_model.specs.Choice.{IsHeld as IsModelHeld, bag_of as model_bag}
 use Rattle.failover_bytes.specs.Spelled.{spelled_replica, IsSpelled}
 use Rattle.failover_bytes.specs.Choice.{holding_for, choice_for}
-use Rattle.failover_bytes.specs.Laws.{UsableIsSame, HeadIsSame, ChoiceIsSpelled, SpelledIsChoice}
+use Rattle.failover_bytes.specs.Laws.{UsableIsSame, ChoiceIsSpelled, SpelledIsChoice}
 use Rattle.failover_bytes.proofs.Texts.{length_is, reads_opening, reads_data}
 use Rattle.failover_bytes.proofs.Reading.{held_spelled, spelled_held}
 
@@ -258,10 +258,6 @@ module _ (master : ℕ) (shown : Shown) (p : ModelShown) (spelled : IsSpelled ma
       others = spelled_others m.others choice.others;
       ids = ap (λ (l : List ℕ). l ++ m.head.segment ∷ []) (same_ids m.others) ∙ choice.ids;
     }
-
-pub head_is_same : HeadIsSame
-head_is_same master shown p b s spelled =
-    (head_back master shown p spelled b s, λ both. head_there master shown p spelled b s both.0 both.1)
 
 pub choice_is_spelled : ChoiceIsSpelled
 choice_is_spelled master shown p keep c spelled choice =

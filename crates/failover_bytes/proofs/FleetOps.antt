@@ -16,7 +16,7 @@ use Rattle.failover_model.specs.Shown.{with_replica as model_with_replica}
 use Rattle.failover_model.specs.Runs.{IsFaulted}
 use Rattle.failover_bytes.specs.Spelled.{spelled_replica, AreSegments, IsSpelled}
 use Rattle.failover_bytes.specs.Ops.{act_for, log_op_for, TakesOp, RefusesOp}
-use Rattle.failover_bytes.specs.Laws.{OpFits, OpIsNeverWrong, TakenIsSpelled, FaultIsSpelled}
+use Rattle.failover_bytes.specs.Laws.{OpIsNeverWrong, TakenIsSpelled, FaultIsSpelled}
 use Rattle.failover_bytes.proofs.Effects.{effect_spelled, changed_alike}
 
 -- ---- an op of any master
@@ -174,11 +174,6 @@ module _ (master : ℕ) (f : FleetState) (p : ModelShown) (spelled : IsSpelled m
       changed_so (On b s act) mid g same (on_taken b s act mid took.1)
   op_faulted (Raise id) g (inl same) = unchanged_is (Raise id) g same
   op_faulted (Raise id) g (inr (mid, took, same)) = changed_so (Raise id) mid g same (raise_taken id mid took.1)
-
-pub op_fits : OpFits
-op_fits master f p q (On b s act) spelled took lt runs =
-    let fits = on_fits master f p spelled b s act q took lt in (fits.0, (runs, fits.1))
-op_fits master f p q (Raise id) spelled took lt runs = (raised f master id, (runs, refl))
 
 pub op_is_never_wrong : OpIsNeverWrong
 op_is_never_wrong master f g p q (On b s act) spelled took lt refused =

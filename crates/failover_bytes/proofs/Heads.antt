@@ -8,15 +8,13 @@ use Rattle.failover_model.specs.Shown.{Shown, Op}
 use Rattle.failover_model.specs.Data.{FailData, Mode, Calm, Rolls, Mends, Opens, Closes, Repairs, front, bare}
 use Rattle.failover_model.specs.Data.{IsNew, new_of}
 use Rattle.failover_model.specs.Log.{Texts}
-use Rattle.failover_model.specs.Runs.{World, Applies, Turns, TakesId, Ends, Mended, Takes, Fails, Halts}
 use Rattle.entry.specs.declared.entry.Entry.{Entry}
 use Rattle.versioned_map.specs.Versioned.{State}
 use Rattle.failover_model.specs.Data.{opening_for, front_entries}
 use Rattle.failover_model.specs.Steps.{adopted, rolling, id_taken, ended, failing, new_heads, mended}
 use Rattle.failover_bytes.specs.Text.{IsWholeText}
-use Rattle.failover_bytes.specs.Segments.{HeadsAreSegments, IsHeldOp, NextIsHeldOp, RollingHasSegments}
+use Rattle.failover_bytes.specs.Segments.{HeadsAreSegments, IsHeldOp, RollingHasSegments}
 use Rattle.failover_bytes.specs.Segments.{EndedHasSegments, OpHasSegments, OthersHaveSegments}
-use Rattle.failover_bytes.specs.Runs.{HeadsStaySegments}
 
 module _ (master : ℕ) (d : FailData) (heads : HeadsAreSegments master d) where
   -- a master with the same head whose new heads are among these
@@ -88,16 +86,6 @@ module _ (master : ℕ) (d : FailData) (heads : HeadsAreSegments master d) where
 
 -- ---- laws
 
-pub next_is_held_op : NextIsHeldOp
-next_is_held_op d e texts p o (inl is) = inl is
-next_is_held_op d e texts p o (inr (inl is)) = inr (inl is)
-next_is_held_op d e texts p o (inr (inr (inl is))) = inr (inr (inl is))
-next_is_held_op d e texts p o (inr (inr (inr (inl is)))) = inr (inr (inr (inl is)))
-next_is_held_op d e texts p o (inr (inr (inr (inr (inl is))))) = inr (inr (inr (inr (inl is))))
-next_is_held_op d e texts p o (inr (inr (inr (inr (inr (inl is)))))) = inr (inr (inr (inr (inr (inl is.0)))))
-next_is_held_op d e texts p o (inr (inr (inr (inr (inr (inr (inl is))))))) = inr (inr (inr (inr (inr (inr (inl is))))))
-next_is_held_op d e texts p o (inr (inr (inr (inr (inr (inr (inr is))))))) = inr (inr (inr (inr (inr (inr (inr is))))))
-
 pub rolling_has_segments : RollingHasSegments
 rolling_has_segments master d n mode heads is whole = turned master d heads n mode is whole
 
@@ -124,35 +112,3 @@ others_have_segments master d heads = (
   ended_failover master d heads,
   λ st. adopted_heads master d st heads,
 )
-
-pub heads_stay_segments : HeadsStaySegments
-heads_stay_segments master (Applies segment r) w v heads writes (may, is) =
-    subst (λ (x : World). HeadsAreSegments master x.knows) (sym is) (record { head = writes; new = heads.new })
-heads_stay_segments master (Turns n mode) w v heads writes (roll, is) =
-    subst (λ (x : World). HeadsAreSegments master x.knows) (sym is)
-    (turned master w.knows heads n mode (begins w.knows.mode mode n roll.1.may) writes)
-  where
-    begins : (now mode : Mode) (n : Start) → ((now ≡ Calm) × (mode ≡ Rolls n)) ⊎ ((now ≡ Mends) × (mode ≡ Opens n))
-        → new_of mode ≡ Some n
-    begins now mode n (inl both) = ap new_of both.1
-    begins now mode n (inr both) = ap new_of both.1
-heads_stay_segments master TakesId w v heads writes (works, is) =
-    subst (λ (x : World). HeadsAreSegments master x.knows) (sym is)
-    (same_head master w.knows heads (id_taken w.knows) refl (λ n new. new))
-heads_stay_segments master (Ends n mode) w v heads writes (end, is) =
-    let both = over w.knows.mode mode n end.may in
-    subst (λ (x : World). HeadsAreSegments master x.knows) (sym is) (ends master w.knows heads n mode both.0 both.1)
-  where
-    over : (now mode : Mode) (n : Start) → ((now ≡ Rolls n) × (mode ≡ Calm)) ⊎ ((now ≡ Closes n) × (mode ≡ Repairs))
-        → (new_of now ≡ Some n) × (new_of mode ≡ None)
-    over now mode n (inl both) = (ap new_of both.0, ap new_of both.1)
-    over now mode n (inr both) = (ap new_of both.0, ap new_of both.1)
-heads_stay_segments master Mended w v heads writes (repairs, is) =
-    subst (λ (x : World). HeadsAreSegments master x.knows) (sym is) (ended_failover master w.knows heads)
-heads_stay_segments master (Takes o) w v heads writes (may, took, runs) =
-    op_heads master w.knows heads v.knows may.1.texts w.shown o
-    (next_is_held_op w.knows v.knows may.1.texts w.shown o may.2)
-heads_stay_segments master (Fails o b) w v heads writes (e, may, at, faulted, fails, is, runs) =
-    subst (HeadsAreSegments master) (sym is) (failed master w.knows heads b)
-heads_stay_segments master (Halts o) w v heads writes (e, may, faulted, is, halts) =
-    subst (HeadsAreSegments master) (sym is) heads

@@ -1,33 +1,28 @@
 -- A fleet keeps a master's log through each event.
-use Rattle.std.proofs.Common.{◌≡◌, ℕ, inl, inr, true, false, [], ◌∷◌, Some, refl, sym, subst, ◌∙◌}
+use Rattle.std.proofs.Common.{◌≡◌, ℕ, inl, inr, Some, sym, subst, ◌∙◌}
 use Rattle.std.specs.Prelude.{IsSome}
 use Rattle.std.specs.Option.{option_map}
 use Rattle.replica.specs.declared.op.TakeFault.TheVariants as take_fault
 use Rattle.replica.specs.Picture.{FleetState, shown_of}
-use Rattle.failover_model.specs.Shown.{Shown as ModelShown, Op, On, Raise, taken}
+use Rattle.failover_model.specs.Shown.{Shown as ModelShown, Op, taken}
 use Rattle.failover_model.specs.Data.{FailData}
 use Rattle.failover_model.specs.Log.{Texts, IsLogHeld, IsKept}
-use Rattle.failover_model.specs.Runs.{Takes, Fails, Halts, IsFaulted}
-use Rattle.failover_model.specs.Steps.{failing, IsKnown}
+use Rattle.failover_model.specs.Runs.{IsFaulted}
+use Rattle.failover_model.specs.Steps.{IsKnown}
 use Rattle.failover_model.proofs.Knowing.{extends_fits, opens_fits, replaces_fits, raises_fits, closes_fits}
 use Rattle.failover_model.proofs.Knowing.{reseals_fits, seals_fits, frees_fits}
-use Rattle.failover_model.proofs.Adopting.{adopted_is_kept, adopted_known}
 use Rattle.failover_model.proofs.NewMaster.{fresh_is_kept}
-use Rattle.failover_model.proofs.Runs.{runs_keep}
 use Rattle.failover_model.proofs.Soundness.{kept_is_sound}
 use Rattle.failover_bytes.specs.Spelled.{AreSegments, IsSpelled, read_replica}
-use Rattle.failover_bytes.specs.Keeping.{KeepsLog, HoldsLog, IsFreedThere, KeepingIsSound, KeepingHasChoice}
-use Rattle.failover_bytes.specs.Keeping.{NewHoldsLog, AdoptedHoldsLog, EventKeepsLog}
-use Rattle.failover_bytes.specs.Keeping.{OkHoldsLog, FaultFailsOver, FaultKeepsLog, LogOpIsNeverWrong}
-use Rattle.failover_bytes.specs.Keeping.{OtherRefusalLeaves, OthersLeaveLog, OkIsSpelled, FaultIsEither}
+use Rattle.failover_bytes.specs.Keeping.{KeepsLog, IsFreedThere, KeepingIsSound}
+use Rattle.failover_bytes.specs.Keeping.{NewHoldsLog}
+use Rattle.failover_bytes.specs.Keeping.{OkIsSpelled, FaultIsEither}
 use Rattle.failover_bytes.specs.Keeping.{HeldOpIsNeverWrong}
 use Rattle.failover_bytes.specs.Segments.{IsHeldOp}
-use Rattle.failover_bytes.specs.Runs.{FleetWorld, read_fleet, read_world}
+use Rattle.failover_bytes.specs.Runs.{read_fleet}
 use Rattle.failover_bytes.proofs.FleetOps.{op_is_never_wrong, taken_is_spelled, fault_is_spelled}
-use Rattle.failover_bytes.proofs.FleetRuns.{IsFleetStop, nothing_spelled, goes_on}
-use Rattle.failover_bytes.specs.Choice.{newest_opened}
-use Rattle.failover_bytes.proofs.GreatestOpened.{newest_is_opened}
-use Rattle.failover_bytes.proofs.Heads.{next_is_held_op, op_has_segments, others_have_segments}
+use Rattle.failover_bytes.proofs.FleetRuns.{nothing_spelled}
+use Rattle.failover_bytes.proofs.Heads.{op_has_segments}
 use Rattle.failover_bytes.proofs.SoundRuns.{op_leaves}
 use Rattle.failover_bytes.proofs.Soundness.{spelled_is_sound}
 
@@ -35,12 +30,6 @@ pub keeping_is_sound : KeepingIsSound
 keeping_is_sound master d f keeps =
     spelled_is_sound master d (shown_of f master) (read_fleet master f) keeps.spelled
     (kept_is_sound d (read_fleet master f) keeps.kept)
-
-pub keeping_has_choice : KeepingHasChoice
-keeping_has_choice master d f keep keeps survive =
-    (keeping_is_sound master d f keeps).choice keep (newest_opened d)
-    (newest_is_opened master d keeps.kept.texts (shown_of f master) (read_fleet master f) keeps.spelled keeps.kept.held)
-    survive
 
 pub new_holds_log : NewHoldsLog
 new_holds_log master c f begins heads =
@@ -50,49 +39,7 @@ new_holds_log master c f begins heads =
       known = both.1;
     }
 
-pub adopted_holds_log : AdoptedHoldsLog
-adopted_holds_log master d f st spelled heads loaded known =
-    let p = read_fleet master f in
-    record {
-      keeps = record {
-        spelled = spelled;
-        heads = (others_have_segments master d heads).3 st;
-        kept = adopted_is_kept d p st loaded;
-      };
-      known = adopted_known d p st loaded known;
-    }
-
-pub event_keeps_log : EventKeepsLog
-event_keeps_log master e v w holds on writes becomes =
-    let stop : IsFleetStop master op_leaves v =
-    record { spelled = holds.keeps.spelled; heads = holds.keeps.heads } in
-    let goes = goes_on master op_leaves e v w stop writes becomes in
-    let is = runs_keep (read_world master v) (read_world master w) (e ∷ []) holds.keeps.kept holds.known
-    (read_world master w, on, goes.0, refl) in
-    let keeps : KeepsLog master w.knows w.fleet =
-    record { spelled = goes.1.spelled; heads = goes.1.heads; kept = is.0 } in
-    (keeps, λ runs. record { keeps = keeps; known = is.1 runs })
-
 -- ---- by the answer of an op
-
--- a master that runs, over its fleet
-abbrev running : FailData → FleetState → FleetWorld
-running d f = record { knows = d; fleet = f; halted = false }
-
-pub ok_holds_log : OkHoldsLog
-ok_holds_log master d e f g o holds is took =
-    (event_keeps_log master (Takes o) (running d f) (running e g) holds refl is.seals
-    ((is.there, holds.keeps.kept, is.next), took, refl)).1 refl
-
-pub fault_fails_over : FaultFailsOver
-fault_fails_over master d e f g o b holds is on may refused =
-    (event_keeps_log master (Fails o b) (running d f) (running (failing d b) g) holds refl is.seals
-    (e, (is.there, holds.keeps.kept, is.next), on, refused, may, refl, refl)).1 refl
-
-pub fault_keeps_log : FaultKeepsLog
-fault_keeps_log master d e f g o holds is refused =
-    (event_keeps_log master (Halts o) (running d f) (record { knows = d; fleet = g; halted = true }) holds refl is.seals
-    (e, (is.there, holds.keeps.kept, is.next), refused, refl, refl)).0
 
 -- what comes next fits
 fits : (d e : FailData) (texts : Texts) (p : ModelShown) (o : Op) → IsLogHeld d texts p → IsKnown d p
@@ -120,13 +67,6 @@ held_op_is_never_wrong master d e texts f g p o asked known on freed refused =
     let fit = fits d e texts p o asked.held known asked.op freed in
     op_is_never_wrong master f g p fit.0 o asked.spelled fit.1 on refused
 
-pub log_op_is_never_wrong : LogOpIsNeverWrong
-log_op_is_never_wrong master d e f g o holds is on freed refused =
-    let p = read_fleet master f in
-    let kept = holds.keeps.kept in
-    let fit = fits d e kept.texts p o kept.held holds.known (next_is_held_op d e kept.texts p o is.next) freed in
-    op_is_never_wrong master f g p fit.0 o holds.keeps.spelled fit.1 on refused
-
 pub ok_is_spelled : OkIsSpelled
 ok_is_spelled master d e texts f g p o asked took =
     let then = taken_is_spelled master f g p o asked.spelled took in
@@ -143,16 +83,6 @@ fault_is_either master d e texts f g p o asked refused =
     segments q (inl same) = subst (AreSegments master) (sym same) asked.spelled.segments
     segments q (inr took) =
         op_leaves master d e texts p q o asked.held asked.op took asked.heads asked.seals asked.spelled.segments
-
-pub other_refusal_leaves : OtherRefusalLeaves
-other_refusal_leaves master f g (On b s act) take_fault.NoMemory is other = is
-other_refusal_leaves master f g (On b s act) take_fault.Wrong is other = is.1
-other_refusal_leaves master f g (On b s act) take_fault.Fault is other = absurd (other refl)
-other_refusal_leaves master f g (On b s act) take_fault.Spent is other = is.1
-other_refusal_leaves master f g (Raise id) take_fault.NoMemory is other = is
-other_refusal_leaves master f g (Raise id) take_fault.Wrong is other = absurd is
-other_refusal_leaves master f g (Raise id) take_fault.Fault is other = absurd (other refl)
-other_refusal_leaves master f g (Raise id) take_fault.Spent is other = is.1
 
 -- ---- other masters
 
@@ -178,9 +108,3 @@ module _ (master : ℕ) (d : FailData) (f g : FleetState) (same : (b s : ℕ) �
     heads = keeps.heads;
     kept = subst (IsKept d) same_read keeps.kept;
   }
-
-  still_holds : HoldsLog master d f → HoldsLog master d g
-  still_holds holds = record { keeps = still_keeps holds.keeps; known = subst (IsKnown d) same_read holds.known }
-
-pub others_leave_log : OthersLeaveLog
-others_leave_log master d f g same least = (still_holds master d f g same least, still_keeps master d f g same least)

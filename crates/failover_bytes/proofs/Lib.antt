@@ -2,7 +2,6 @@ pub mod Texts
 pub mod Reading
 pub mod Effects
 pub mod FleetOps
-pub mod Others
 pub mod Choosing
 pub mod Surviving
 pub mod NewestHomes

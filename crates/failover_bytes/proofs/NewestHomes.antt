@@ -1,29 +1,15 @@
 -- Of a log that is kept each home of the newest head that counts holds it.
-use Rattle.std.proofs.Common.{◌≡◌, ℕ, ◌<◌, ◌≤◌, ◌⊎◌, inl, inr, true, List, [], ◌∷◌, length, Some, refl, sym, ap}
+use Rattle.std.proofs.Common.{◌≡◌, ℕ, ◌<◌, inl, inr, true, List, [], ◌∷◌, length, refl, sym, ap}
 use Rattle.std.proofs.Common.{subst, ◌∙◌, arith}
-use Rattle.std.specs.Prelude.{Option, IsSome, IsSomeAnd, ◌==◌}
+use Rattle.std.specs.Prelude.{IsSome, ◌==◌}
 use Rattle.std.proofs.lemmas.Bool.Decides.{nat_tests}
 use Rattle.replica.specs.Picture.{Shown}
-use Rattle.replica.specs.Survival.{HoldsHead}
 use Rattle.failover_model.specs.log_model.Ids.{has}
-use Rattle.failover_model.proofs.log_model.Lists.{some_given, some_is}
 use Rattle.failover_model.specs.Text.{Text, Replica}
-use Rattle.failover_model.specs.Shown.{Shown as ModelShown, HoldsHead as ModelHoldsHead}
-use Rattle.failover_model.specs.Choice.{IsNewestOpened}
-use Rattle.failover_model.specs.Data.{FailData, HasTaken, IsHome, bare_replica}
+use Rattle.failover_model.specs.Shown.{Shown as ModelShown}
+use Rattle.failover_model.specs.Data.{FailData}
 use Rattle.failover_model.specs.Log.{Texts, IsReplica, IsLogHeld}
 use Rattle.failover_bytes.specs.Spelled.{IsSpelled}
-use Rattle.failover_bytes.specs.Choice.{Counts}
-use Rattle.failover_bytes.specs.Laws.{HomesHoldNewest}
-use Rattle.failover_bytes.proofs.Choosing.{head_there, head_back}
-
--- one that is there holds a head if it has an opening
-heads : (p : ModelShown) (b s : ℕ) (r : Replica) → p.holds b s ≡ Some r → IsSome r.text.opening → p.least ≤ s
-    → ModelHoldsHead p b s
-heads p b s r there bears usable = record {
-  bears = subst (λ (o : Option Replica). IsSomeAnd o (λ (q : Replica). IsSome q.text.opening)) (sym there) bears;
-  usable = usable;
-}
 
 -- some backup took what so many took
 pub taker : (bs : List ℕ) → 0 < length bs → (b : ℕ) × (has bs b ≡ true)
@@ -44,50 +30,3 @@ module _ (master : ℕ) (d : FailData) (texts : Texts) (shown : Shown) (p : Mode
       let newer = held.logged.newer new.0 new.1 in let same = new.2 in absurd (omega arith)
   head_bears b r (inr (inr is)) =
       subst IsSome (sym (is.opening ∙ ap (λ (t : Text). t.opening) held.logged.text)) refl
-
-  head_held : (b : ℕ) → HasTaken d id b → p.least ≤ id → ModelHoldsHead p b id
-  head_held b took usable =
-      let is = some_is (p.holds b id) (held.mirrored.head b took) in
-      heads p b id is.0 is.1 (head_bears b is.0 (held.mirrored.each b id is.0 is.1)) usable
-
-  module _ (s b : ℕ) (is : IsNewestOpened (Counts d master shown) shown.least s) (home : IsHome d s b) where
-    usable : p.least ≤ s
-    usable = let le = is.usable in let least = spelled.least in omega arith
-
-    -- the head in force counts, if there is one that is newer
-    no_older : s < id → ⊥
-    no_older lt = go held.mirrored.opened where
-      go : (id ≡ 0) ⊎ (d.config.replicas ≤ length (d.took id)) → ⊥
-      go (inl none) = omega arith
-      go (inr few) =
-          let some = held.some in
-          let took = taker (d.took id) (omega arith) in
-          let le = usable in
-          let holds = head_held took.0 took.1 (omega arith) in
-          let newest = is.newest id (few, (took.0, took.1, (head_back master shown p spelled took.0 id holds).0)) in
-          omega arith
-
-    by_replica : (c : ℕ) (q : Replica) → IsSome q.text.opening → IsReplica d texts p.least c s q → ModelHoldsHead p b s
-    by_replica c q bears (inl this) =
-        let same : s ≡ id = this.0 in
-        let le = usable in
-        subst (λ (n : ℕ). ModelHoldsHead p b n) (sym same)
-        (head_held b (subst (λ (n : ℕ). HasTaken d n b) same home.0) (omega arith))
-    by_replica c q bears (inr (inl new)) =
-        let same = new.2 in
-        let there = held.mirrored.new new.0 b new.1 (subst (λ (n : ℕ). HasTaken d n b) same home.0) in
-        heads p b s (bare_replica new.0) (ap (p.holds b) same ∙ there) refl usable
-    by_replica c q bears (inr (inr older)) =
-        absurd (no_older (older.bears (subst IsSome older.opening bears)).0)
-
-    newest_held : HoldsHead shown master b s
-    newest_held =
-        let one = is.opened.1 in
-        let there = head_there master shown p spelled one.0 s one.2 is.usable in
-        let q = some_given (p.holds one.0 s) (λ (r : Replica). IsSome r.text.opening) there.bears in
-        (head_back master shown p spelled b s
-        (by_replica one.0 q.0 q.2 (held.mirrored.each one.0 s q.0 q.1))).0
-
-pub homes_hold_newest : HomesHoldNewest
-homes_hold_newest master d texts shown p s b spelled held is home =
-    newest_held master d texts shown p spelled held s b is home

@@ -17,7 +17,7 @@ use Rattle.failover_model.specs.log_model.Sound.{IsTextOfSegment}
 use Rattle.failover_model.proofs.log_model.Segments.{data_alone}
 use Rattle.failover_model.specs.Text.{Text, opening_length}
 use Rattle.failover_bytes.specs.Text.{role_for, opening_entries, entries_for, bytes_for, IsWholeText}
-use Rattle.failover_bytes.specs.Laws.{LengthIsSame, HeadIsWritten}
+use Rattle.failover_bytes.specs.Laws.{LengthIsSame}
 
 -- ---- lengths
 
@@ -47,9 +47,6 @@ length_for master s (Some o) es =
 
 pub length_is : LengthIsSame
 length_is master s t = length_for master s t.opening t.entries
-
-pub head_is_written : HeadIsWritten
-head_is_written master count h = refl
 
 -- ---- what is read
 

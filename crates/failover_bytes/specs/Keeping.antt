@@ -1,22 +1,17 @@
 -- What a fleet keeps of a master's log, by the answer of each op.
-use Rattle.std.specs.Prelude.{◌≡◌, ℕ, Bool, false, Some, IsSome}
-use Rattle.replica.specs.declared.op.TakeFault.{TakeFault}
+use Rattle.std.specs.Prelude.{◌≡◌, ℕ, Some, IsSome}
 use Rattle.replica.specs.declared.op.TakeFault.TheVariants as take_fault
 use Rattle.replica.specs.Picture.{FleetState, shown_of}
 use Rattle.failover_model.specs.Shown.{Shown as ModelShown, Open, Extend, Close, Seal, Free, Op, On, Raise, taken}
-use Rattle.replica.specs.Choice.{Choice}
-use Rattle.replica.specs.Survival.{BothSurvive}
-use Rattle.failover_model.specs.Data.{FailConfig, FailData, IsHome}
+use Rattle.failover_model.specs.Data.{FailConfig, FailData}
 use Rattle.failover_model.specs.Log.{Texts, IsLogHeld, IsKept}
-use Rattle.failover_model.specs.Runs.{IsNext, IsThere, IsOn, IsFaulted, Event}
-use Rattle.versioned_map.specs.Versioned.{State}
-use Rattle.failover_model.specs.Steps.{fresh, MayBegin, IsLoaded, adopted, failing, MayFail, IsKnown}
+use Rattle.failover_model.specs.Runs.{IsNext, IsThere, IsFaulted}
+use Rattle.failover_model.specs.Steps.{fresh, MayBegin, IsKnown}
 use Rattle.failover_bytes.specs.Spelled.{IsSpelled}
 use Rattle.failover_bytes.specs.Ops.{IsOnFleet, TakesOp, RefusesOp}
 use Rattle.failover_bytes.specs.Segments.{HeadsAreSegments, SealsSegment, IsHeldOp}
-use Rattle.failover_bytes.specs.Runs.{WritesSegments, FleetWorld, read_fleet, FleetBecomes}
-use Rattle.failover_bytes.specs.Choice.{newest_opened}
-use Rattle.failover_bytes.specs.Sound.{IsLeftChoice, IsSoundInBytes}
+use Rattle.failover_bytes.specs.Runs.{read_fleet}
+use Rattle.failover_bytes.specs.Sound.{IsSoundInBytes}
 
 -- The fleet spells a log that is kept, and whose heads are segments.
 pub record KeepsLog (master : ℕ) (d : FailData) (f : FleetState) : Type 0 where
@@ -51,61 +46,10 @@ abbrev pub KeepingIsSound : Type 0
 KeepingIsSound = (master : ℕ) (d : FailData) (f : FleetState) → KeepsLog master d f
     → IsSoundInBytes master d (shown_of f master)
 
--- If both survive some losses, what is left has a choice.
-abbrev pub KeepingHasChoice : Type 0
-KeepingHasChoice = (master : ℕ) (d : FailData) (f : FleetState) (keep : ℕ → Bool) → KeepsLog master d f
-    → BothSurvive (IsHome d) (newest_opened d) (shown_of f master) master keep
-    → (c : Choice) × IsLeftChoice master (shown_of f master) keep c
-
 -- A fleet that holds nothing of a new master holds its log.
 abbrev pub NewHoldsLog : Type 0
 NewHoldsLog = (master : ℕ) (c : FailConfig) (f : FleetState) → MayBegin c (read_fleet master f)
     → HeadsAreSegments master (fresh c) → HoldsLog master (fresh c) f
-
--- A fleet that holds all that a master loaded holds the log of the master whose history begins with that.
-abbrev pub AdoptedHoldsLog : Type 0
-AdoptedHoldsLog = (master : ℕ) (d : FailData) (f : FleetState) (st : State)
-    → IsSpelled master (shown_of f master) (read_fleet master f) → HeadsAreSegments master d
-    → IsLoaded d (read_fleet master f) st → IsKnown d (read_fleet master f) → HoldsLog master (adopted d st) f
-
--- With each event a fleet keeps the log, and holds it until the master halts.
-abbrev pub EventKeepsLog : Type 0
-EventKeepsLog = (master : ℕ) (e : Event) (v w : FleetWorld) → HoldsLog master v.knows v.fleet → v.halted ≡ false
-    → WritesSegments master e v.knows → FleetBecomes master e v w
-    → KeepsLog master w.knows w.fleet × (w.halted ≡ false → HoldsLog master w.knows w.fleet)
-
--- If the op is answered Ok, the fleet holds the log of the master that it leads to.
-abbrev pub OkHoldsLog : Type 0
-OkHoldsLog = (master : ℕ) (d e : FailData) (f g : FleetState) (o : Op) (holds : HoldsLog master d f)
-    → IsLogOp master d holds.keeps.kept.texts f o e → TakesOp master f o g → HoldsLog master e g
-
--- If it ends in a fault, the fleet holds the log of a master whose failover is open.
-abbrev pub FaultFailsOver : Type 0
-FaultFailsOver = (master : ℕ) (d e : FailData) (f g : FleetState) (o : Op) (b : ℕ) (holds : HoldsLog master d f)
-    → IsLogOp master d holds.keeps.kept.texts f o e → IsOn b o → MayFail d
-    → RefusesOp master f o take_fault.Fault g → HoldsLog master (failing d b) g
-
--- And it keeps the log of the master as it was, which may halt.
-abbrev pub FaultKeepsLog : Type 0
-FaultKeepsLog = (master : ℕ) (d e : FailData) (f g : FleetState) (o : Op) (holds : HoldsLog master d f)
-    → IsLogOp master d holds.keeps.kept.texts f o e → RefusesOp master f o take_fault.Fault g → KeepsLog master d g
-
--- The fleet never answers Wrong to it, if what it frees is there.
-abbrev pub LogOpIsNeverWrong : Type 0
-LogOpIsNeverWrong = (master : ℕ) (d e : FailData) (f g : FleetState) (o : Op) (holds : HoldsLog master d f)
-    → IsLogOp master d holds.keeps.kept.texts f o e → IsOnFleet f o → IsFreedThere (read_fleet master f) o
-    → RefusesOp master f o take_fault.Wrong g → ⊥
-
--- Any other refusal leaves the fleet as it was.
-abbrev pub OtherRefusalLeaves : Type 0
-OtherRefusalLeaves = (master : ℕ) (f g : FleetState) (o : Op) (fault : TakeFault) → RefusesOp master f o fault g
-    → (fault ≡ take_fault.Fault → ⊥) → g ≡ f
-
--- What other masters do leaves the log: their replicas and least heads are not its own.
-abbrev pub OthersLeaveLog : Type 0
-OthersLeaveLog = (master : ℕ) (d : FailData) (f g : FleetState)
-    → ((b s : ℕ) → g.picture b master s ≡ f.picture b master s) → g.least master ≡ f.least master
-    → (HoldsLog master d f → HoldsLog master d g) × (KeepsLog master d f → KeepsLog master d g)
 
 -- ---- laws, of a master that is still loading too
 

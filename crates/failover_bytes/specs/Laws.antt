@@ -1,25 +1,23 @@
 -- What the model says of a log is so of the bytes that spell it.
-use Rattle.std.specs.Prelude.{◌≡◌, ◌↔◌, ℕ, ◌<◌, ◌++◌, length, Bool, Option, Some, Result}
-use Rattle.replica.specs.declared.op.TakeFault.{TakeFault}
+use Rattle.std.specs.Prelude.{◌≡◌, ◌↔◌, ℕ, length, Bool, Option, Some}
 use Rattle.replica.specs.declared.op.TakeFault.TheVariants as take_fault
 use Rattle.entry.specs.Text.{Opening}
-use Rattle.replica.specs.Choice.{Choice, IsShownChoice, IsUsableHead, IsUsableReplica, bag_of}
+use Rattle.replica.specs.Choice.{Choice, IsShownChoice, IsUsableReplica, bag_of}
 use Rattle.replica.specs.Picture.{Replica, Shown, FleetState, shown_of, survivors}
-use Rattle.replica.specs.Survival.{HoldsHead, BothSurvive}
+use Rattle.replica.specs.Survival.{BothSurvive}
 use Rattle.failover_model.specs.log_model.Sound.{IsTextOfSegment}
 use Rattle.failover_model.specs.Text.{Text, length_of, IsUsable}
-use Rattle.failover_model.specs.Shown.{Shown as ModelShown, HoldsHead as ModelHoldsHead, Op, taken}
+use Rattle.failover_model.specs.Shown.{Shown as ModelShown, Op, taken}
 use Rattle.failover_model.specs.Shown.{survivors as model_survivors}
 use Rattle.failover_model.specs.Choice.{Choice as ModelChoice, Holding as ModelHolding, IsChoice}
 use Rattle.failover_model.specs.Choice.{BothSurvive as ModelBothSurvive, bag_of as model_bag}
-use Rattle.failover_model.specs.Data.{Head, FailData, IsHome, front, front_entries}
+use Rattle.failover_model.specs.Data.{FailData, IsHome}
 use Rattle.failover_model.specs.Log.{Texts, IsLogHeld}
-use Rattle.failover_model.specs.log_model.Data.{start_entries}
 use Rattle.failover_model.specs.Runs.{IsFaulted}
 use Rattle.failover_model.specs.Sound.{IsSound, WasOpened}
-use Rattle.failover_bytes.specs.Text.{entries_for, bytes_for}
+use Rattle.failover_bytes.specs.Text.{bytes_for}
 use Rattle.failover_bytes.specs.Spelled.{AreSegments, IsSpelled, read_shown}
-use Rattle.failover_bytes.specs.Ops.{IsOnFleet, TakesOp, RefusesOp, OpGives}
+use Rattle.failover_bytes.specs.Ops.{IsOnFleet, TakesOp, RefusesOp}
 use Rattle.failover_bytes.specs.Choice.{holding_for, choice_for, Counts, IsNewestCounted, newest_opened}
 use Rattle.failover_bytes.specs.Sound.{IsSoundInBytes}
 
@@ -28,11 +26,6 @@ use Rattle.failover_bytes.specs.Sound.{IsSoundInBytes}
 -- A text has as many bytes as the model counts, so an Extend goes on where the model says.
 abbrev pub LengthIsSame : Type 0
 LengthIsSame = (master segment : ℕ) (t : Text) → length (bytes_for master segment t) ≡ length_of t
-
--- A head's text is its opening, and behind it what was loaded and the units.
-abbrev pub HeadIsWritten : Type 0
-HeadIsWritten = (master count : ℕ) (h : Head)
-    → entries_for master h.start.id (front h count) ≡ start_entries master h.start ++ front_entries h count
 
 -- Replicas that are segments' texts, whose headers name them, spell what is read of them.
 abbrev pub TextsAreSpelled : Type 0
@@ -47,11 +40,6 @@ SpelledIsRead = (master : ℕ) (shown : Shown) (p : ModelShown) → IsSpelled ma
     × ((b s : ℕ) (r : Replica) → shown.holds b master s ≡ Some r → IsTextOfSegment r.bytes master s)
 
 -- ---- ops
-
--- An op that fits in the model fits the fleet, which takes it unless it is spent.
-abbrev pub OpFits : Type 0
-OpFits = (master : ℕ) (f : FleetState) (p q : ModelShown) (o : Op) → IsSpelled master (shown_of f master) p
-    → taken p o ≡ Some q → IsOnFleet f o → f.takes < f.end → (g : FleetState) × TakesOp master f o g
 
 -- No fleet answers Wrong to it.
 abbrev pub OpIsNeverWrong : Type 0
@@ -70,22 +58,12 @@ FaultIsSpelled = (master : ℕ) (f g : FleetState) (p : ModelShown) (o : Op) →
     → RefusesOp master f o take_fault.Fault g
     → (q : ModelShown) × IsFaulted p o q × (AreSegments master q → IsSpelled master (shown_of g master) q)
 
--- Replicas of other masters, and their least heads, stay.
-abbrev pub OthersStay : Type 0
-OthersStay = (master : ℕ) (f g : FleetState) (o : Op) (result : Result Unit TakeFault) (b m s : ℕ)
-    → OpGives master f o result g → (m ≡ master → ⊥) → (g.picture b m s ≡ f.picture b m s) × (g.least m ≡ f.least m)
-
 -- ---- choices
 
 -- A replica may be used in the model just if the real one may.
 abbrev pub UsableIsSame : Type 0
 UsableIsSame = (master : ℕ) (opening : Opening) (h : ModelHolding)
     → IsUsable opening.digest h.segment h.replica ↔ IsUsableReplica opening (holding_for master h)
-
--- So may a head.
-abbrev pub HeadIsSame : Type 0
-HeadIsSame = (master : ℕ) (shown : Shown) (p : ModelShown) (b s : ℕ) → IsSpelled master shown p
-    → ModelHoldsHead p b s ↔ (HoldsHead shown master b s × IsUsableHead shown.least s)
 
 -- Each choice of the newest log from any survivors spells a choice of the model, with the same bag.
 abbrev pub ChoiceIsSpelled : Type 0
@@ -107,24 +85,11 @@ SurvivesInModel = (master : ℕ) (d : FailData) (shown : Shown) (p : ModelShown)
     → IsSpelled master shown p → IsNewestCounted (Counts d master shown) shown.least newest
     → BothSurvive (IsHome d) newest shown master keep → ModelBothSurvive (IsHome d) (WasOpened d p) p keep
 
--- If they do so in the model, both survive, where each home of the newest head that counts holds it.
-abbrev pub ModelSurvives : Type 0
-ModelSurvives = (master : ℕ) (d : FailData) (shown : Shown) (p : ModelShown) (keep : ℕ → Bool) (newest : Option ℕ)
-    → IsSpelled master shown p → IsNewestCounted (Counts d master shown) shown.least newest
-    → ((s b : ℕ) → newest ≡ Some s → IsHome d s b → HoldsHead shown master b s)
-    → ModelBothSurvive (IsHome d) (WasOpened d p) p keep → BothSurvive (IsHome d) newest shown master keep
-
 -- Of a log that is kept the newest opened head is the newest that counts.
 abbrev pub NewestIsOpened : Type 0
 NewestIsOpened = (master : ℕ) (d : FailData) (texts : Texts) (shown : Shown) (p : ModelShown)
     → IsSpelled master shown p → IsLogHeld d texts p
     → IsNewestCounted (Counts d master shown) shown.least (newest_opened d)
-
--- Of a log that is kept each home of that head holds it.
-abbrev pub HomesHoldNewest : Type 0
-HomesHoldNewest = (master : ℕ) (d : FailData) (texts : Texts) (shown : Shown) (p : ModelShown) (s b : ℕ)
-    → IsSpelled master shown p → IsLogHeld d texts p → IsNewestCounted (Counts d master shown) shown.least (Some s)
-    → IsHome d s b → HoldsHead shown master b s
 
 -- If the model's picture is sound, so is the one that spells it.
 abbrev pub SpelledIsSound : Type 0

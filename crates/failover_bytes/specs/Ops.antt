@@ -1,5 +1,5 @@
 -- The model's ops as a fleet takes or refuses them.
-use Rattle.std.specs.Prelude.{ℕ, ◌<◌, Result, Ok, Err}
+use Rattle.std.specs.Prelude.{ℕ, ◌<◌}
 use Rattle.entry.specs.Text.{text_of}
 use Rattle.replica.specs.declared.op.TakeFault.{TakeFault}
 use Rattle.replica.specs.Op.{ActValue, Open as OpenBytes, Extend as ExtendBytes, Close as CloseIt, Seal as SealBytes}
@@ -37,8 +37,3 @@ TakesOp master f (Raise id) g = Raises f master id g
 abbrev pub RefusesOp : ℕ → FleetState → Op → TakeFault → FleetState → Type 0
 RefusesOp master f (On b s act) fault g = Refuses f b (op_of master (log_op_for master b s act)) fault g
 RefusesOp master f (Raise id) fault g = RefusesRaise f master id fault g
-
--- what the op does, by its answer
-abbrev pub OpGives : ℕ → FleetState → Op → Result Unit TakeFault → FleetState → Type 0
-OpGives master f o (Ok u) g = TakesOp master f o g
-OpGives master f o (Err fault) g = RefusesOp master f o fault g

@@ -5,7 +5,6 @@ use Rattle.failover_model.specs.log_model.Data.{Start}
 use Rattle.failover_model.specs.Shown.{Open, Extend, Close, Seal, Free, Op, On, Raise, Shown as ModelShown, taken}
 use Rattle.failover_model.specs.Data.{front, bare, Mode, FailData, new_of, IsNew}
 use Rattle.failover_model.specs.Log.{Texts, IsLogHeld}
-use Rattle.failover_model.specs.Runs.{IsNext}
 use Rattle.failover_model.specs.Steps.{adopted, rolling, id_taken, ended, failing, mended, Extends, OpensNew, Replaces}
 use Rattle.failover_model.specs.Steps.{Raises, ClosesOld, Reseals, Seals, Frees}
 use Rattle.failover_bytes.specs.Text.{IsWholeText}
@@ -31,11 +30,6 @@ IsHeldOp d texts p o e = Extends d o e ⊎ (OpensNew d o e ⊎ (Replaces d o e �
     ⊎ (ClosesOld d o e ⊎ (Reseals d texts o e ⊎ (Seals d texts p o e ⊎ Frees d o e))))))
 
 -- ---- laws
-
--- Each op of a log that is kept is one of these.
-abbrev pub NextIsHeldOp : Type 0
-NextIsHeldOp = (d e : FailData) (texts : Texts) (p : ModelShown) (o : Op) → IsNext d texts p o e
-    → IsHeldOp d texts p o e
 
 -- If the heads are segments, an op leaves replicas that are segments, if they were and what it seals is one.
 abbrev pub OpLeavesSegments : Type 0

@@ -9,13 +9,12 @@ use Rattle.entry.specs.Meaning.{IsOfKey}
 use Rattle.entry.specs.Text.{text_of}
 use Rattle.entry.proofs.BagLemmas.{among_push, among_either, among_left}
 use Rattle.failover_bytes.specs.log_model.Data.{Start, ids_of}
-use Rattle.failover_bytes.specs.log_model.Ids.{has, without}
+use Rattle.failover_bytes.specs.log_model.Ids.{has}
 use Rattle.failover_bytes.specs.log_model.Log.{AreBelow}
 use Rattle.failover_bytes.proofs.log_model.Lists.{all_below, below_at}
-use Rattle.failover_bytes.specs.clean_model.Intact.{Stays, IsCommit}
+use Rattle.failover_bytes.specs.clean_model.Intact.{IsCommit}
 use Rattle.failover_bytes.specs.clean_model.Memory.{LogSet, no_pass, new_ids, counting}
 use Rattle.failover_bytes.specs.clean_model.Tracked.{IsPassing, IsAround}
-use Rattle.failover_bytes.proofs.clean_model.CommitDigest.{without_stays, without_from, all_out, all_in}
 use Rattle.failover_bytes.proofs.clean_model.CommittedPass.{committed}
 use Rattle.failover_bytes.proofs.clean_model.KeptEntries.{has_is, is_has}
 use Rattle.failover_bytes.proofs.clean_model.Lists.{among_tells}
@@ -32,7 +31,7 @@ use Rattle.failover_bytes.proofs.failover_model.Lengths.{lens_known, len_known}
 use Rattle.failover_bytes.proofs.failover_model.Lists.{some_is, some_member, without_has}
 use Rattle.failover_clean.specs.Covered.{map_of}
 use Rattle.failover_clean.specs.Intact.{IsIntact}
-use Rattle.failover_clean.specs.Laws.{CommitKeeps, CommitDigest, FinishKeeps}
+use Rattle.failover_clean.specs.Laws.{CommitKeeps, FinishKeeps}
 use Rattle.failover_clean.specs.Memory.{FailMemory, entries_in, log_ids, log_set_of, data_of}
 use Rattle.failover_clean.specs.Past.{past_after}
 use Rattle.failover_clean.specs.Steps.{commit_len, MayCommit, spots_of, finished}
@@ -185,22 +184,6 @@ commit_keeps d m p n mode i may =
     begun d m p i n mode true (commit_roll d m p n mode i may) (commit_stands d m p n mode i may)
     (λ c. absurd (cc), λ c. may.commit) (let safe = may.safe in omega arith)
     (λ c. record { real = may.real; done = may.ready.done; images = sealed_text d m p n mode i may })
-
-pub commit_digest : CommitDigest
-commit_digest d m p i real =
-    let ids = ids_now d.head.start in
-    let left = without m.pass.victims ids in
-    let now : ids ≡ ids_of d.head.start = now_is d.head.start real in
-    record {
-      from = λ s c. elim (all_out m.pass.survivors left s c)
-          as (λ _. Stays d.head.start m.pass s ⊎ IsAmong s m.pass.survivors) [
-            | inl l ↦ (let was = without_from m.pass.victims ids s l in inl (subst (IsAmong s) now was.0, was.1))
-            | inr l ↦ inr l
-          ];
-      stays = λ s c no_victim. all_in m.pass.survivors left s
-          (inl (without_stays m.pass.victims ids s (subst (IsAmong s) (sym now) c) no_victim));
-      survivors = λ s c. all_in m.pass.survivors left s (inr c);
-    }
 
 -- ---- its end
 

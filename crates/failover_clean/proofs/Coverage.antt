@@ -11,10 +11,9 @@ use Rattle.failover_bytes.proofs.clean_model.TrackedBags.{in_segment, between_cl
 use Rattle.failover_bytes.specs.failover_model.Shown.{Shown}
 use Rattle.failover_bytes.specs.failover_model.Data.{FailData}
 use Rattle.failover_bytes.proofs.failover_model.Holding.{replicas_are_texts}
-use Rattle.failover_bytes.proofs.failover_model.Soundness.{kept_is_sound}
 use Rattle.failover_clean.specs.Covered.{map_of, IsInLogBag, image_bag, log_bag, HasGrave, MayName, IsCovered}
 use Rattle.failover_clean.specs.Intact.{IsIntact}
-use Rattle.failover_clean.specs.Laws.{IntactIsCovered, IntactIsSound}
+use Rattle.failover_clean.specs.Laws.{IntactIsCovered}
 use Rattle.failover_clean.specs.Memory.{FailMemory, log_ids, log_set_of}
 
 module _ (d : FailData) (m : FailMemory) (p : Shown) (i : IsIntact d m p) where
@@ -60,6 +59,3 @@ module _ (d : FailData) (m : FailMemory) (p : Shown) (i : IsIntact d m p) where
 
 pub intact_is_covered : IntactIsCovered
 intact_is_covered d m p i = covered d m p i
-
-pub intact_is_sound : IntactIsSound
-intact_is_sound d m p i = kept_is_sound d p i.log

@@ -18,7 +18,7 @@ use Rattle.failover_bytes.proofs.Reading.{spelled_is_read}
 use Rattle.failover_clean.specs.Fleet.{read_of, HoldsLoading, RestoredHoldsLoading, LoadHoldsLoading, OkHoldsLoading}
 use Rattle.failover_clean.specs.Fleet.{LoadingIsNeverWrong, RollHoldsLoading, EndHoldsLoading, SameHoldsLoading}
 use Rattle.failover_clean.specs.Fleet.{RepairHoldsLoading, RepairIsNeverWrong, FaultFailsLoading, MendHoldsLoading}
-use Rattle.failover_clean.specs.Fleet.{OthersLeaveLoading, FinishedHoldsAll}
+use Rattle.failover_clean.specs.Fleet.{FinishedHoldsAll}
 use Rattle.failover_clean.specs.Intact.{Knows}
 use Rattle.failover_clean.specs.Loading.{IsLoadingOp, IsLoading}
 use Rattle.failover_clean.specs.Memory.{FailMemory}
@@ -216,19 +216,6 @@ same_holds_loading d m n f same holds = record {
   loading = same_is_loading d m n (read_of d f) holds.loading same;
   knows = same_knows d m n (read_of d f) holds.knows same;
 }
-
-pub others_leave_loading : OthersLeaveLoading
-others_leave_loading d m f g holds same least =
-    loading_at d.config.master d m g (read_of d f) refl (record {
-      spelled = record {
-        replicas = λ b s. same b s ∙ holds.spelled.replicas b s;
-        least = least ∙ holds.spelled.least;
-        segments = holds.spelled.segments;
-      };
-      heads = holds.heads;
-      loading = holds.loading;
-      knows = holds.knows;
-    })
 
 -- ---- it finishes
 

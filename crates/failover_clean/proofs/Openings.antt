@@ -45,14 +45,6 @@ one_data : (b : Bool) (e : Entry) (es : List Entry) → is_data e ≡ true → I
 one_data true e es is rest = rw is (ap (λ (l : List Entry). e ∷ l) rest)
 one_data false e es is rest = rest
 
-pub data_twice : (es : List Entry) → IsData (filter is_data es)
-data_twice [] = refl
-data_twice (Header h ∷ es) = data_twice es
-data_twice (Digest l ∷ es) = data_twice es
-data_twice (Safe v ∷ es) = data_twice es
-data_twice (Object o ∷ es) = one_data true (Object o) (filter is_data es) refl (data_twice es)
-data_twice (Tombstone t ∷ es) = one_data true (Tombstone t) (filter is_data es) refl (data_twice es)
-
 -- ---- an image
 
 -- the image begins as the text does, and goes on with objects and tombstones

@@ -245,12 +245,6 @@ abbrev pub SameHoldsLoading : Type 0
 SameHoldsLoading = (d : FailData) (m n : FailMemory) (f : FleetState) → IsSameMemory d m n → HoldsLoading d m f
     → HoldsLoading d n f
 
--- What other masters do doesn't matter to it.
-abbrev pub OthersLeaveLoading : Type 0
-OthersLeaveLoading = (d : FailData) (m : FailMemory) (f g : FleetState) → HoldsLoading d m f
-    → ((b s : ℕ) → g.picture b d.config.master s ≡ f.picture b d.config.master s)
-    → g.least d.config.master ≡ f.least d.config.master → HoldsLoading d m g
-
 -- With all of it on the backups the history begins.
 abbrev pub FinishedHoldsAll : Type 0
 FinishedHoldsAll = (d : FailData) (m : FailMemory) (f : FleetState) → HoldsLoading d m f → d.mode ≡ Calm

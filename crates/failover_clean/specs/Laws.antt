@@ -4,12 +4,10 @@ use Rattle.std.specs.List.{range_with_len}
 use Rattle.entry.specs.declared.entry.Entry.{Entry}
 use Rattle.versioned_map.specs.declared.command.Record.{Record}
 use Rattle.failover_bytes.specs.log_model.Data.{Start}
-use Rattle.failover_bytes.specs.clean_model.Intact.{IsCommit}
 use Rattle.failover_bytes.specs.clean_model.Memory.{Place}
 use Rattle.failover_bytes.specs.clean_model.Steps.{survivors_begun}
 use Rattle.failover_bytes.specs.failover_model.Shown.{Shown, Op, taken}
 use Rattle.failover_bytes.specs.failover_model.Data.{FailConfig, Mode, Repairs, FailData}
-use Rattle.failover_bytes.specs.failover_model.Sound.{IsSound}
 use Rattle.failover_bytes.specs.failover_model.Steps.{fresh, MayBegin, applied, MayApply, rolling, next_start, MayTurn, ended}
 use Rattle.failover_bytes.specs.failover_model.Steps.{EndsRoll, failing, MayFail, mended, IsKnown, Extends, OpensNew, Replaces, Raises}
 use Rattle.failover_bytes.specs.failover_model.Steps.{ClosesOld, with_taken, MayRepair, Reseals}
@@ -18,17 +16,13 @@ use Rattle.failover_clean.specs.Intact.{IsIntact}
 use Rattle.failover_clean.specs.Memory.{FailMemory, data_of}
 use Rattle.failover_clean.specs.Steps.{seal_op, MaySeal, ids_taken, pass_begun, MayBeginClean, first_memory, recorded}
 use Rattle.failover_clean.specs.Steps.{IsNamed, compacted, MayCompact, copy_done, MayCopy, rolled, stopped, MayCommit}
-use Rattle.failover_clean.specs.Steps.{commit_start, finished, free_op, freed, MayFree}
+use Rattle.failover_clean.specs.Steps.{finished, free_op, freed, MayFree}
 
 -- ---- what is intact
 
 -- Images and replicas together keep the map, in every part of a roll and of a failover.
 abbrev pub IntactIsCovered : Type 0
 IntactIsCovered = (d : FailData) (m : FailMemory) (p : Shown) → IsIntact d m p → IsCovered d m p
-
--- The picture is sound.
-abbrev pub IntactIsSound : Type 0
-IntactIsSound = (d : FailData) (m : FailMemory) (p : Shown) → IsIntact d m p → IsSound d p
 
 -- ---- a new master and its commands
 
@@ -90,11 +84,6 @@ RollKeeps = (d : FailData) (m : FailMemory) (p : Shown) (mode : Mode) → IsInta
 abbrev pub CommitKeeps : Type 0
 CommitKeeps = (d : FailData) (m : FailMemory) (p : Shown) (n : Start) (mode : Mode) → IsIntact d m p
     → MayCommit d m n mode → IsIntact (rolling d n mode) (rolled d m n true) p
-
--- The digest in force less the victims, with the survivors at their places, is a commit's.
-abbrev pub CommitDigest : Type 0
-CommitDigest = (d : FailData) (m : FailMemory) (p : Shown) → IsIntact d m p → (d.head.start.id ≡ 0 → ⊥)
-    → IsCommit d.head.start m.pass (commit_start d m)
 
 -- So does the end of an ordinary roll.
 abbrev pub EndKeeps : Type 0

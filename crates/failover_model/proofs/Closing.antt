@@ -7,8 +7,8 @@ use Rattle.failover_model.specs.Shown.{Shown, Op, taken}
 use Rattle.failover_model.specs.Data.{front, bare_replica, FailData, new_of, IsNew}
 use Rattle.failover_model.specs.Log.{Texts, IsLogged, IsMirrored, IsLogHeld, IsStanding}
 use Rattle.failover_model.specs.Steps.{ClosesOld}
-use Rattle.failover_model.specs.Laws.{ClosesHeld, ClosesStanding, ClosesKeeps}
-use Rattle.failover_model.proofs.Again.{recounted, logged_again, standing_again, mirrored_again, both_kept}
+use Rattle.failover_model.specs.Laws.{ClosesHeld, ClosesStanding}
+use Rattle.failover_model.proofs.Again.{recounted, logged_again, standing_again, mirrored_again}
 use Rattle.failover_model.proofs.HeadOps.{head_good}
 use Rattle.failover_model.proofs.Lists.{is_some, some_member, has_either}
 use Rattle.failover_model.proofs.Pictures.{is_taken, closed}
@@ -100,8 +100,3 @@ pub closes_standing : ClosesStanding
 closes_standing d e texts p q o held standing op took =
     subst (λ (x : FailData). IsStanding x texts) (sym op.gives)
     (standing_again d texts d.counts (op.b ∷ d.shut) d.took standing (omega arith))
-
-pub closes_keeps : ClosesKeeps
-closes_keeps d e p q o kept op took =
-    both_kept d e kept.texts q (closes_held d e kept.texts p q o kept.held op took) kept.standing
-    (closes_standing d e kept.texts p q o kept.held kept.standing op took)

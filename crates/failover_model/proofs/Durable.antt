@@ -12,7 +12,7 @@ use Rattle.clean_model.specs.log_model.Log.{Rise}
 use Rattle.clean_model.proofs.log_model.Counts.{before_le, before_rise, before_at, before_past}
 use Rattle.failover_model.specs.Shown.{Shown}
 use Rattle.failover_model.specs.Data.{FailData, homes, is_failing, everywhere, taken_records, durable_of}
-use Rattle.failover_model.specs.Durable.{TakenHead, head_now, takers, AreTaken, IsDurable, IsPast, KeptIsDurable}
+use Rattle.failover_model.specs.Durable.{TakenHead, head_now, takers, AreTaken, IsDurable, IsPast}
 use Rattle.failover_model.specs.Left.{how_many}
 use Rattle.failover_model.specs.Log.{IsKept}
 use Rattle.failover_model.proofs.LeftCounts.{number_less}
@@ -151,6 +151,3 @@ pub past_is_durable : (d : FailData) (p : Shown) (past : List TakenHead) → IsK
     → (is_failing d.mode ≡ false → IsDurable d past (durable_of d)) × AreTaken d past (durable_of d)
 past_is_durable d p past kept few_homes is =
     (durable_is d p past kept few_homes is, all_taken d p past kept few_homes is)
-
-pub kept_is_durable : KeptIsDurable
-kept_is_durable d p past kept counted is = past_is_durable d p past kept counted.few is

@@ -19,7 +19,7 @@ use Rattle.failover_model.specs.Data.{failover_head_of, is_failing, is_settled, 
 use Rattle.failover_model.specs.Log.{Texts, IsLogged, IsHeadReplica, IsReplica, IsOther, HoldsCopy, IsMirrored}
 use Rattle.failover_model.specs.Log.{IsStanding}
 use Rattle.failover_model.specs.Steps.{ended, EndsRoll, IsKnown}
-use Rattle.failover_model.specs.Laws.{EndingIsHeld, EndingIsStanding, EndingKeeps}
+use Rattle.failover_model.specs.Laws.{EndingIsHeld, EndingIsStanding}
 use Rattle.failover_model.proofs.Lists.{both_ways, true_or_false, some_member, is_some}
 use Rattle.failover_model.proofs.Replicas.{any_opening, any_whole, next_of, head_copy}
 use Rattle.failover_model.proofs.States.{after_all, take_none, third_is}
@@ -240,10 +240,3 @@ ending_is_held d texts p n mode held known ends = record {
 pub ending_is_standing : EndingIsStanding
 ending_is_standing d texts p n mode held standing known ends =
     ended_standing d texts p n mode held.some held.logged held.mirrored known ends standing
-
-pub ending_keeps : EndingKeeps
-ending_keeps d p n mode kept known ends = record {
-  texts = kept.texts;
-  held = ending_is_held d kept.texts p n mode kept.held known ends;
-  standing = ending_is_standing d kept.texts p n mode kept.held kept.standing known ends;
-}

@@ -12,8 +12,7 @@ use Rattle.failover_model.specs.Data.{new_of, failover_head_of, is_failing, is_s
 use Rattle.failover_model.specs.Data.{durable_of}
 use Rattle.failover_model.specs.Log.{Texts, IsLogged, IsReplica, IsOther, HoldsCopy, IsLeast, IsMirrored, IsStanding}
 use Rattle.failover_model.specs.Steps.{new_heads, failing, MayFail, mended, IsKnown}
-use Rattle.failover_model.specs.Laws.{FailingIsHeld, FailingIsStanding, FailingKeeps, MendedIsHeld, MendedIsStanding}
-use Rattle.failover_model.specs.Laws.{MendedKeeps}
+use Rattle.failover_model.specs.Laws.{FailingIsHeld, FailingIsStanding, MendedIsHeld, MendedIsStanding}
 use Rattle.failover_model.proofs.Lists.{true_or_false, has_fewer}
 use Rattle.failover_model.proofs.States.{settled_if}
 
@@ -144,13 +143,6 @@ pub failing_is_standing : FailingIsStanding
 failing_is_standing d texts p b held standing may =
     failing_standing d texts p b held.logged held.mirrored may standing
 
-pub failing_keeps : FailingKeeps
-failing_keeps d p b kept may = record {
-  texts = kept.texts;
-  held = failing_is_held d kept.texts p b kept.held may;
-  standing = failing_is_standing d kept.texts p b kept.held kept.standing may;
-}
-
 -- ---- the end of a failover
 
 module _ (d : FailData) (texts : Texts) (p : Shown) (log : IsLogged d texts) (mir : IsMirrored d texts p)
@@ -259,10 +251,3 @@ mended_is_held d texts p held known repairs = record {
 pub mended_is_standing : MendedIsStanding
 mended_is_standing d texts p held standing known repairs =
     mended_standing d texts p held.logged held.mirrored known repairs standing
-
-pub mended_keeps : MendedKeeps
-mended_keeps d p kept known repairs = record {
-  texts = kept.texts;
-  held = mended_is_held d kept.texts p kept.held known repairs;
-  standing = mended_is_standing d kept.texts p kept.held kept.standing known repairs;
-}

@@ -14,9 +14,9 @@ use Rattle.failover_model.specs.Text.{Text, Replica, length_of}
 use Rattle.failover_model.specs.Shown.{Shown, Op, taken, with_replica}
 use Rattle.failover_model.specs.Data.{front, front_entries, FailData, IsHome, is_failing, everywhere}
 use Rattle.failover_model.specs.Log.{Texts, IsLogged, IsHeadReplica, IsMirrored, IsLogHeld, IsStanding}
-use Rattle.failover_model.specs.Laws.{ExtendsHeld, ExtendsStanding, ExtendsKeeps, ExtendHandsOver}
+use Rattle.failover_model.specs.Laws.{ExtendsHeld, ExtendsStanding, ExtendHandsOver}
 use Rattle.failover_model.specs.Steps.{with_count, Extends}
-use Rattle.failover_model.proofs.Again.{recounted, logged_again, standing_again, mirrored_again, both_kept}
+use Rattle.failover_model.proofs.Again.{recounted, logged_again, standing_again, mirrored_again}
 use Rattle.failover_model.proofs.Lists.{both_ways, front_shorter, fewest_more, count_same, count_other, count_within}
 use Rattle.failover_model.proofs.Pictures.{is_taken, changed, extended}
 use Rattle.failover_model.proofs.Placing.{IsGood, other_apart, placed_mirrored}
@@ -179,11 +179,6 @@ extends_standing d e texts p q o held standing op took =
     subst (λ (x : FailData). IsStanding x texts) (sym op.gives)
     (standing_again d texts (with_count d.counts op.b op.to) d.shut d.took standing
     (everywhere_grows d texts p held.logged held.mirrored op.b op.to q longer op.home op.lags op.within))
-
-pub extends_keeps : ExtendsKeeps
-extends_keeps d e p q o kept op took =
-    both_kept d e kept.texts q (extends_held d e kept.texts p q o kept.held op took) kept.standing
-    (extends_standing d e kept.texts p q o kept.held kept.standing op took)
 
 -- it hands over whole units
 pub extend_hands_over : ExtendHandsOver

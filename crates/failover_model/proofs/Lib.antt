@@ -31,11 +31,8 @@ pub mod KnownSteps
 pub mod Runs
 pub mod DurableSteps
 pub mod LeftCounts
-pub mod Pushes
-pub mod LeftSteps
 pub mod Images
 pub mod Durable
 pub mod PastHeads
-pub mod Witness
 pub use Rattle.clean_model.proofs.log_model
 pub use Rattle.clean_model.proofs as clean_model

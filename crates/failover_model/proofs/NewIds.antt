@@ -15,8 +15,8 @@ use Rattle.failover_model.specs.Shown.{Shown}
 use Rattle.failover_model.specs.Data.{FailData, HasTaken, is_failing, IsNew, before, everywhere}
 use Rattle.failover_model.specs.Log.{Texts, IsVariant, IsBase, AreOfTablets, IsStart, IsLogged, NewIsOpened, IsReplica}
 use Rattle.failover_model.specs.Log.{IsOther, IsLeast, IsMirrored, IsStanding}
-use Rattle.failover_model.specs.Steps.{with_new, id_taken, empty_survivor, texts_taken}
-use Rattle.failover_model.specs.Laws.{IdTakenIsHeld, IdTakenIsStanding, IdTakenKeeps}
+use Rattle.failover_model.specs.Steps.{with_new, id_taken, empty_survivor}
+use Rattle.failover_model.specs.Laws.{IdTakenIsHeld, IdTakenIsStanding}
 use Rattle.failover_model.proofs.Lengths.{lens_each}
 use Rattle.failover_model.proofs.Texts.{base_moves, new_there, new_none, new_other, new_images, at_new, variant_back}
 use Rattle.failover_model.proofs.Texts.{copy_at, whole_at, new_within}
@@ -190,10 +190,3 @@ id_taken_is_held d texts p held = record {
 
 pub id_taken_is_standing : IdTakenIsStanding
 id_taken_is_standing d texts p held standing = taken_standing d texts p held.logged held.mirrored standing
-
-pub id_taken_keeps : IdTakenKeeps
-id_taken_keeps d p kept = record {
-  texts = texts_taken d kept.texts;
-  held = id_taken_is_held d kept.texts p kept.held;
-  standing = id_taken_is_standing d kept.texts p kept.held kept.standing;
-}

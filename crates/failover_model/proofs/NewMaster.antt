@@ -14,7 +14,7 @@ use Rattle.failover_model.specs.Shown.{Shown}
 use Rattle.failover_model.specs.Data.{bare, FailConfig, FailData, IsNew}
 use Rattle.failover_model.specs.Log.{Texts, IsBase, AreOfTablets, IsStart, IsLogged, IsMirrored, IsStanding, IsLogHeld}
 use Rattle.failover_model.specs.Steps.{no_head, restored_start, restored, fresh, MayBegin, IsKnown}
-use Rattle.failover_model.specs.Laws.{RestoredIsHeld, FreshIsKept}
+use Rattle.failover_model.specs.Laws.{FreshIsKept}
 use Rattle.failover_model.proofs.States.{no_units, take_none}
 
 module _ (c : FailConfig) (safe : ℕ) where
@@ -97,9 +97,6 @@ module _ (c : FailConfig) (safe : ℕ) (p : Shown) (begins : MayBegin c p) where
 
   pub first_held : IsLogHeld d texts p
   first_held = record { some = begins.some; logged = first_logged; mirrored = first_mirrored }
-
-pub restored_is_held : RestoredIsHeld
-restored_is_held c safe p begins = (texts_of c safe, first_held c safe p begins, first_known c safe p begins)
 
 pub fresh_standing : (c : FailConfig) (p : Shown) → MayBegin c p → IsStanding (fresh c) (texts_of c 1)
 fresh_standing c p begins = record {

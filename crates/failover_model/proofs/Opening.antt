@@ -12,8 +12,8 @@ use Rattle.failover_model.specs.Data.{IsNew, everywhere}
 use Rattle.failover_model.specs.Log.{Texts, IsLogged, IsCopy, IsReplica, IsOther, HoldsCopy, IsLeast, IsMirrored}
 use Rattle.failover_model.specs.Log.{IsStanding, IsLogHeld}
 use Rattle.failover_model.specs.Steps.{with_taken, OpensNew}
-use Rattle.failover_model.specs.Laws.{OpensHeld, OpensStanding, OpensKeeps, RaisesHeld, RaisesStanding, RaisesKeeps}
-use Rattle.failover_model.proofs.Again.{recounted, logged_again, standing_again, mirrored_again, both_kept}
+use Rattle.failover_model.specs.Laws.{OpensHeld, OpensStanding, RaisesHeld, RaisesStanding}
+use Rattle.failover_model.proofs.Again.{recounted, logged_again, standing_again, mirrored_again}
 use Rattle.failover_model.proofs.Lists.{with_taken_other, taken_still, taken_either, taken_longer}
 use Rattle.failover_model.proofs.Pictures.{is_taken, opened}
 use Rattle.failover_model.proofs.Placing.{one_bare, IsPut, put_there}
@@ -124,11 +124,6 @@ opens_standing d e texts p q o held standing op within took =
     let same = everywhere_apart d op.n.id op.b (λ is. omega arith) in
     subst (λ (x : FailData). IsStanding x texts) (sym op.gives)
     (standing_again d texts d.counts d.shut (with_taken d.took op.n.id op.b) standing (omega arith))
-
-pub opens_keeps : OpensKeeps
-opens_keeps d e p q o kept op within took =
-    both_kept d e kept.texts q (opens_held d e kept.texts p q o kept.held op within took) kept.standing
-    (opens_standing d e kept.texts p q o kept.held kept.standing op within took)
 
 -- ---- the registry
 
@@ -287,8 +282,3 @@ pub raises_standing : RaisesStanding
 raises_standing d e texts p q o held standing op took =
     subst (λ (x : FailData). IsStanding x texts) (sym op.gives)
     (raised_standing d texts p op.n held.mirrored op.mode op.opened standing)
-
-pub raises_keeps : RaisesKeeps
-raises_keeps d e p q o kept op took =
-    both_kept d e kept.texts q (raises_held d e kept.texts p q o kept.held op took) kept.standing
-    (raises_standing d e kept.texts p q o kept.held kept.standing op took)

@@ -21,10 +21,10 @@ use Rattle.failover_model.specs.Shown.{Shown, Op}
 use Rattle.failover_model.specs.Data.{Head, Mode, Calm, Rolls, Opens, Closes, Repairs, FailConfig, FailData, homes}
 use Rattle.failover_model.specs.Data.{new_of}
 use Rattle.failover_model.specs.Durable.{TakenHead, head_now, heads_of, units_in, takers, IsPast, FreshIsPast}
-use Rattle.failover_model.specs.Durable.{AdoptedIsPast, PastStays}
+use Rattle.failover_model.specs.Durable.{AdoptedIsPast}
 use Rattle.failover_model.specs.Left.{how_many}
 use Rattle.failover_model.specs.Log.{IsKept}
-use Rattle.failover_model.specs.Runs.{IsNext, World, Applies, Turns, TakesId, Ends, Mended, Takes, Fails, Halts}
+use Rattle.failover_model.specs.Runs.{IsNext}
 use Rattle.failover_model.specs.Steps.{with_taken, with_count, unit_now, applied, MayApply, rolling, IsRoll, ended}
 use Rattle.failover_model.specs.Steps.{EndsRoll, failing, mended, id_taken, IsFree}
 use Rattle.failover_model.proofs.Applying as commands
@@ -299,27 +299,6 @@ failing_past d past b is =
       | inl calm ↦ cc
       | inr repairs ↦ cc
     ])) (λ n new. absurd (cc))
-
-pub past_stays : PastStays
-past_stays (Applies segment r) w v past kept is (may, same) =
-    inl (subst (λ (x : World). IsPast x.knows past) (sym same)
-    (applied_past w.knows w.shown past segment r kept may is))
-past_stays (Turns n mode) w v past kept is (roll, same) =
-    inl (subst (λ (x : World). IsPast x.knows past) (sym same)
-    (rolling_past w.knows w.shown past n mode roll.0 roll.1 is))
-past_stays TakesId w v past kept is (works, same) =
-    inl (subst (λ (x : World). IsPast x.knows past) (sym same) (id_taken_past w.knows w.shown past kept is))
-past_stays (Ends n mode) w v past kept is (ends, same) =
-    inr (subst (λ (x : World). IsPast x.knows (heads_of past w.knows)) (sym same)
-    (ended_past w.knows w.shown past n mode kept ends is))
-past_stays Mended w v past kept is (repairs, same) =
-    inl (subst (λ (x : World). IsPast x.knows past) (sym same) (mended_past w.knows past repairs is))
-past_stays (Takes o) w v past kept is (may, took, runs) =
-    inl (next_past w.knows v.knows w.shown o past may.1 is may.2)
-past_stays (Fails o b) w v past kept is (e, may, at, faulted, works, same, runs) =
-    inl (subst (λ (x : FailData). IsPast x past) (sym same) (failing_past w.knows past b is))
-past_stays (Halts o) w v past kept is (e, may, faulted, same, halts) =
-    inl (subst (λ (x : FailData). IsPast x past) (sym same) is)
 
 pub adopted_is_past : AdoptedIsPast
 adopted_is_past d p st is = record {

@@ -10,8 +10,8 @@ use Rattle.failover_model.specs.Shown.{Shown, Op, taken}
 use Rattle.failover_model.specs.Data.{front, FailData, new_of, is_failing, is_settled, everywhere}
 use Rattle.failover_model.specs.Log.{Texts, IsLogged, IsMirrored, IsLogHeld, IsStanding}
 use Rattle.failover_model.specs.Steps.{with_taken, with_count, Replaces}
-use Rattle.failover_model.specs.Laws.{ReplacesHeld, ReplacesStanding, ReplacesKeeps}
-use Rattle.failover_model.proofs.Again.{recounted, logged_again, standing_again, mirrored_again, both_kept}
+use Rattle.failover_model.specs.Laws.{ReplacesHeld, ReplacesStanding}
+use Rattle.failover_model.proofs.Again.{recounted, logged_again, standing_again, mirrored_again}
 use Rattle.failover_model.proofs.HeadOps.{head_good}
 use Rattle.failover_model.proofs.Lists.{both_ways, is_some, fewest_more, fewest_units, with_taken_same, taken_still}
 use Rattle.failover_model.proofs.Lists.{taken_either, taken_longer, count_same, count_other, count_within}
@@ -138,8 +138,3 @@ replaces_standing d e texts p q o held standing op within took =
     subst (λ (x : FailData). IsStanding x texts) (sym op.gives)
     (standing_again d texts counts d.shut took_now standing
     (grows d e texts p q o held.logged held.mirrored op took within))
-
-pub replaces_keeps : ReplacesKeeps
-replaces_keeps d e p q o kept op within took =
-    both_kept d e kept.texts q (replaces_held d e kept.texts p q o kept.held op within took) kept.standing
-    (replaces_standing d e kept.texts p q o kept.held kept.standing op within took)

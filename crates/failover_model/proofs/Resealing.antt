@@ -2,7 +2,6 @@
 use Rattle.std.proofs.Common.{◌≡◌, ℕ, ◌<◌, ◌≤◌, ◌⊎◌, inl, inr, true, false, List, [], ◌++◌, length, take, Some, refl}
 use Rattle.std.proofs.Common.{sym, ap, subst, ◌∙◌, arith}
 use Rattle.std.specs.Prelude.{None}
-use Rattle.std.proofs.lemmas.Bool.{cases_eq}
 use Rattle.std.proofs.lemmas.List.{append-nil}
 use Rattle.entry.specs.declared.entry.Entry.{Entry}
 use Rattle.entry.specs.Bag.{IsAmong}
@@ -16,17 +15,17 @@ use Rattle.failover_model.specs.Text.{Replica}
 use Rattle.failover_model.specs.Shown.{Shown, Op, taken}
 use Rattle.failover_model.specs.Data.{front_entries, FailData, new_of, is_failing, is_settled, IsNew, state_after}
 use Rattle.failover_model.specs.Data.{state_of, before}
-use Rattle.failover_model.specs.Log.{Texts, IsVariant, AreOfTablets, IsLogged, IsReplica, HoldsCopy, IsMirrored}
+use Rattle.failover_model.specs.Log.{Texts, AreOfTablets, IsLogged, IsReplica, HoldsCopy, IsMirrored}
 use Rattle.failover_model.specs.Log.{BasesStand, IsStanding, IsLogHeld}
 use Rattle.failover_model.specs.Steps.{with_taken, with_image, Reseals, texts_resealed}
-use Rattle.failover_model.specs.Laws.{ResealsHeld, ResealsStanding, ResealsKeeps, TextIsRepair}
-use Rattle.failover_model.proofs.Again.{recounted, logged_again, standing_again, mirrored_again, both_kept}
+use Rattle.failover_model.specs.Laws.{ResealsHeld, ResealsStanding}
+use Rattle.failover_model.proofs.Again.{recounted, logged_again, standing_again, mirrored_again}
 use Rattle.failover_model.proofs.Lists.{taken_still, taken_either, taken_longer}
 use Rattle.failover_model.proofs.Opening.{everywhere_apart}
 use Rattle.failover_model.proofs.Pictures.{is_taken, sealed}
 use Rattle.failover_model.proofs.Placing.{IsPut, put_there}
-use Rattle.failover_model.proofs.States.{after_all, take_none, present_stands}
-use Rattle.failover_model.proofs.Texts.{base_moves, image_back, image_other, image_there, image_either, image_copy}
+use Rattle.failover_model.proofs.States.{after_all, take_none}
+use Rattle.failover_model.proofs.Texts.{image_other, image_there, image_either, image_copy}
 use Rattle.failover_model.proofs.Texts.{image_whole, image_within}
 
 module _ (d e : FailData) (texts : Texts) (p q : Shown) (o : Op) (log : IsLogged d texts) (mir : IsMirrored d texts p)
@@ -200,47 +199,4 @@ reseals_standing d e texts p q o held old op stands within took =
       standing,
       subst (λ (x : FailData). IsStanding x more) (sym op.gives)
           (standing_again d more d.counts d.shut (with_taken d.took op.s op.b) standing (omega arith)),
-    )
-
-pub reseals_keeps : ResealsKeeps
-reseals_keeps d e p q o kept op stands within took =
-    let both = reseals_standing d e kept.texts p q o kept.held kept.standing op stands within took in
-    both_kept d e (texts_resealed kept.texts op) q (reseals_held d e kept.texts p q o kept.held op within took) both.0
-    both.1
-
--- ---- the whole text
-
-pub text_is_repair : TextIsRepair
-text_is_repair d p s b kept may =
-    let texts = kept.texts in
-    let text = (texts.text s).entries in
-    let ids = d.head.start.others in (
-      record {
-        b = b;
-        s = s;
-        image = text;
-        mode = may.mode;
-        listed = may.listed;
-        works = may.works;
-        apart = may.apart;
-        few = may.few;
-        within = λ x m. m;
-        op = refl;
-        gives = refl;
-      },
-      λ base at.
-          let old = base_moves (with_image texts s text) texts ids (λ t es m variant.
-          elim (cases_eq t s) as (λ _. IsVariant texts t es) [
-            | inl same ↦ elim (image_either texts s text t es variant) as (λ _. IsVariant texts t es) [
-              | inl is ↦ inl (is ∙ ap (λ (k : ℕ). (texts.text k).entries) (sym same))
-              | inr before_it ↦ before_it
-            ]
-            | inr other ↦ image_back texts s text t es other variant
-          ]) base at in
-          let none = kept.held.logged.repairs may.mode in
-          let empty : d.head.loaded ++ entries_of d.head.units ≡ [] =
-          ap (λ (es : List Entry). es ++ entries_of d.head.units) none.0 ∙ ap entries_of none.1 in
-          subst (λ (l : List Entry). Represents d.head.start.safe l (state_of d))
-          (ap (λ (es : List Entry). base ++ es) empty ∙ append-nil base)
-          (present_stands d texts kept.standing base old),
     )

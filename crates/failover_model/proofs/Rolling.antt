@@ -20,7 +20,7 @@ use Rattle.failover_model.specs.Data.{everywhere, state_of}
 use Rattle.failover_model.specs.Log.{Texts, IsVariant, IsBase, AreOfTablets, IsStart, IsLogged, NewIsOpened, IsReplica}
 use Rattle.failover_model.specs.Log.{IsOther, HoldsCopy, IsLeast, IsMirrored, BasesStand, IsStanding}
 use Rattle.failover_model.specs.Steps.{with_new, rolling, IsRoll}
-use Rattle.failover_model.specs.Laws.{RollingIsHeld, RollingIsStanding, RollingKeeps}
+use Rattle.failover_model.specs.Laws.{RollingIsHeld, RollingIsStanding}
 use Rattle.failover_model.proofs.Lengths.{lens_each}
 use Rattle.failover_model.proofs.Lists.{some_is}
 use Rattle.failover_model.proofs.Replicas.{next_of}
@@ -317,10 +317,3 @@ rolling_is_held d texts p n mode held roll = record {
 pub rolling_is_standing : RollingIsStanding
 rolling_is_standing d texts p n mode held standing roll stands =
     rolling_standing d texts p n mode held.logged held.mirrored roll standing stands
-
-pub rolling_keeps : RollingKeeps
-rolling_keeps d p n mode kept roll stands = record {
-  texts = with_new kept.texts n.id (bare n);
-  held = rolling_is_held d kept.texts p n mode kept.held roll;
-  standing = rolling_is_standing d kept.texts p n mode kept.held kept.standing roll stands;
-}

@@ -13,8 +13,8 @@ use Rattle.failover_model.specs.Data.{FailData, is_failing, IsNew}
 use Rattle.failover_model.specs.Log.{Texts, IsVariant, IsBase, AreOfTablets, IsStart, IsLogged, IsReplica, IsOther}
 use Rattle.failover_model.specs.Log.{IsMirrored, IsStanding, IsLogHeld}
 use Rattle.failover_model.specs.Steps.{with_taken, IsFree, Seals, survivor_text, texts_sealed}
-use Rattle.failover_model.specs.Laws.{SealsHeld, SealsStanding, SealsKeeps, FreesHeld, FreesKeeps}
-use Rattle.failover_model.proofs.Again.{recounted, logged_again, standing_again, mirrored_again, both_kept}
+use Rattle.failover_model.specs.Laws.{SealsHeld, SealsStanding, FreesHeld}
+use Rattle.failover_model.proofs.Again.{recounted, logged_again, standing_again, mirrored_again}
 use Rattle.failover_model.proofs.Lengths.{lens_each}
 use Rattle.failover_model.proofs.Lists.{some_is, is_some, taken_still, taken_either, taken_longer}
 use Rattle.failover_model.proofs.Opening.{everywhere_apart}
@@ -243,12 +243,6 @@ seals_standing d e texts p q o held old op within took =
           (standing_again d now d.counts d.shut (with_taken d.took op.s op.b) standing (omega arith)),
     )
 
-pub seals_keeps : SealsKeeps
-seals_keeps d e p q o kept op within took =
-    let both = seals_standing d e kept.texts p q o kept.held kept.standing op within took in
-    both_kept d e (texts_sealed kept.texts op) q (seals_held d e kept.texts p q o kept.held op within took) both.0
-    both.1
-
 -- ---- a free
 
 module _ (d : FailData) (texts : Texts) (p : Shown) (b s : ℕ) (mir : IsMirrored d texts p) (free : IsFree d s) where
@@ -300,10 +294,3 @@ frees_held d e texts p q o held op took =
       logged = held.logged;
       mirrored = freed_mirrored d texts p op.b op.s held.mirrored op.free;
     })
-
-pub frees_keeps : FreesKeeps
-frees_keeps d e p q o kept op took = record {
-  texts = kept.texts;
-  held = frees_held d e kept.texts p q o kept.held op took;
-  standing = kept.standing;
-}

@@ -171,10 +171,3 @@ module _ (texts : Texts) (id : ℕ) (image : List Entry) where
         ]
     | inr other ↦ all s es e (subst (λ (l : List (List Entry)). IsAmong es l) other.1 m) one
   ]
-
--- a variant of another segment is one from before
-pub image_back : (texts : Texts) (id : ℕ) (image : List Entry) (s : ℕ) (es : List Entry) → (s ≡ id → ⊥)
-    → IsVariant (with_image texts id image) s es → IsVariant texts s es
-image_back texts id image s es other (inl is) = inl is
-image_back texts id image s es other (inr m) =
-    inr (subst (λ (l : List (List Entry)). IsAmong es l) (image_other texts id image s other) m)

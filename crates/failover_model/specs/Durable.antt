@@ -1,5 +1,5 @@
 -- What is durable, in terms of takes that answered Ok, over the units of all heads that there were.
-use Rattle.std.specs.Prelude.{◌≡◌, ℕ, ◌<◌, ◌≤◌, ◌⊎◌, List, [], ◌∷◌, ◌++◌, length, false, Some, slice_get, nat_lt}
+use Rattle.std.specs.Prelude.{◌≡◌, ℕ, ◌<◌, ◌≤◌, ◌⊎◌, List, [], ◌∷◌, ◌++◌, length, Some, slice_get, nat_lt}
 use Rattle.std.specs.List.{flat_map}
 use Rattle.entry.specs.Bag.{IsAmong}
 use Rattle.versioned_map.specs.History.{commands_of}
@@ -7,10 +7,8 @@ use Rattle.versioned_map.specs.Versioned.{State}
 use Rattle.clean_model.specs.log_model.Data.{Start, LogUnit}
 use Rattle.clean_model.specs.log_model.Durable.{AreNumbered}
 use Rattle.failover_model.specs.Shown.{Shown}
-use Rattle.failover_model.specs.Data.{Head, Calm, Repairs, FailConfig, FailData, new_of, is_failing, durable_of}
-use Rattle.failover_model.specs.Left.{how_many, IsCounted}
-use Rattle.failover_model.specs.Log.{IsKept}
-use Rattle.failover_model.specs.Runs.{World, Event, Becomes}
+use Rattle.failover_model.specs.Data.{Head, Calm, Repairs, FailConfig, FailData, new_of}
+use Rattle.failover_model.specs.Left.{how_many}
 use Rattle.failover_model.specs.Steps.{fresh, IsLoaded, adopted}
 
 -- A head, the backups that took its Open, and how many units each of them took, by takes that answered Ok.
@@ -60,12 +58,6 @@ pub record IsPast (d : FailData) (past : List TakenHead) : Type 0 where
 
 -- ---- laws
 
--- While no failover is open, the records before the first unit that some backup of the head lacks are the durable ones.
--- While one is open the count stays, and all that it counts is taken.
-abbrev pub KeptIsDurable : Type 0
-KeptIsDurable = (d : FailData) (p : Shown) (past : List TakenHead) → IsKept d p → IsCounted d → IsPast d past
-    → (is_failing d.mode ≡ false → IsDurable d past (durable_of d)) × AreTaken d past (durable_of d)
-
 -- A new master has no heads before.
 abbrev pub FreshIsPast : Type 0
 FreshIsPast = (c : FailConfig) → IsPast (fresh c) []
@@ -73,8 +65,3 @@ FreshIsPast = (c : FailConfig) → IsPast (fresh c) []
 -- One that took over a recovered map has none before either.
 abbrev pub AdoptedIsPast : Type 0
 AdoptedIsPast = (d : FailData) (p : Shown) (st : State) → IsLoaded d p st → IsPast (adopted d st) []
-
--- With each event those before stay, or the old head joins them.
-abbrev pub PastStays : Type 0
-PastStays = (e : Event) (w v : World) (past : List TakenHead) → IsKept w.knows w.shown → IsPast w.knows past
-    → Becomes e w v → IsPast v.knows past ⊎ IsPast v.knows (heads_of past w.knows)

@@ -1,16 +1,14 @@
 -- What replicas of a segment may hold, between its image and its text: why a repair may seal an image.
-use Rattle.std.specs.Prelude.{◌≡◌, ℕ, ◌≤◌, ◌⊎◌, List, filter}
+use Rattle.std.specs.Prelude.{ℕ, ◌≤◌, ◌⊎◌, List}
 use Rattle.entry.specs.declared.key.Key.{Key}
 use Rattle.entry.specs.declared.entry.Entry.{Entry}
 use Rattle.entry.specs.Bag.{IsAmong}
 use Rattle.entry.specs.Meaning.{IsOfKey}
-use Rattle.entry.specs.Text.{is_data}
 use Rattle.versioned_map.specs.Represents.{Represents}
 use Rattle.versioned_map.specs.Versioned.{State}
 use Rattle.clean_model.specs.Memory.{Place, Index, LogSet, Pass}
 use Rattle.clean_model.specs.Tracked.{IsTracked, IsPassing, IsAround}
 use Rattle.failover_model.specs.Log.{Texts, IsVariant, IsBase}
-use Rattle.failover_model.specs.Steps.{with_image}
 
 -- Each variant of these segments has what the image has of keys, and no more than the text.
 pub record AreBetween (log : LogSet) (texts : Texts) (ids : List ℕ) : Type 0 where
@@ -36,15 +34,3 @@ BetweenStands = (log : LogSet) (pass : Pass) (index : Index) (rest : List Place)
     → IsPassing log.ids log.image pass index rest → IsAround log pass st.contents st.safe next
     → AreBetween log texts ids → AreAll log pass ids → st.safe ≤ recorded → IsBase texts ids base
     → Represents recorded base st
-
--- The image's objects and tombstones lie between: so a repair may seal them.
-abbrev pub ImageIsBetween : Type 0
-ImageIsBetween = (log : LogSet) (texts : Texts) (ids : List ℕ) (s : ℕ) → AreBetween log texts ids
-    → ((k : Key) (e : Entry) → IsOfKey k e → IsAmong e (log.image s) → IsAmong e (log.text s))
-    → AreBetween log (with_image texts s (filter is_data (log.image s))) ids
-
--- Compaction makes images smaller, and leaves what was sealed between.
-abbrev pub SmallerIsBetween : Type 0
-SmallerIsBetween = (log less : LogSet) (texts : Texts) (ids : List ℕ) → AreBetween log texts ids → less.ids ≡ log.ids
-    → less.text ≡ log.text → ((s : ℕ) (e : Entry) → IsAmong e (less.image s) → IsAmong e (log.image s))
-    → AreBetween less texts ids

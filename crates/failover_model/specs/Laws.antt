@@ -5,17 +5,17 @@ use Rattle.entry.specs.Meaning.{among}
 use Rattle.versioned_map.specs.declared.command.Record.{Record}
 use Rattle.versioned_map.specs.Versioned.{State}
 use Rattle.clean_model.specs.log_model.Data.{Start, LogUnit}
-use Rattle.failover_model.specs.Shown.{Shown, Seal, Op, On, taken}
+use Rattle.failover_model.specs.Shown.{Shown, Op, taken}
 use Rattle.failover_model.specs.Text.{Replica}
 use Rattle.failover_model.specs.Data.{front, FailConfig, Mode, Repairs, FailData, HasTaken, IsHome, state_of}
 use Rattle.failover_model.specs.Data.{durable_of}
 use Rattle.failover_model.specs.Log.{Texts, HoldsCopy, IsOther, BasesStand, IsLogHeld, IsStanding, IsKept}
 use Rattle.failover_model.specs.Sound.{IsSound}
-use Rattle.failover_model.specs.Steps.{with_taken, fresh, restored, MayBegin, with_appended, MayAppend, texts_appended}
+use Rattle.failover_model.specs.Steps.{fresh, MayBegin, with_appended, MayAppend, texts_appended}
 use Rattle.failover_model.specs.Steps.{unit_now, applied, MayApply, IsLoaded, adopted, rolling, texts_rolling, IsRoll}
 use Rattle.failover_model.specs.Steps.{next_start, MayTurn, id_taken, texts_taken, ended, EndsRoll, failing, MayFail}
 use Rattle.failover_model.specs.Steps.{mended, IsKnown, Extends, OpensNew, Replaces, Raises, ClosesOld, Reseals}
-use Rattle.failover_model.specs.Steps.{texts_resealed, MayRepair, Seals, texts_sealed, Frees}
+use Rattle.failover_model.specs.Steps.{texts_resealed, Seals, texts_sealed, Frees}
 
 -- ---- what is kept
 
@@ -42,18 +42,9 @@ KeptIsReplicated = (d : FailData) (p : Shown) (place b : ℕ) (u : LogUnit) → 
 
 -- ---- a new master
 
--- A new master of which nothing is held may load, and knows what is held.
-abbrev pub RestoredIsHeld : Type 0
-RestoredIsHeld = (c : FailConfig) (safe : ℕ) (p : Shown) → MayBegin c p
-    → (texts : Texts) × IsLogHeld (restored c safe) texts p × IsKnown (restored c safe) p
-
 -- One that loads nothing is kept.
 abbrev pub FreshIsKept : Type 0
 FreshIsKept = (c : FailConfig) (p : Shown) → MayBegin c p → IsKept (fresh c) p × IsKnown (fresh c) p
-
--- A master that took over a recovered map is kept, from the first stop of its history on.
-abbrev pub AdoptedIsKept : Type 0
-AdoptedIsKept = (d : FailData) (p : Shown) (st : State) → IsLoaded d p st → IsKept (adopted d st) p
 
 -- ---- ops
 
@@ -62,10 +53,6 @@ AdoptedIsKept = (d : FailData) (p : Shown) (st : State) → IsLoaded d p st → 
 abbrev pub BothHeld : FailData → FailData → Texts → Shown → Type 0
 BothHeld d e texts q = IsLogHeld d texts q × IsLogHeld e texts q
 
--- What they stand for stays, so a log is kept.
-abbrev pub BothKept : FailData → FailData → Shown → Type 0
-BothKept d e q = IsKept d q × IsKept e q
-
 abbrev pub ExtendsHeld : Type 0
 ExtendsHeld = (d e : FailData) (texts : Texts) (p q : Shown) (o : Op) → IsLogHeld d texts p → Extends d o e
     → taken p o ≡ Some q → BothHeld d e texts q
@@ -73,10 +60,6 @@ ExtendsHeld = (d e : FailData) (texts : Texts) (p q : Shown) (o : Op) → IsLogH
 abbrev pub ExtendsStanding : Type 0
 ExtendsStanding = (d e : FailData) (texts : Texts) (p q : Shown) (o : Op) → IsLogHeld d texts p → IsStanding d texts
     → Extends d o e → taken p o ≡ Some q → IsStanding e texts
-
-abbrev pub ExtendsKeeps : Type 0
-ExtendsKeeps = (d e : FailData) (p q : Shown) (o : Op) → IsKept d p → Extends d o e → taken p o ≡ Some q
-    → BothKept d e q
 
 -- An Extend hands over whole units of the log: its replica ends with the units that its backup took, and then with
 -- these.
@@ -95,10 +78,6 @@ abbrev pub ReplacesStanding : Type 0
 ReplacesStanding = (d e : FailData) (texts : Texts) (p q : Shown) (o : Op) → IsLogHeld d texts p → IsStanding d texts
     → (is : Replaces d o e) → is.b < d.config.backups → taken p o ≡ Some q → IsStanding e texts
 
-abbrev pub ReplacesKeeps : Type 0
-ReplacesKeeps = (d e : FailData) (p q : Shown) (o : Op) → IsKept d p → (is : Replaces d o e) → is.b < d.config.backups
-    → taken p o ≡ Some q → BothKept d e q
-
 abbrev pub ClosesHeld : Type 0
 ClosesHeld = (d e : FailData) (texts : Texts) (p q : Shown) (o : Op) → IsLogHeld d texts p → ClosesOld d o e
     → taken p o ≡ Some q → BothHeld d e texts q
@@ -106,10 +85,6 @@ ClosesHeld = (d e : FailData) (texts : Texts) (p q : Shown) (o : Op) → IsLogHe
 abbrev pub ClosesStanding : Type 0
 ClosesStanding = (d e : FailData) (texts : Texts) (p q : Shown) (o : Op) → IsLogHeld d texts p → IsStanding d texts
     → ClosesOld d o e → taken p o ≡ Some q → IsStanding e texts
-
-abbrev pub ClosesKeeps : Type 0
-ClosesKeeps = (d e : FailData) (p q : Shown) (o : Op) → IsKept d p → ClosesOld d o e → taken p o ≡ Some q
-    → BothKept d e q
 
 abbrev pub OpensHeld : Type 0
 OpensHeld = (d e : FailData) (texts : Texts) (p q : Shown) (o : Op) → IsLogHeld d texts p → (is : OpensNew d o e)
@@ -119,10 +94,6 @@ abbrev pub OpensStanding : Type 0
 OpensStanding = (d e : FailData) (texts : Texts) (p q : Shown) (o : Op) → IsLogHeld d texts p → IsStanding d texts
     → (is : OpensNew d o e) → is.b < d.config.backups → taken p o ≡ Some q → IsStanding e texts
 
-abbrev pub OpensKeeps : Type 0
-OpensKeeps = (d e : FailData) (p q : Shown) (o : Op) → IsKept d p → (is : OpensNew d o e) → is.b < d.config.backups
-    → taken p o ≡ Some q → BothKept d e q
-
 abbrev pub RaisesHeld : Type 0
 RaisesHeld = (d e : FailData) (texts : Texts) (p q : Shown) (o : Op) → IsLogHeld d texts p → Raises d o e
     → taken p o ≡ Some q → BothHeld d e texts q
@@ -130,10 +101,6 @@ RaisesHeld = (d e : FailData) (texts : Texts) (p q : Shown) (o : Op) → IsLogHe
 abbrev pub RaisesStanding : Type 0
 RaisesStanding = (d e : FailData) (texts : Texts) (p q : Shown) (o : Op) → IsLogHeld d texts p → IsStanding d texts
     → Raises d o e → taken p o ≡ Some q → IsStanding e texts
-
-abbrev pub RaisesKeeps : Type 0
-RaisesKeeps = (d e : FailData) (p q : Shown) (o : Op) → IsKept d p → Raises d o e → taken p o ≡ Some q
-    → BothKept d e q
 
 abbrev pub ResealsHeld : Type 0
 ResealsHeld = (d e : FailData) (texts : Texts) (p q : Shown) (o : Op) → IsLogHeld d texts p
@@ -146,17 +113,6 @@ ResealsStanding = (d e : FailData) (texts : Texts) (p q : Shown) (o : Op) → Is
     → (is : Reseals d texts o e) → BasesStand (texts_resealed texts is) d.head.start (state_of d)
     → is.b < d.config.backups → taken p o ≡ Some q
     → IsStanding d (texts_resealed texts is) × IsStanding e (texts_resealed texts is)
-
-abbrev pub ResealsKeeps : Type 0
-ResealsKeeps = (d e : FailData) (p q : Shown) (o : Op) (kept : IsKept d p) → (is : Reseals d kept.texts o e)
-    → BasesStand (texts_resealed kept.texts is) d.head.start (state_of d) → is.b < d.config.backups
-    → taken p o ≡ Some q → BothKept d e q
-
--- The whole text may be sealed for a lost replica, whatever was compacted.
-abbrev pub TextIsRepair : Type 0
-TextIsRepair = (d : FailData) (p : Shown) (s b : ℕ) (kept : IsKept d p) → MayRepair d s b
-    → (is : Reseals d kept.texts (On b s (Seal (kept.texts.text s))) (record d { took = with_taken d.took s b }))
-    × BasesStand (texts_resealed kept.texts is) d.head.start (state_of d)
 
 -- ---- rolls
 
@@ -171,10 +127,6 @@ RollingIsStanding = (d : FailData) (texts : Texts) (p : Shown) (n : Start) (mode
     → IsStanding d texts → IsRoll d texts p n mode → BasesStand texts n (state_of d)
     → IsStanding (rolling d n mode) (texts_rolling texts n)
 
-abbrev pub RollingKeeps : Type 0
-RollingKeeps = (d : FailData) (p : Shown) (n : Start) (mode : Mode) (kept : IsKept d p)
-    → IsRoll d kept.texts p n mode → BasesStand kept.texts n (state_of d) → IsKept (rolling d n mode) p
-
 -- A roll that ends leaves them too, or the fifth part of a failover.
 abbrev pub EndingIsHeld : Type 0
 EndingIsHeld = (d : FailData) (texts : Texts) (p : Shown) (n : Start) (mode : Mode) → IsLogHeld d texts p
@@ -183,10 +135,6 @@ EndingIsHeld = (d : FailData) (texts : Texts) (p : Shown) (n : Start) (mode : Mo
 abbrev pub EndingIsStanding : Type 0
 EndingIsStanding = (d : FailData) (texts : Texts) (p : Shown) (n : Start) (mode : Mode) → IsLogHeld d texts p
     → IsStanding d texts → IsKnown d p → EndsRoll d n mode → IsStanding (ended d n mode) texts
-
-abbrev pub EndingKeeps : Type 0
-EndingKeeps = (d : FailData) (p : Shown) (n : Start) (mode : Mode) → IsKept d p → IsKnown d p → EndsRoll d n mode
-    → IsKept (ended d n mode) p
 
 -- A roll with the digest in force and the old head may begin while nothing is under way, and in a failover.
 abbrev pub OrdinaryIsRoll : Type 0
@@ -209,9 +157,6 @@ abbrev pub FailingIsStanding : Type 0
 FailingIsStanding = (d : FailData) (texts : Texts) (p : Shown) (b : ℕ) → IsLogHeld d texts p → IsStanding d texts
     → MayFail d → IsStanding (failing d b) texts
 
-abbrev pub FailingKeeps : Type 0
-FailingKeeps = (d : FailData) (p : Shown) (b : ℕ) → IsKept d p → MayFail d → IsKept (failing d b) p
-
 -- So does the end of a failover.
 abbrev pub MendedIsHeld : Type 0
 MendedIsHeld = (d : FailData) (texts : Texts) (p : Shown) → IsLogHeld d texts p → IsKnown d p → d.mode ≡ Repairs
@@ -220,9 +165,6 @@ MendedIsHeld = (d : FailData) (texts : Texts) (p : Shown) → IsLogHeld d texts 
 abbrev pub MendedIsStanding : Type 0
 MendedIsStanding = (d : FailData) (texts : Texts) (p : Shown) → IsLogHeld d texts p → IsStanding d texts
     → IsKnown d p → d.mode ≡ Repairs → IsStanding (mended d) texts
-
-abbrev pub MendedKeeps : Type 0
-MendedKeeps = (d : FailData) (p : Shown) → IsKept d p → IsKnown d p → d.mode ≡ Repairs → IsKept (mended d) p
 
 -- ---- commands
 
@@ -243,11 +185,6 @@ AppliedIsStanding = (d : FailData) (texts : Texts) (p : Shown) (segment : ℕ) (
     → IsStanding d texts → MayApply d segment r
     → IsStanding (applied d segment r) (texts_appended d texts (unit_now d segment r))
 
--- So a log is kept when a command is applied; while a roll is under way or a failover open it appends nothing.
-abbrev pub AppliedKeeps : Type 0
-AppliedKeeps = (d : FailData) (p : Shown) (segment : ℕ) (r : Record) → IsKept d p → MayApply d segment r
-    → IsKept (applied d segment r) p
-
 -- ---- segments that no digest names
 
 -- An id that is taken without a roll leaves the backups as they are.
@@ -259,9 +196,6 @@ abbrev pub IdTakenIsStanding : Type 0
 IdTakenIsStanding = (d : FailData) (texts : Texts) (p : Shown) → IsLogHeld d texts p → IsStanding d texts
     → IsStanding (id_taken d) (texts_taken d texts)
 
-abbrev pub IdTakenKeeps : Type 0
-IdTakenKeeps = (d : FailData) (p : Shown) → IsKept d p → IsKept (id_taken d) p
-
 abbrev pub SealsHeld : Type 0
 SealsHeld = (d e : FailData) (texts : Texts) (p q : Shown) (o : Op) → IsLogHeld d texts p
     → (is : Seals d texts p o e) → is.b < d.config.backups → taken p o ≡ Some q
@@ -272,16 +206,9 @@ SealsStanding = (d e : FailData) (texts : Texts) (p q : Shown) (o : Op) → IsLo
     → (is : Seals d texts p o e) → is.b < d.config.backups → taken p o ≡ Some q
     → IsStanding d (texts_sealed texts is) × IsStanding e (texts_sealed texts is)
 
-abbrev pub SealsKeeps : Type 0
-SealsKeeps = (d e : FailData) (p q : Shown) (o : Op) (kept : IsKept d p) → (is : Seals d kept.texts p o e)
-    → is.b < d.config.backups → taken p o ≡ Some q → BothKept d e q
-
 abbrev pub FreesHeld : Type 0
 FreesHeld = (d e : FailData) (texts : Texts) (p q : Shown) (o : Op) → IsLogHeld d texts p → Frees d o e
     → taken p o ≡ Some q → IsLogHeld d texts q
-
-abbrev pub FreesKeeps : Type 0
-FreesKeeps = (d e : FailData) (p q : Shown) (o : Op) → IsKept d p → Frees d o e → taken p o ≡ Some q → IsKept d q
 
 -- ---- what the master knows
 

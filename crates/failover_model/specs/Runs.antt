@@ -1,13 +1,12 @@
 -- Lists of events of a log whose backups may fail.
-use Rattle.std.specs.Prelude.{◌≡◌, ℕ, ◌<◌, ◌≤◌, ◌⊎◌, List, [], ◌∷◌, length, Bool, true, false, Some}
+use Rattle.std.specs.Prelude.{◌≡◌, ℕ, ◌<◌, ◌≤◌, ◌⊎◌, List, length, Bool, true, false, Some}
 use Rattle.versioned_map.specs.declared.command.Record.{Record}
 use Rattle.clean_model.specs.log_model.Data.{Start}
 use Rattle.failover_model.specs.Shown.{Shown, Op, On, Raise, taken}
 use Rattle.failover_model.specs.Data.{Mode, Repairs, FailConfig, FailData, new_of, is_failing, state_of, durable_of}
 use Rattle.failover_model.specs.Log.{Texts, BasesStand, IsKept}
-use Rattle.failover_model.specs.Sound.{IsSound}
-use Rattle.failover_model.specs.Steps.{fresh, MayBegin, applied, MayApply, rolling, IsRoll, id_taken, ended, EndsRoll}
-use Rattle.failover_model.specs.Steps.{failing, MayFail, texts_resealed, mended, IsKnown, Extends, OpensNew, Replaces}
+use Rattle.failover_model.specs.Steps.{applied, MayApply, rolling, IsRoll, id_taken, ended, EndsRoll}
+use Rattle.failover_model.specs.Steps.{failing, MayFail, texts_resealed, mended, Extends, OpensNew, Replaces}
 use Rattle.failover_model.specs.Steps.{Raises, ClosesOld, Reseals, Seals, Frees}
 
 -- ---- ops
@@ -93,27 +92,11 @@ Becomes (Fails o b) w v = (e : FailData) × MayTake w.knows w.shown o e × IsOn 
 Becomes (Halts o) w v = (e : FailData) × MayTake w.knows w.shown o e × IsFaulted w.shown o v.shown
     × (v.knows ≡ w.knows) × (v.halted ≡ true)
 
--- the events in order make the second of these from the first; after a halt there are none
-abbrev pub IsRun : World → List Event → World → Type 0
-IsRun w [] v = v ≡ w
-IsRun w (e ∷ es) v = (u : World) × (w.halted ≡ false) × Becomes e w u × IsRun u es v
-
 -- ---- laws
 
 -- An op leaves the history and the heads as they are.
 abbrev pub NextGoesOn : Type 0
 NextGoesOn = (d e : FailData) (texts : Texts) (p : Shown) (o : Op) → IsNext d texts p o e → GoesOn d e
-
--- A log is kept through each run, and the master knows what is held, until it halts: a new master, and one that took
--- over a recovered map.
-abbrev pub RunsKeep : Type 0
-RunsKeep = (v w : World) (es : List Event) → IsKept v.knows v.shown → IsKnown v.knows v.shown → IsRun v es w
-    → IsKept w.knows w.shown × (w.halted ≡ false → IsKnown w.knows w.shown)
-
--- So at each stop of each run from a new master the picture is sound, also after a halt.
-abbrev pub RunsAreSound : Type 0
-RunsAreSound = (c : FailConfig) (p : Shown) (es : List Event) (w : World) → MayBegin c p
-    → IsRun (record { knows = fresh c; shown = p; halted = false }) es w → IsSound w.knows w.shown
 
 -- No event lowers the durable count.
 abbrev pub DurableStays : Type 0

@@ -8,14 +8,12 @@
 //! for the history too. A master *knows* (`IsKnown`) what backups that haven't failed hold. To the layer above it
 //! promises:
 //! - A kept log is sound, whichever backups are left (`KeptIsSound`).
-//! - A new master's log is kept (`FreshIsKept`), and that of one that took over a recovered map (`AdoptedIsKept`). It
-//!   stays so through every event: each op, also if nobody knows that it was taken (`BothKept`), a command, a roll and
-//!   each part of a failover. Every op fits (`Fits`). So every stop of every run is sound, after faults and halts too
-//!   (`RunsAreSound`), and a run goes through parts 2 to 6 of a failover (`CanEnd`).
-//! - A repair may seal a segment's image (`BetweenStands`).
-//! - The durable count is that of the takes that answered Ok (`KeptIsDurable`), and never falls (`DurableStays`).
-//! - What is left of a failover is bounded, falls with each push, and rises by a fault alone (`LeftIsBounded`,
-//!   `PushLowers`, `LeftNeverRises`).
+//! - A new master's log is kept (`FreshIsKept`). The texts that backups hold stay those of the log through each op, also
+//!   if nobody knows that it was taken (`BothHeld`), through a command, a roll and each part of a failover, and they go
+//!   on to stand for the history. Every op fits (`Fits`).
+//! - Whatever lies between a segment's image and its text may stand for it (`BetweenStands`), so a repair may seal an
+//!   image.
+//! - The durable count never falls (`DurableStays`), and is within the history (`DurableIsWithin`).
 //!
 //! It uses `log_model`, `clean_model`, `versioned_map` and `entry`.
 #![tactic(auto)]

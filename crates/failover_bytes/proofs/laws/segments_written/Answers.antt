@@ -1,15 +1,13 @@
-use Rattle.failover_bytes.proofs.Heads.{next_is_held_op, rolling_has_segments, ended_has_segments, op_has_segments}
-use Rattle.failover_bytes.proofs.Heads.{others_have_segments, heads_stay_segments}
+use Rattle.failover_bytes.proofs.Heads.{rolling_has_segments, ended_has_segments, op_has_segments}
+use Rattle.failover_bytes.proofs.Heads.{others_have_segments}
 use Rattle.failover_bytes.proofs.SoundRuns.{op_leaves}
 use Rattle.failover_bytes.proofs.laws.segments_written.Goals as goal
 
 pub returns : goal.returns
 returns c = record {
-  next = next_is_held_op;
   ops = op_leaves;
   rolling = rolling_has_segments;
   ended = ended_has_segments;
   op = op_has_segments;
   others = others_have_segments;
-  heads = heads_stay_segments;
 }

@@ -2,7 +2,7 @@ use Rattle.failover_clean.proofs.LoadingFleets.{restored_holds_loading, load_hol
 use Rattle.failover_clean.proofs.LoadingFleets.{loading_is_never_wrong, roll_holds_loading, end_holds_loading}
 use Rattle.failover_clean.proofs.LoadingFleets.{repair_holds_loading, repair_is_never_wrong, fault_fails_loading}
 use Rattle.failover_clean.proofs.LoadingFleets.{mend_holds_loading}
-use Rattle.failover_clean.proofs.LoadingFleets.{same_holds_loading, others_leave_loading, finished_holds_all}
+use Rattle.failover_clean.proofs.LoadingFleets.{same_holds_loading, finished_holds_all}
 use Rattle.failover_clean.proofs.fleets.loading_holds.Goals as goal
 
 pub returns : goal.returns
@@ -18,6 +18,5 @@ returns c = record {
   rolls = roll_holds_loading;
   ends = end_holds_loading;
   same = same_holds_loading;
-  others = others_leave_loading;
   finished = finished_holds_all;
 }

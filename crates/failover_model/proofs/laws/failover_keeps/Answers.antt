@@ -1,13 +1,11 @@
-use Rattle.failover_model.proofs.Failing.{failing_is_held, failing_is_standing, failing_keeps, mended_is_held}
-use Rattle.failover_model.proofs.Failing.{mended_is_standing, mended_keeps}
+use Rattle.failover_model.proofs.Failing.{failing_is_held, failing_is_standing, mended_is_held}
+use Rattle.failover_model.proofs.Failing.{mended_is_standing}
 use Rattle.failover_model.proofs.laws.failover_keeps.Goals as goal
 
 pub returns : goal.returns
 returns c = record {
   fails_held = failing_is_held;
   fails_standing = failing_is_standing;
-  fails = failing_keeps;
   ends_held = mended_is_held;
   ends_standing = mended_is_standing;
-  ends = mended_keeps;
 }

@@ -1,15 +1,12 @@
-use Rattle.failover_model.proofs.NewIds.{id_taken_is_held, id_taken_is_standing, id_taken_keeps}
-use Rattle.failover_model.proofs.Spares.{seals_held, seals_standing, seals_keeps, frees_held, frees_keeps}
+use Rattle.failover_model.proofs.NewIds.{id_taken_is_held, id_taken_is_standing}
+use Rattle.failover_model.proofs.Spares.{seals_held, seals_standing, frees_held}
 use Rattle.failover_model.proofs.laws.spare_keeps.Goals as goal
 
 pub returns : goal.returns
 returns c = record {
   id_held = id_taken_is_held;
   id_standing = id_taken_is_standing;
-  id = id_taken_keeps;
   seals_held = seals_held;
   seals_standing = seals_standing;
-  seals = seals_keeps;
   frees_held = frees_held;
-  frees = frees_keeps;
 }
