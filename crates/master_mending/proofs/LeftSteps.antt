@@ -2,7 +2,8 @@
 use Rattle.std.proofs.Common.{◌≡◌, ℕ, zero, suc, ◌+◌, ◌-◌, ◌<◌, ◌≤◌, Bool, true, false, List, [], ◌∷◌, ◌++◌, length}
 use Rattle.std.proofs.Common.{refl}
 use Rattle.std.proofs.Common.{sym, ap, subst, ◌∙◌, arith}
-use Rattle.std.specs.Prelude.{Option, Some, None, is_none, ◌==◌, nat_lt, slice_get, slice_set, if◌then◌else◌}
+use Rattle.std.specs.Prelude.{if◌then◌else◌}
+use Rattle.std.specs.Prelude.{Option, Some, None, is_none, ◌==◌, nat_lt, slice_get, slice_set}
 use Rattle.std.specs.Option.{option_map, option_map_or}
 use Rattle.std.proofs.lemmas.Bool.{and_parts, eqb-true}
 use Rattle.std.proofs.lemmas.List.{length-append, length-set}
@@ -48,8 +49,8 @@ use Rattle.master_mending.proofs.LeftBounds.{left_is}
 use Rattle.master_mending.proofs.LeftEnds.{lost_then}
 use Rattle.master_mending.proofs.LostCounts.{lost_at, few_lost, lost_less, lost_push, lost_all, lost_without}
 use Rattle.master_mending.proofs.Sought.{is_other, held, fewer, older, has_image, no_roll}
-use Rattle.master_mending.proofs.Turned.{turned_ids}
-use Rattle.master_mending.proofs.TurnedCore.{turned_if, start_has, others_of_start, turned_next}
+use Rattle.master_space.proofs.NextIds.{next_ids, start_has, start_others}
+use Rattle.master_mending.proofs.TurnedCore.{turned_if, turned_next}
 
 -- ---- counts of replicas that lack some unit
 
@@ -361,7 +362,7 @@ module _ (d : MasterData) (core : IsCore d) where
     -- the head itself counts nothing, nor does a survivor
     listed : (o : Option Pass) (t : Bool)
         → (t ≡ true → option_map_or (is_ready_pass d.config.replicas d.closed) o false ≡ true)
-        → lost_of d.config.replicas d.closed d.head.id (turned_ids d o t)
+        → lost_of d.config.replicas d.closed d.head.id (next_ids d o t)
         ≤ lost_of d.config.replicas d.closed d.head.id (digest_of d.head.image)
     listed o false ready = lost_without d.config.replicas d.closed d.head.id [] (digest_of d.head.image)
     listed None true ready = absurd (let never = ready refl in cc)
@@ -403,7 +404,7 @@ module _ (d : MasterData) (core : IsCore d) where
         let after = left_is (turned_if d false) part.Opens begins in
         let ids = ap (lost_of d.config.replicas d.closed d.head.id)
         (ap (λ (n : Start). n.others) (start_is d.config.master (start_now d) (start_has d (is_ready d)))
-        ∙ others_of_start d (is_ready d)) in
+        ∙ start_others d (is_ready d)) in
         let fewer_are = listed d.pass (is_ready d) (λ ready. ready) in
         let same = in_force_too in
         let was = before in

@@ -2,33 +2,27 @@
 use Rattle.std.proofs.Common.{◌≡◌, inl, inr, ℕ, ◌+◌, ◌<◌, ◌≤◌, Bool, true, false, List, [], ◌∷◌, ◌++◌, length, take}
 use Rattle.std.proofs.Common.{refl}
 use Rattle.std.proofs.Common.{sym, ap, subst, ◌∙◌, arith}
-use Rattle.std.specs.Prelude.{Option, Some, None, IfSome, is_some, ◌==◌, ◌^◌, ◌||◌, sum_by}
 use Rattle.std.specs.Prelude.{if◌then◌else◌}
+use Rattle.std.specs.Prelude.{Option, Some, None, IfSome, is_some, ◌==◌, ◌^◌, ◌||◌, sum_by}
 use Rattle.std.specs.List.{AllByRecursion}
-use Rattle.std.specs.Option.{option_map, option_map_or, option_to_list}
-use Rattle.std.proofs.Math.Nat.{mul-div-le}
+use Rattle.std.specs.Option.{option_map, option_map_or}
 use Rattle.std.proofs.lemmas.Bool.{and_parts, leb-true}
-use Rattle.std.proofs.lemmas.List.{append-nil, length-append}
+use Rattle.std.proofs.lemmas.List.{append-nil}
 use Rattle.master_state.specs.cleaner.declared.pass.Pass.{Pass}
-use Rattle.master_state.specs.cleaner.Passes.{images_in, survivor_ids, is_ready as is_ready_pass}
-use Rattle.master_state.proofs.cleaner.Ends.{rest_segment}
-use Rattle.master_space.specs.compactor.Kept.{has_id}
+use Rattle.master_state.specs.cleaner.Passes.{is_ready as is_ready_pass}
 use Rattle.entry.specs.declared.entry.Entry.{Entry}
 use Rattle.entry.specs.declared.entry.Entry.TheVariants as entry
-use Rattle.entry.specs.declared.key.Key.{Key}
 use Rattle.entry.specs.Bag.{IsAmong}
 use Rattle.entry.specs.Text.{text_of, is_data}
 use Rattle.images.specs.Image.{Image}
 use Rattle.images.specs.Images.{count_of}
-use Rattle.images.specs.Sorted.{segment_of}
-use Rattle.log_head.specs.declared.head.Roll.{Roll}
 use Rattle.log_head.specs.Head.{HeadValue, IsHeadValue, digest_of}
-use Rattle.log_head.specs.Log.{head_of, units_from, HasLens, IsImageOf}
-use Rattle.log_head.specs.Steps.{lone_start, fresh_head, fresh_roll, start_after}
+use Rattle.log_head.specs.Log.{head_of, units_from, IsImageOf}
+use Rattle.log_head.specs.Steps.{lone_start, fresh_head}
 use Rattle.log_head.proofs.HeadLog.{head_is, image_fresh}
-use Rattle.log_head.proofs.RollLog.{start_is, opening_is, digest_is, start_after_has}
+use Rattle.log_head.proofs.RollLog.{digest_is}
 use Rattle.log_head.specs.log_model.Data.{Start, Head, ids_of, digest_for, start_entries, entries_of}
-use Rattle.log_head.specs.log_model.Ids.{has as hold, all_inserted, without}
+use Rattle.log_head.specs.log_model.Ids.{has as hold, all_inserted}
 use Rattle.log_head.specs.log_model.Log.{AreBelow}
 use Rattle.log_head.proofs.log_model.Lengths.{ids_listed}
 use Rattle.segment.proofs.UnitLemmas.{head_few}
@@ -36,27 +30,26 @@ use Rattle.master_state.specs.declared.failover.Failover.{Failover}
 use Rattle.master_state.specs.declared.failover.Part.TheVariants as part
 use Rattle.master_state.specs.declared.ledger.Posting.TheVariants as posting
 use Rattle.master_state.specs.Budget.{most_segments, used_seglets, free_seglets, seglets_of, whole_seglets}
-use Rattle.master_state.specs.Budget.{has_abandoned, victims_of, survivors_of, is_ready, may_turn, turn_need}
+use Rattle.master_state.specs.Budget.{has_abandoned, survivors_of, is_ready, may_turn, turn_need}
 use Rattle.master_state.specs.Data.{MasterData}
-use Rattle.master_state.specs.Invariant.{IsFirst, IsOpenPass, IsCore, IsFailover, NameBelow, listed_now}
-use Rattle.master_state.specs.Log.{images_of, log_set_ids, find, state_now}
-use Rattle.master_state.specs.Steps.{listed_in, start_now}
+use Rattle.master_state.specs.Invariant.{IsFirst, IsOpenPass, IsCore, IsFailover}
+use Rattle.master_state.specs.Log.{images_of, state_now}
+use Rattle.master_state.specs.Steps.{start_now}
 use Rattle.master_state.proofs.Beginning.{lone_has}
-use Rattle.master_state.proofs.Finding.{each_among, index_again, index_of}
-use Rattle.master_state.proofs.Imaging.{ids_in, other_id, rolled_grow}
-use Rattle.master_state.proofs.Indexing.{Grow, found_grown, Shed, index_shed}
-use Rattle.master_state.proofs.LogIds.{no_segment, no_next, older_image}
-use Rattle.master_state.proofs.Passing.{Stays, victims_then, survivor_then, rooms_then, victim_below}
+use Rattle.master_state.proofs.Finding.{each_among, index_of}
+use Rattle.master_state.proofs.Imaging.{ids_in}
+use Rattle.master_state.proofs.Indexing.{Shed, index_shed}
 use Rattle.master_state.proofs.Refusals.{sizes_of}
-use Rattle.master_state.proofs.Rising.{without_none}
-use Rattle.master_space.proofs.Placed.{closed_each, no_more}
 use Rattle.master_mending.specs.declared.mending.Mend.TheVariants as mend
 use Rattle.master_mending.specs.declared.turning.NewHead.{NewHead}
 use Rattle.master_mending.specs.declared.turning.NewHead.TheVariants as new_head
 use Rattle.master_mending.specs.Mending.{IsNextMend, IsNewHead, was_headless, turn_roll, closed_before, put_data}
 use Rattle.master_mending.specs.Mending.{opening, turned_data}
 use Rattle.master_mending.proofs.Changed.{own, was_is, headless_is}
-use Rattle.master_mending.proofs.Turned.{turned_ids, turned_parts, turned_few, turned_free}
+use Rattle.master_space.proofs.NewRolls.{rolls_to, pass_then, roll_core}
+use Rattle.master_space.proofs.NextIds.{next_listed, start_id, start_has, start_others}
+use Rattle.master_space.proofs.RollStarts.{pass_now, pass_marked, survivors_same}
+use Rattle.master_mending.proofs.Turned.{turned_few, turned_free}
 
 -- the head counts whole while no roll is under way, and its length too where an image is abandoned
 counted : (d : MasterData) → d.head.roll ≡ None → (b : Bool) → has_abandoned d ≡ b
@@ -65,215 +58,6 @@ counted : (d : MasterData) → d.head.roll ≡ None → (b : Bool) → has_aband
 counted d none b test =
     λ i. (if is_some (none i) || test i then seglets_of d.config d.head.image + whole_seglets d.config
     else whole_seglets d.config) + sum_by (count_of d.config.segment d.config.seglet) d.closed
-
--- ---- a roll to a new head
-
--- an id more in the log set is none below it
-one_more : (xs : List ℕ) (h next z : ℕ) → z < next
-    → has_id (xs ++ h ∷ option_to_list (Some next)) z ≡ true
-    → has_id (xs ++ h ∷ option_to_list None) z ≡ true
-one_more [] h next z lt is =
-    let away = other_id next z (λ same. omega arith) in
-    rw away at is
-one_more (x ∷ xs) h next z lt is = go (x == z) (one_more xs h next z lt) is where
-  go : (t : Bool) → (has_id (xs ++ h ∷ option_to_list (Some next)) z ≡ true
-      → has_id (xs ++ h ∷ option_to_list None) z ≡ true)
-      → (t || has_id (xs ++ h ∷ option_to_list (Some next)) z) ≡ true
-      → (t || has_id (xs ++ h ∷ option_to_list None) z) ≡ true
-  go true later is = refl
-  go false later is = later is
-
-module _ (d : MasterData) (core : IsCore d) (f : Failover) (is : d.failover ≡ Some f) (mends : f.part ≡ part.Mends)
-    (later : f.is_first ≡ false) (n : Start) (id : n.id ≡ d.next) (has : HasLens n) (t : Bool) where
-  abbrev roll : Roll
-  roll = record (fresh_roll d.config.master n) { closed = f.closed }
-
-  abbrev e : MasterData
-  e = record d {
-    head = record d.head { roll = Some (record (fresh_roll d.config.master n) { closed = f.closed }) };
-    next = d.next + 1;
-    pass = option_map (λ (p : Pass). record p { is_committing = t }) d.pass;
-    failover = Some (opening f);
-    ledger = posting.Began d.next ∷ d.ledger;
-  }
-
-  fails : IsFailover d f
-  fails = own d core f is
-
-  none : d.head.roll ≡ None
-  none = (fails.mends mends).0
-
-  no_new : segment_of d.closed n.id ≡ None
-  no_new = ap (segment_of d.closed) id ∙ no_segment d.closed d.next (no_next d core)
-
-  grow : Grow (images_of d) (images_of e)
-  grow = rolled_grow d.head d.closed roll none no_new
-
-  covers : (z : ℕ) → z < d.next → has_id (log_set_ids e) z ≡ true → has_id (log_set_ids d) z ≡ true
-  covers z lt has_it =
-      subst (λ (o : Option Roll). has_id (ids_in d.closed ++ d.head.id ∷ option_to_list
-      (option_map (λ (r : Roll). r.id) o)) z ≡ true) (sym none)
-      (one_more (ids_in d.closed) d.head.id n.id z (omega arith) has_it)
-
-  module _ (valid : IsHeadValue (record d.head {
-    roll = Some (record (fresh_roll d.config.master n)
-        { closed = f.closed });
-  })) where
-    finds_same : (k : Key) → find e k ≡ find d k
-    finds_same k = found_grown (images_of d) (images_of e) grow (each_among e.head d.closed valid core.segments) d.index
-        (state_now d).contents (index_of d core) k
-
-    -- ---- an open pass
-
-    stays : (p : Pass) → IsOpenPass d p → Stays d e p
-    stays p opens = record {
-      config = refl;
-      start = refl;
-      roll = λ s m. (let lt = (opens.survivors.each s m).used in other_id n.id s (λ same. omega arith));
-      next = omega arith;
-      victims = λ s m. refl;
-      survivors = λ s m. refl;
-      keeps = no_more (log_set_ids d) (log_set_ids e) d.index (images_in d.closed)
-          (closed_each d.closed core.segments) p d.next
-          (λ q t m stands. (let lt = victim_below d core p opens q.segment (rest_segment (images_in d.closed) p q m) in
-          core.named q.segment t (subst (λ (image : List Entry). IsAmong (entry.Tombstone t) image)
-          (sym (older_image d core q.segment lt)) stands)))
-          covers;
-    }
-
-    pass_then : (p : Pass) → IsOpenPass d p → (t ≡ true → is_ready_pass d.config.replicas d.closed p ≡ true)
-        → IsOpenPass e (record p { is_committing = t })
-    pass_then p opens ready = record {
-      pass = (let all = opens.pass in record {
-        victims = all.victims;
-        whole = all.whole;
-        numbers = all.numbers;
-        within = all.within;
-        cursor = all.cursor;
-      });
-      victims = victims_then d e p (stays p opens) opens;
-      survivors = record {
-        some = opens.survivors.some;
-        few = opens.survivors.few;
-        each = survivor_then d e p (stays p opens) opens;
-      };
-      rooms = (let all = rooms_then d e p (stays p opens) opens in record { rooms = all.rooms; blank = all.blank });
-      sealed = opens.sealed;
-      live = λ k q finds victim. opens.live k q (sym (finds_same k) ∙ finds) victim;
-      unsealed = opens.unsealed;
-      spare = λ no_one. absurd (fails.some no_one);
-      commits = λ test. (refl, ready test);
-    }
-
-    passes_then : (o : Option Pass) → IfSome o (IsOpenPass d)
-        → (t ≡ true → option_map_or (is_ready_pass d.config.replicas d.closed) o false ≡ true)
-        → IfSome (option_map (λ (p : Pass). record p { is_committing = t }) o) (IsOpenPass e)
-    passes_then None opens ready = tt
-    passes_then (Some p) opens ready = pass_then p opens ready
-
-    -- ---- the rest
-
-    new_within : length n.others + 1 ≤ most_segments d.config
-        → length (text_of (start_entries d.config.master n)) ≤ d.config.segment
-    new_within few =
-        let bytes = head_few d.config.master n.id (digest_for n) n.safe in
-        let count = ap length (ids_listed n) ∙ length-append n.others (n.id ∷ []) in
-        let least = (sizes_of d.config core.config).least_segment in
-        let parts = mul-div-le d.config.segment 32 in
-        omega arith
-
-    -- tombstones name ids that were used: a new head has none
-    named_then : NameBelow (images_of e) (d.next + 1)
-    named_then s t m = go (d.head.id == s) refl (n.id == s) refl where
-      old : images_of e s ≡ images_of d s → t.segment < d.next + 1
-      old same =
-          let lt = core.named s t (subst (λ (image : List Entry). IsAmong (entry.Tombstone t) image)
-          same m) in omega arith
-
-      go : (b : Bool) → (d.head.id == s) ≡ b → (c : Bool) → (n.id == s) ≡ c → t.segment < d.next + 1
-      go true own_it c there = old (rw own_it refl)
-      go false other true there =
-          let image : images_of e s ≡ roll.image = rw (other, there) refl in
-          let all : IsAmong (entry.Tombstone t) roll.image = subst
-          (λ (image : List Entry). IsAmong (entry.Tombstone t) image) image m in
-          elim all [
-            | inl a ↦ absurd (cc)
-            | inr (inl a) ↦ absurd (cc)
-            | inr (inr (inl a)) ↦ absurd (cc)
-            | inr (inr (inr never)) ↦ absurd never
-          ]
-      go false other false there = old (rw (other, there, none) refl)
-
-    -- the old head counts its length, and the new one counts whole
-    budget_then : turn_need d ≤ free_seglets d → used_seglets e ≤ d.config.seglets
-    budget_then free = go (has_abandoned d) refl where
-      go : (b : Bool) → has_abandoned d ≡ b → used_seglets e ≤ d.config.seglets
-      go true test = (let used = counted d none true test in let budget = core.budget in omega arith)
-      go false test =
-          let used = counted d none false test in
-          let need : turn_need d ≡ seglets_of d.config d.head.image =
-          ap (λ (c : Bool). if c then 0 else seglets_of d.config d.head.image) test in
-          let budget = core.budget in
-          omega arith
-
-    pub turning_core : d.next ≤ 2 ^ 62 → n.others ≡ listed_now e → length n.others + 1 ≤ most_segments d.config
-        → turn_need d ≤ free_seglets d
-        → (t ≡ true → option_map_or (is_ready_pass d.config.replicas d.closed) d.pass false ≡ true) → IsCore e
-    turning_core most lists few free ready = record {
-      config = core.config;
-      replicas = core.replicas;
-      history = core.history;
-      head = valid;
-      image = (let all = core.image in record {
-        id = all.id;
-        lens = all.lens;
-        image = all.image;
-        base = all.base;
-        ends = all.ends;
-        taken = all.taken;
-      });
-      within = core.within;
-      closed = core.closed ∙ (λ i. all_inserted (sym (survivors_same d.pass) i) (head_of d.head).start.others);
-      segments = core.segments;
-      below = core.below;
-      real = core.real;
-      used = (let lt = core.used in omega arith);
-      first = λ test. absurd (let no = later in cc);
-      next = omega arith;
-      roll = record {
-        image = opening_is d.config.master n has;
-        lists = ap (λ (m : Start). m.others) (start_is d.config.master n has) ∙ lists;
-        within = new_within few;
-        newer = (let lt = core.used in omega arith);
-        used = omega arith;
-      };
-      pass = passes_then d.pass core.pass ready;
-      named = named_then;
-      replicas_few = core.replicas_few;
-      waiting = core.waiting;
-      digest = core.digest;
-      listed = (let count = ap length (ids_listed n) ∙ length-append n.others (n.id ∷ []) in omega arith);
-      failed = (let all = core.failed in record { few = all.few; there = all.there; apart = all.apart; two = all.two });
-      whole = λ calm. absurd (cc);
-      failover = record {
-        some = fails.some;
-        closed = fails.closed;
-        mends = λ p. absurd (cc);
-        opens = λ p early. (refl, refl);
-        first = λ test. absurd (let no = later in cc);
-        closes = λ p. absurd (cc);
-        repairs = λ p. absurd (cc);
-      };
-      abandoned = λ calm. absurd (cc);
-      budget = budget_then free;
-      legal = core.legal;
-      index = (let all = index_again d core e.head d.closed grow valid core.segments in
-          record { kept = all.kept; lies = all.lies; safe = core.index.safe });
-    } where
-      survivors_same : (o : Option Pass) → survivors_of (option_map (λ (p : Pass). record p { is_committing = t }) o)
-          ≡ survivors_of o
-      survivors_same None = refl
-      survivors_same (Some p) = refl
 
 -- ---- it takes the place of the first head
 
@@ -454,95 +238,69 @@ turned_if d t =
       ledger = posting.Began d.next ∷ d.ledger;
     }
 
--- what it begins with, if it is a commit's or isn't
-abbrev start_if : MasterData → Bool → Start
-start_if d t =
-    if t then start_after d.head (victims_of d.pass) (listed_in d.closed (survivors_of d.pass)) d.next d.safe
-    else start_after d.head [] [] d.next d.safe
-
-module _ (d : MasterData) where
-  start_id : (t : Bool) → (start_if d t).id ≡ d.next
-  start_id true = refl
-  start_id false = refl
-
-  pub start_has : (t : Bool) → HasLens (start_if d t)
-  start_has true = start_after_has d.head (victims_of d.pass) (listed_in d.closed (survivors_of d.pass)) d.next d.safe
-  start_has false = start_after_has d.head [] [] d.next d.safe
-
-  pub others_of_start : (t : Bool) → (start_if d t).others ≡ turned_ids d d.pass t
-  others_of_start true =
-      turned_parts d true (victims_of d.pass) (listed_in d.closed (survivors_of d.pass)) refl refl
-  others_of_start false = turned_parts d false [] [] refl refl
-
-  -- a pass is marked if it is ready
-  marked : (o : Option Pass)
-      → option_map (λ (p : Pass). record p { is_committing = is_ready_pass d.config.replicas d.closed p }) o
-      ≡ option_map (λ (p : Pass). record p
-      { is_committing = option_map_or (is_ready_pass d.config.replicas d.closed) o false }) o
-  marked None = refl
-  marked (Some p) = refl
-
+-- A roll to the new head begins: what the digest of an ordinary roll lists, or that of a commit.
 module _ (d : MasterData) (core : IsCore d) (next : IsNextMend d mend.Turn) where
   abbrev failing : Failover
   failing = next.0.0
 
-  with_closed : closed_before d ≡ failing.closed
-  with_closed = ap (λ (o : Option Failover). option_map_or (λ (x : Failover). x.closed) o 0) next.0.1
-
   module _ (later : failing.is_first ≡ false) where
     abbrev rolling : MasterData
-    rolling = record d {
-      head = record d.head {
-        roll = Some (record (fresh_roll d.config.master (start_now d)) { closed = failing.closed });
-      };
-      next = d.next + 1;
-      pass = option_map (λ (p : Pass). record p { is_committing = is_ready d }) d.pass;
-      failover = Some (opening failing);
-      ledger = posting.Began d.next ∷ d.ledger;
-    }
+    rolling = rolls_to d (start_now d) (closed_before d) (pass_now d) (Some (opening failing))
+        (posting.Began d.next ∷ d.ledger)
 
     rolling_is : turned_if d false ≡ rolling
-    rolling_is = λ i. record d {
-      head = record d.head {
-        roll = Some (record (fresh_roll d.config.master (start_now d)) { closed = with_closed i });
-      };
-      next = d.next + 1;
-      pass = marked d d.pass i;
-      failover = option_map opening (next.0.1 i);
-      ledger = posting.Began d.next ∷ d.ledger;
-    }
+    rolling_is =
+        ap (λ (o : Option Failover). rolls_to d (start_now d) (closed_before d) (pass_now d) (option_map opening o)
+        (posting.Began d.next ∷ d.ledger)) next.0.1
 
-    lists_then : (o : Option Pass)
-        → turned_ids d o (option_map_or (is_ready_pass d.config.replicas d.closed) o false)
-        ≡ listed_now (record d {
-          pass = option_map (λ (p : Pass). record p
-              { is_committing = option_map_or (is_ready_pass d.config.replicas d.closed) o false }) o;
-        })
-    lists_then None = without_none (digest_of d.head.image) ∙ digest
-      where
-        digest : digest_of d.head.image ≡ ids_of (head_of d.head).start
-        digest = digest_is d.config.master d.head (head_of d.head) core.image
-    lists_then (Some p) =
-        λ i. if is_ready_pass d.config.replicas d.closed p
-        then all_inserted (survivor_ids p.survivors) (without p.victims (digest i))
-        else (without_none (digest_of d.head.image) ∙ digest) i
-      where
-        digest : digest_of d.head.image ≡ ids_of (head_of d.head).start
-        digest = digest_is d.config.master d.head (head_of d.head) core.image
+    fails : IsFailover d failing
+    fails = own d core failing next.0.1
+
+    none : d.head.roll ≡ None
+    none = (fails.mends next.0.2).0
+
+    -- the old head counts its length, and the new one counts whole
+    budget_then : turn_need d ≤ free_seglets d → used_seglets rolling ≤ d.config.seglets
+    budget_then free = go (has_abandoned d) refl where
+      go : (b : Bool) → has_abandoned d ≡ b → used_seglets rolling ≤ d.config.seglets
+      go true test = (let used = counted d none true test in let budget = core.budget in omega arith)
+      go false test =
+          let used = counted d none false test in
+          let need : turn_need d ≡ seglets_of d.config d.head.image =
+          ap (λ (c : Bool). if c then 0 else seglets_of d.config d.head.image) test in
+          let budget = core.budget in
+          omega arith
+
+    passes_then : (o : Option Pass) → IfSome o (IsOpenPass d) → IsHeadValue (turned_if d false).head
+        → IfSome (option_map (λ (p : Pass). record p
+        { is_committing = is_ready_pass d.config.replicas d.closed p }) o) (IsOpenPass rolling)
+    passes_then None opens valid = tt
+    passes_then (Some p) opens valid =
+        pass_then d core (start_now d) (start_id d (is_ready d)) (start_has d (is_ready d)) (closed_before d)
+        (pass_now d) (Some (opening failing)) (posting.Began d.next ∷ d.ledger) none valid p
+        (is_ready_pass d.config.replicas d.closed p) opens (λ no_one not. absurd (fails.some no_one)) (λ ready. ready)
 
     rolling_core : may_turn d ≡ true → IsHeadValue (turned_if d false).head → IsCore (turned_if d false)
     rolling_core may valid =
         let was : option_map_or (λ (x : Failover). x.is_first) d.failover false ≡ false =
         was_is d core failing next.0.1 ∙ later in
         let few = turned_few d core may was in
-        let others = ap length (others_of_start d (is_ready d)) in
+        let others = ap length (start_others d (is_ready d)) in
         subst IsCore (sym rolling_is)
-        (turning_core d core failing next.0.1 next.0.2 later (start_now d) (start_id d (is_ready d))
-        (start_has d (is_ready d)) (is_ready d)
-        (subst (λ (m : MasterData). IsHeadValue m.head) rolling_is valid)
-        (leb-true d.next (2 ^ 62) (and_parts _ _ may).0)
-        (others_of_start d (is_ready d) ∙ lists_then d.pass)
-        (omega arith) (turned_free d core may was) (λ ready. ready))
+        (roll_core d core (start_now d) (start_id d (is_ready d)) (start_has d (is_ready d)) (closed_before d)
+        (pass_now d) (Some (opening failing)) (posting.Began d.next ∷ d.ledger) none valid
+        (leb-true d.next (2 ^ 62) (and_parts _ _ may).0) (start_others d (is_ready d) ∙ next_listed d core d.pass)
+        (survivors_same d) (omega arith) (budget_then (turned_free d core may was))
+        (passes_then d.pass core.pass valid) (λ test. absurd (let no = later in cc)) (λ calm. absurd (cc))
+        (record {
+          some = fails.some;
+          closed = fails.closed;
+          mends = λ p. absurd (cc);
+          opens = λ p early. (refl, refl);
+          first = λ test. absurd (let no = later in cc);
+          closes = λ p. absurd (cc);
+          repairs = λ p. absurd (cc);
+        }))
 
   module _ (first : failing.is_first ≡ true) where
     alone_is : turned_if d true ≡ record d {
@@ -624,7 +382,7 @@ module _ (d : MasterData) (core : IsCore d) (next : IsNextMend d mend.Turn) (new
         (λ i. record d {
           head = record d.head { roll = Some (is.1 i) };
           next = d.next + 1;
-          pass = sym (marked d d.pass) i;
+          pass = pass_marked d (is_ready d) refl i;
           failover = option_map opening d.failover;
           ledger = posting.Began d.next ∷ d.ledger;
         })

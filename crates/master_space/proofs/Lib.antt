@@ -25,7 +25,8 @@ pub mod Chosen
 pub mod Leaving
 pub mod Placed
 pub mod Calm
-pub mod Begun
+pub mod NextIds
+pub mod NewRolls
 pub mod RollStarts
 pub mod SurvivorLens
 pub mod RollLaws

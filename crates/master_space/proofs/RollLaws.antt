@@ -33,7 +33,7 @@ use Rattle.master_state.specs.Log.{fail_config, opening_of, is_opened, is_headle
 use Rattle.master_state.specs.Log.{mode_of, log_of, state_now, images_of, memory_of}
 use Rattle.master_state.specs.Steps.{BeginsRoll, MayRollNow, listed_in, start_now, rolling_data, next_now}
 use Rattle.master_state.proofs.Passing.{has_among}
-use Rattle.master_space.proofs.RollStarts.{start_by, start_has}
+use Rattle.master_space.proofs.NextIds.{start_by, start_has}
 use Rattle.master_space.proofs.SurvivorLens.{ids_listed_in, len_listed_in, survivor_there}
 use Rattle.master_state.proofs.Refusals.{may_begin, open_parts}
 use Rattle.master_state.proofs.Rising.{without_none}
@@ -189,7 +189,7 @@ module _ (d : MasterData) (core : IsCore d) (calm : d.failover ≡ None) (opened
       go : (t : Bool) → t ≡ true → (if t then Rolls (start_of (fresh_roll d.config.master (start_now d)))
           else Rolls (head_of d.head).start) ≡ Rolls (next_now d)
       go true is =
-          ap Rolls (start_is d.config.master (start_now d) (start_has d) ∙ next_is d core (headed d calm opened))
+          ap Rolls (start_is d.config.master (start_now d) (start_has d (is_ready d)) ∙ next_is d core (headed d calm opened))
       go false is = absurd (cc)
 
   log_begun : log_of (rolling_data d) ≡ rolling (log_of d) (next_now d) (Rolls (next_now d))

@@ -1,5 +1,6 @@
 use Rattle.std.proofs.Common.{◌≡◌, ◌<◌, ◌∷◌, ◌++◌, [], Bool, ℕ, List, length, true, false, sym, ap, subst, ◌∙◌}
-use Rattle.std.specs.Prelude.{Option, if◌then◌else◌}
+use Rattle.std.specs.Prelude.{if◌then◌else◌}
+use Rattle.std.specs.Prelude.{Option}
 use Rattle.std.specs.Option.{option_map_or}
 use Rattle.std.specs.List.Sorted.{IsStrictlyIncreasing}
 use Rattle.entry.specs.Limits.{ids_in, AreLengths}
@@ -12,7 +13,8 @@ use Rattle.master_state.specs.Data.{MasterData}
 use Rattle.master_state.specs.Invariant.{IsCore}
 use Rattle.master_state.specs.Steps.{listed_in}
 use Rattle.master_space.proofs.SurvivorLens.{entering_listed}
-use Rattle.master_mending.proofs.Turned.{turned_ids, turned_parts, turned_rise, turned_count}
+use Rattle.master_space.proofs.NextIds.{next_ids, next_rise, others_parts}
+use Rattle.master_mending.proofs.Turned.{turned_count}
 use Rattle.master_mending.proofs.opening.new_head.Goals as goal
 use Rattle.master_mending.proofs.opening.new_head.Goals.{After-as_slice}
 
@@ -32,9 +34,9 @@ module _ (c : After-as_slice) where
       ∙ (λ i. if sym ready i then listed_in d.closed (survivors_of d.pass) else [])
 
   ids_are : all_inserted (ids_in c.as_slice.result.now) (without c.leaving_victims.result.now
-      (digest_of d.head.image)) ≡ turned_ids d d.pass (is_ready d)
+      (digest_of d.head.image)) ≡ next_ids d d.pass (is_ready d)
   ids_are =
-      turned_parts d (is_ready d) c.leaving_victims.result.now c.as_slice.result.now
+      others_parts d (is_ready d) c.leaving_victims.result.now c.as_slice.result.now
       (c.leaving_victims.ensures ∙ ap (λ (b : Bool). if b then victims_of d.pass else []) (sym ready)) enters
 
   later : option_map_or (λ (f : Failover). f.is_first) d.failover false ≡ false
@@ -48,7 +50,7 @@ pub next_roll-requires-clause-rise : goal.next_roll-requires-clause-rise
 next_roll-requires-clause-rise c =
     let a = (goal.at.next_roll-requires-clause-rise c).After-as_slice in
     subst (λ (ids : List ℕ). IsStrictlyIncreasing (ids ++ c.core.inside.next_id ∷ [])) (sym (ids_are a))
-    (turned_rise (d a) (core a) (is_ready (d a)))
+    (next_rise (d a) (core a) (is_ready (d a)))
 
 pub next_roll-requires-clause-count : goal.next_roll-requires-clause-count
 next_roll-requires-clause-count c =

@@ -1,5 +1,6 @@
 use Rattle.std.proofs.Common.{◌≡◌, ◌+◌, ◌*◌, ◌<◌, ◌++◌, ◌∷◌, [], Bool, ℕ, List, length, sym, ap, subst, ◌∙◌, arith}
-use Rattle.std.specs.Prelude.{None, IsSome, if◌then◌else◌}
+use Rattle.std.specs.Prelude.{if◌then◌else◌}
+use Rattle.std.specs.Prelude.{None, IsSome}
 use Rattle.std.specs.List.Sorted.{IsStrictlyIncreasing}
 use Rattle.std.specs.Result.{result_err}
 use Rattle.entry.specs.Limits.{AreLengths}
@@ -21,9 +22,9 @@ use Rattle.std.proofs.lemmas.Grind.{div_ceil_times}
 use Rattle.std.proofs.lemmas.Result.{err_from_is_err_and}
 use Rattle.master_state.proofs.Refusals.{may_begin, sizes_of}
 use Rattle.master_space.proofs.RollLaws.{roll_begins, may_roll_now}
-use Rattle.master_space.proofs.RollStarts.{new_ids, pass_now, start_now_is, start_parts, pass_marked, room_marked}
+use Rattle.master_space.proofs.NextIds.{next_rise, start_parts, start_others}
+use Rattle.master_space.proofs.RollStarts.{new_ids, new_count, pass_now, pass_marked, room_marked, unposted, rolled_core}
 use Rattle.master_space.proofs.SurvivorLens.{entering_listed}
-use Rattle.master_space.proofs.RollStarts.{new_rise, new_count, unposted, rolled_core}
 use Rattle.master_space.proofs.rolling.CoreRolls.begin_roll.Goals as goal
 use Rattle.master_space.proofs.rolling.CoreRolls.begin_roll.Goals.{After-as_slice, After-mark}
 
@@ -61,13 +62,13 @@ module _ (c : After-as_slice) where
   -- the next head begins as it is to
   start_is : start_after d.head c.leaving_victims-victims.result.now c.as_slice.result.now d.next d.safe ≡ start_now d
   start_is =
-      start_parts d c.leaving_victims-victims.result.now c.as_slice.result.now
+      start_parts d (is_ready d) c.leaving_victims-victims.result.now c.as_slice.result.now
       (c.leaving_victims-victims.ensures ∙ ap (λ (b : Bool). if b then victims_of d.pass else []) (sym ready))
       entering
 
   ids_are : new_ids d
       ≡ (start_after d.head c.leaving_victims-victims.result.now c.as_slice.result.now d.next d.safe).others
-  ids_are = ap (λ (n : Start). n.others) (sym (start_is ∙ start_now_is d))
+  ids_are = sym (ap (λ (n : Start). n.others) start_is ∙ start_others d (is_ready d))
 
 pub begin_roll-requires-clause-open : goal.begin_roll-requires-clause-open
 begin_roll-requires-clause-open c =
@@ -77,7 +78,7 @@ pub begin_roll-requires-clause-rise : goal.begin_roll-requires-clause-rise
 begin_roll-requires-clause-rise c =
     let a = (goal.at.begin_roll-requires-clause-rise c).After-as_slice in
     subst (λ (ids : List ℕ). IsStrictlyIncreasing (ids ++ c.self.inside.next_id ∷ [])) (ids_are a)
-    (new_rise (d a) (core a) (passed a))
+    (next_rise (d a) (core a) (is_ready (d a)))
 
 pub begin_roll-requires-clause-count : goal.begin_roll-requires-clause-count
 begin_roll-requires-clause-count c =
@@ -109,7 +110,7 @@ module _ (c : After-mark) where
 
   start_is' : start_after k.head c.leaving_victims-victims.result.now c.as_slice.result.now k.next k.safe ≡ start_now k
   start_is' =
-      start_parts k c.leaving_victims-victims.result.now c.as_slice.result.now
+      start_parts k (is_ready k) c.leaving_victims-victims.result.now c.as_slice.result.now
       (c.leaving_victims-victims.ensures ∙ ap (λ (b : Bool). if b then victims_of k.pass else []) (sym ready'))
       (c.as_slice.ensures.value ∙ c.in_ok-survivors.ensures
       ∙ (λ i. if sym ready' i then listed_in (c.reserve.ensures.same i).images (survivors_of k.pass) else []))
@@ -156,8 +157,7 @@ module _ (c : After-mark) where
 
   valid_then : IsCore left
   valid_then =
-      subst IsCore is (rolled_core k core' passed'
-      (subst (λ (n : Start). IsHeadValue (with_roll k.head k.config.master n)) (start_now_is k) valid))
+      subst IsCore is (rolled_core k core' passed' valid)
 
   begins : BeginsRoll k (Rolling k.next) (posted left (Began k.next))
   begins =
