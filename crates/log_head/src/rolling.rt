@@ -165,24 +165,14 @@ impl Head {
         ensures valid { OnOk result (IsHeadValue self.new) }
         ensures err { OnErr result (self.new ≡ self.old) }
     {
-        let mut image = next_image(alloc, self.id, &self.image, master, id, safe, leaving)?;
         let RollMemory { spare, room, kept } = memory;
-        if let Some(spare) = spare {
-            image.move_into(spare);
-        }
-        image.reserve(room)?;
-        self.image.trim(kept);
-        self.roll = Some(Roll {
-            id,
-            image,
-            opened: 0,
-            closed: 0,
-        });
+        let roll = self.next_roll(alloc, master, id, safe, leaving, spare, room, 0)?;
+        self.set_roll(roll, kept);
         Ok(())
     }
 
     /// The roll that `begin_roll` would begin, with so many replicas of the old head closed already, for `set_roll`.
-    /// Its image has room for `room` bytes. Nothing changes.
+    /// Its image lies in the spare memory if some is given, and has room for `room` bytes. Nothing changes.
     pub fn next_roll(
         &self,
         alloc: Global,
@@ -190,6 +180,7 @@ impl Head {
         id: u64,
         safe: SafeVersion,
         leaving: Leaving<'_>,
+        spare: Option<Vec<u8>>,
         room: usize,
         closed: usize,
     ) -> Result<Roll, NoMemory>
@@ -204,6 +195,9 @@ impl Head {
         ensures valid { IfOk result (λ roll. IsRollValue self.now.replicas (length self.now.taken) roll) }
     {
         let mut image = next_image(alloc, self.id, &self.image, master, id, safe, leaving)?;
+        if let Some(spare) = spare {
+            image.move_into(spare);
+        }
         image.reserve(room)?;
         Ok(Roll {
             id,

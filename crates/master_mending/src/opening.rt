@@ -47,6 +47,7 @@ pub fn new_head(core: &Core) -> Result<NewHead, NoMemory>
         core.next_id,
         core.safe,
         leaving,
+        None,
         core.config.segment as usize,
         failover.closed,
     )?;
