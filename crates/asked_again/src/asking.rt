@@ -6,8 +6,7 @@ use std::alloc::Global;
 use std::sync::Wait;
 use store_lines::locked_log::{CallFault, Naming, Seat, Store};
 use store_lines::master::{Look, Refusal, Shown};
-use store_lines::script::Answer;
-use store_lines::{Phase, command_of, look_line, take_all, turn_line};
+use store_lines::{Answer, Phase, command_of, look_line, take_all, turn_line};
 
 /// Runs a line, and answers what it prints.
 pub fn ask<B: Naming, R: Wait>(

@@ -14,10 +14,9 @@ use std::alloc::Global;
 use std::io::Write;
 use std::marker::Brand;
 use std::sync::Wait;
-use store_lines::Phase;
 use store_lines::locked_log::{Blank, Naming, Seat, Store};
 use store_lines::master::Master;
-use store_lines::script::{Answer, Options};
+use store_lines::{Answer, Options, Phase};
 
 /// Runs these lines through a store over the master, prints their answers and the history, and drops the master.
 pub fn live<R: Wait, O: Write>(

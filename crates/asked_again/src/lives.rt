@@ -7,9 +7,8 @@ use crate::succession::{begin, succeed};
 use std::alloc::Global;
 use std::io::Write;
 use std::sync::Wait;
-use store_lines::FIRST_MASTER;
 use store_lines::recovery::GroupOrder;
-use store_lines::script::Answer;
+use store_lines::{Answer, FIRST_MASTER};
 
 /// Runs the lives of a script. Between two of them the master crashes, and the next one adopts its table.
 pub fn run_lives<R: Wait, O: Write>(rt: &R, alloc: Global, writer: &mut O, script: &Script) {

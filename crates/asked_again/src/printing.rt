@@ -2,7 +2,7 @@
 
 use std::io::Write;
 use store_lines::master::{History, ReplyRef};
-use store_lines::script::{Answer, write_answer};
+use store_lines::{Answer, write_answer};
 
 /// Prints an answer. If it can't be written, the output lacks it.
 pub fn print<O: Write>(writer: &mut O, answer: &Answer) {

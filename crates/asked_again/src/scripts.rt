@@ -1,6 +1,6 @@
 //! The scripts: each life of a master is a list of lines. A recovery comes between two lives.
 
-use store_lines::script::Options;
+use store_lines::Options;
 
 /// The lines of one life after another.
 type Lives = &'static [&'static [&'static [u8]]];

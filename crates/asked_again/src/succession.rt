@@ -13,8 +13,7 @@ use std::sync::Wait;
 use store_lines::master::{Config, Master};
 use store_lines::recovery::{GroupOrder, Rebuilt, make_will, recover};
 use store_lines::replay::adopt_list;
-use store_lines::script::{Answer, Options, configuration};
-use store_lines::{FIRST_MASTER, first_master, next_config};
+use store_lines::{Answer, FIRST_MASTER, Options, configuration, first_master, next_config};
 
 /// The table of a crashed master, and what the one that is to adopt it begins with.
 #[derive(Drop)]

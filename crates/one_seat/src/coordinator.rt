@@ -11,8 +11,7 @@ use replica::{Fleet, Inventory};
 use std::alloc::Global;
 use store_lines::master::Config;
 use store_lines::recovery::{GroupOrder, Rebuilt, RecoveryFault, Will, make_will, recover};
-use store_lines::script::{Answer, Options, configuration};
-use store_lines::{FIRST_MASTER, next_config, want};
+use store_lines::{Answer, FIRST_MASTER, Options, configuration, next_config, want};
 
 /// What outlives a master.
 #[derive(Drop)]

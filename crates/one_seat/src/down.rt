@@ -16,8 +16,7 @@ use std::sync::Wait;
 use store_lines::master::{Config, Master, Refusal};
 use store_lines::recovery::Rebuilt;
 use store_lines::replay::adopt_list;
-use store_lines::script::{Answer, Options};
-use store_lines::{Dialogue, LineFault, tell};
+use store_lines::{Answer, Dialogue, LineFault, Options, tell};
 
 /// Runs lines until a recovery gives a master. None if no line follows.
 pub fn wait<R: Wait, I: BufRead + Drop, O: Write + Drop>(

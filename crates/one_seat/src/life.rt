@@ -9,8 +9,9 @@ use std::io::{BufRead, Write};
 use std::sync::Wait;
 use store_lines::locked_log::{CallFault, Naming, Receipt, Row, Seat, Store};
 use store_lines::master::{Command, History, Refusal, Reply, ReplyRef};
-use store_lines::script::{Answer, Options};
-use store_lines::{Dialogue, LineFault, command_of, look_line, refuse, renew, turn_line};
+use store_lines::{
+    Answer, Dialogue, LineFault, Options, command_of, look_line, refuse, renew, turn_line,
+};
 
 /// A store of one seat, and what the seat was answered.
 #[derive(Drop)]

@@ -11,8 +11,7 @@ use std::alloc::Global;
 use std::io::{BufRead, Write};
 use std::sync::Wait;
 use store_lines::master::{Config, Master};
-use store_lines::script::{Options, ScriptFault};
-use store_lines::{Dialogue, first_master};
+use store_lines::{Dialogue, Options, ScriptFault, first_master};
 
 /// Runs all lines of the script.
 pub fn run_script<R: Wait, I: BufRead + Drop, O: Write + Drop>(

@@ -17,8 +17,7 @@ use std::marker::Brand;
 use std::sync::Wait;
 use store_lines::locked_log::{Blank, Naming, Store};
 use store_lines::master::Master;
-use store_lines::script::{Answer, Options, ScriptFault};
-use store_lines::{Dialogue, Phase, take_all, tell};
+use store_lines::{Answer, Dialogue, Options, Phase, ScriptFault, take_all, tell};
 
 /// Runs lines through a store over this master, until the master is dropped or no line follows.
 pub fn live<R: Wait, I: BufRead + Drop, O: Write + Drop>(

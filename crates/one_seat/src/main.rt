@@ -20,10 +20,10 @@ use std::io::{self, BufReader, BufWriter, IsTerminal};
 use std::process::ExitCode;
 use std::sync::Wait;
 use store_lines::master::Config;
-use store_lines::script::{
-    ErrorOutput, Options, ScriptFault, configuration, options, report, report_config,
+use store_lines::{
+    Dialogue, ErrorOutput, FIRST_MASTER, Options, ScriptFault, configuration, options, report,
+    report_config,
 };
-use store_lines::{Dialogue, FIRST_MASTER};
 
 /// The exit status of a bad command line.
 const MISUSE: u8 = 2;

@@ -1,1 +1,1 @@
-pub use Rattle.script.proofs.of_locked_log
+pub use Rattle.next_master.proofs.of_locked_log

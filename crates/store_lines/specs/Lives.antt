@@ -1,10 +1,10 @@
 -- What a life of a master begins with.
 use Rattle.std.specs.Prelude.{◌≡◌, ◌≤◌, ℕ, None, []}
 use Rattle.command_line.specs.declared.settings.Options.{Options}
-use Rattle.script.specs.master.master_state.declared.config.Config.{Config}
-use Rattle.script.specs.master.master_state.Config.{config_fault}
-use Rattle.script.specs.master.master_state.Data.{MasterData}
-use Rattle.script.specs.master.Registry.{IsUnraised}
+use Rattle.next_master.specs.master.master_state.declared.config.Config.{Config}
+use Rattle.next_master.specs.master.master_state.Config.{config_fault}
+use Rattle.next_master.specs.master.master_state.Data.{MasterData}
+use Rattle.next_master.specs.master.Registry.{IsUnraised}
 use Rattle.replica.specs.Picture.{FleetState}
 
 -- it is within its limits, and has as many records as the options say

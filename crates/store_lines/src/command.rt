@@ -3,7 +3,7 @@
 use crate::fault::LineFault;
 use entry::{Key, KeyRef, MAX_VALUE_LEN, NoMemory, Row, Value};
 use lines::{CommandLine, KeyWord, Numbers};
-use script::master::{Command, If};
+use next_master::master::{Command, If};
 use std::alloc::Global;
 
 /// The command of a line.

@@ -1,7 +1,7 @@
 //! The script that is run: its lines, and where their answers go.
 
 use lines::{LineReader, ReadFault, Reason, Taken};
-use script::{Answer, ScriptFault, write_answer};
+use next_master::answers::{Answer, ScriptFault, write_answer};
 use std::alloc::Global;
 use std::io::{BufRead, Write};
 

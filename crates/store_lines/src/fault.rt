@@ -3,7 +3,7 @@
 use crate::dialogue::Dialogue;
 use entry::NoMemory;
 use lines::Reason;
-use script::ScriptFault;
+use next_master::answers::ScriptFault;
 use std::io::{BufRead, Write};
 
 /// Why a line has no answer.

@@ -5,7 +5,7 @@
 //! script. No contract says what a store did under its lock, so of lines nothing is promised but that the code is safe.
 //! `first_master` and `next_config` say what a life begins with.
 //!
-//! The crate stands on `locked_log`, and on `script` for options, answers and faults. It waits, and starts no thread.
+//! The crate stands on `locked_log`, and on `next_master` for options, answers and faults. It waits, and starts no thread.
 #![tactic(auto)]
 
 mod command;
@@ -16,10 +16,13 @@ mod succession;
 mod turns;
 
 pub use command::command_of;
+pub use command_line::{Options, options};
 pub use dialogue::Dialogue;
 pub use fault::{LineFault, tell};
 pub use looks::{look_line, renew};
-pub use script;
-pub use script::{locked_log, master, recovery, replay};
+pub use next_master::answers::{
+    Answer, ErrorOutput, ScriptFault, report, report_config, write_answer,
+};
+pub use next_master::{configuration, locked_log, master, recovery, replay};
 pub use succession::{FIRST_MASTER, first_master, next_config, want};
 pub use turns::{Phase, refuse, take_all, turn_line};

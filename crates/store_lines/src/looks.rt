@@ -1,11 +1,13 @@
 //! What a store shows.
 
 use backup::MemoryFleet;
+use command_line::Options;
 use entry::{NoMemory, Row, Size};
 use lines::Line;
-use script::locked_log::{Naming, Store};
-use script::master::{Look, Refusal, Shown};
-use script::{Answer, Limits, Options, configuration};
+use next_master::answers::{Answer, Limits};
+use next_master::configuration;
+use next_master::locked_log::{Naming, Store};
+use next_master::master::{Look, Refusal, Shown};
 use std::alloc::Global;
 use std::sync::Wait;
 use tablet_will::{Will, WillFault, make_will};

@@ -2,17 +2,18 @@
 
 ghost use Rattle.std.specs.Prelude.{◌≡◌, ℕ, suc, max, None, IfOk};
 ghost use Rattle.backup.specs.State.{fleet_state};
-ghost use Rattle.script.specs.next_master.Numbers.{greatest_of};
+ghost use Rattle.next_master.specs.Numbers.{greatest_of};
 ghost use Rattle.replica.specs.Picture.{AreHeld};
 ghost use Rattle.store_lines.specs.Lives.{CanBegin, IsChecked, IsOpening};
 
 use backup::MemoryFleet;
+use command_line::Options;
 use entry::NoMemory;
+use next_master::answers::Answer;
+use next_master::master::{Config, Master};
+use next_master::recovery::{PlanFault, RecoveryFault};
+use next_master::{configuration, later_options, next_number};
 use replica::{Fleet, Inventory};
-use script::master::{Config, Master};
-use script::next_master::{later_options, next_number};
-use script::recovery::{PlanFault, RecoveryFault};
-use script::{Answer, Options, configuration};
 use std::alloc::Global;
 
 /// The number of the first master.

@@ -5,9 +5,9 @@ use crate::fault::LineFault;
 use backup::MemoryFleet;
 use entry::{NoMemory, Row};
 use lines::Line;
-use script::Answer;
-use script::locked_log::{CleanTurn, Naming, Store};
-use script::master::{Look, PassFault, Refusal, Shown, StepAnswer};
+use next_master::answers::Answer;
+use next_master::locked_log::{CleanTurn, Naming, Store};
+use next_master::master::{Look, PassFault, Refusal, Shown, StepAnswer};
 use std::alloc::Global;
 use std::sync::Wait;
 

@@ -1,10 +1,10 @@
 use Rattle.std.proofs.Common.{◌≡◌, List, suc, max, ap, subst, ◌∙◌}
 use Rattle.backup.specs.State.{fleet_state}
 use Rattle.command_line.specs.declared.settings.Options.{Options}
-use Rattle.script.specs.master.master_state.declared.config.Config.{Config}
+use Rattle.next_master.specs.master.master_state.declared.config.Config.{Config}
 use Rattle.replica.specs.declared.holding.Holding.{Holding}
-use Rattle.script.specs.next_master.Numbers.{greatest_of}
-use Rattle.script.proofs.of_next_master.NextLife.{next_unused}
+use Rattle.next_master.specs.Numbers.{greatest_of}
+use Rattle.next_master.proofs.NextLife.{next_unused}
 use Rattle.store_lines.proofs.succession.next_config.Goals as goal
 
 pub fitting-requires-clause-records : goal.fitting-requires-clause-records
