@@ -7,6 +7,7 @@ use Rattle.master_core.proofs.master_state.Finding.{indexed}
 use Rattle.master.specs.Invariant.{IsWellKept}
 use Rattle.master.specs.Valid.{IsValid}
 use Rattle.master.proofs.Counting.{counted, pushed_all, head_homes, kept_unfailed}
+use Rattle.master.proofs.FewLost.{survives_few}
 use Rattle.master.proofs.LogSets.{imaged}
 
 pub valid : (d : MasterData) (f : FleetState) → IsWellKept d f → IsValid d f
@@ -23,6 +24,8 @@ valid d f kept =
       sound = sound.0;
       newest = sound.1;
       placed = kept.placed;
+      whole = kept.core.whole;
+      survive = survives_few d f kept;
       covered = kept_is_covered (log_of d) (memory_of d) f kept.kept;
       durable = kept_is_durable (log_of d) (memory_of d) f kept.kept (head_homes d kept.core kept.placed);
       counted = counted d kept.core kept.placed (kept_unfailed d f kept.kept);

@@ -2,6 +2,7 @@ pub mod World
 pub mod Keeps
 pub mod Pushes
 pub mod Passes
+pub mod Survive
 pub mod Valid
 pub mod Steps
 pub mod Loading

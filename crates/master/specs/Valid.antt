@@ -14,7 +14,9 @@ use Rattle.master_core.specs.master_state.Causes.{is_done}
 use Rattle.master_core.specs.master_state.Config.{config_fault}
 use Rattle.master_core.specs.master_state.Data.{MasterData}
 use Rattle.master_core.specs.master_state.Log.{opening_of, log_of, state_now, durable_now, image_of, memory_of, IsIndexed}
+use Rattle.master_core.specs.master_state.Invariant.{AreWhole}
 use Rattle.master.specs.Placed.{IsPlaced}
+use Rattle.master.specs.Survive.{SurvivesFew}
 
 -- the first head, if a backup's failure has kept it from being open: a new one takes its place
 abbrev pub IsGivenUp : MasterData → ℕ → Type 0
@@ -46,6 +48,10 @@ pub record IsValid (d : MasterData) (f : FleetState) : Type 0 where
       (newest_opened (log_of d))
   -- a segment's replicas go to its homes
   pub placed : IsPlaced d
+  -- while no failover is open, each segment of the digest in force has all its replicas
+  pub whole : d.failover ≡ None → AreWhole d
+  -- so the loss of fewer backups than a segment has replicas leaves head and segments
+  pub survive : SurvivesFew d f
   -- memory and the replicas of the log hold the map
   pub covered : IsCovered (log_of d) (memory_of d) (read_of (log_of d) f)
   pub durable : CountsDurable (log_of d) (shown_for (log_of d) f)

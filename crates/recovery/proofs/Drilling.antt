@@ -69,42 +69,28 @@ module _ (start stop : World) (steps : List Step) (kept : List ℕ) (will : List
   covers_stop : Covers start.knows.config.tablets will → Covers stop.knows.config.tablets will
   covers_stop = subst (λ (c : Config). Covers c.tablets will) (sym same_config)
 
-  -- what some backups show of the fleet gives a prefix, or a loss
-  pub drilled : (hs : List Holding) → ((h : Holding) → IsAmong h hs ↔ IsHeld (left_on (is_kept kept) left.picture) h)
-      → (r : Result Rebuilt RecoveryFault) → IfOk r (IsSomePrefix hs least start.knows.config.master)
-      → IfErr r (IsSomeLoss hs least start.knows.config.master will order)
-      → IfOk r (IsRebuiltFrom hs least start.knows.config.master will order)
-      → IfErr r (IsRefusedFrom hs least start.knows.config.master will order)
-      → IsDrill start steps kept will order answers r left
-  drilled hs shown r recovered refused rebuilt fault = record {
-    stop = stop;
-    run = ran;
-    fleet = same;
-    valid = valid;
-    asked = asked r rebuilt fault;
-    prefix = prefix r recovered;
-    loss = λ covers names. loss covers names r refused;
-  } where
+  module _ (hs : List Holding)
+      (shown : (h : Holding) → IsAmong h hs ↔ IsHeld (left_on (is_kept kept) left.picture) h) where
     asked : (r : Result Rebuilt RecoveryFault) → IfOk r (IsRebuiltFrom hs least start.knows.config.master will order)
         → IfErr r (IsRefusedFrom hs least start.knows.config.master will order)
         → IsOfHeld (survivors (is_kept kept) shown_first) start.knows.config.master will order r
     asked (Ok b) is other = (hs, shown, is)
     asked (Err e) other is = inr (hs, shown, is)
 
-    prefix : (r : Result Rebuilt RecoveryFault) → IfOk r (IsSomePrefix hs least start.knows.config.master)
+    pub prefix : (r : Result Rebuilt RecoveryFault) → IfOk r (IsSomePrefix hs least start.knows.config.master)
         → IfOk r (λ b. (count : ℕ) × IsRecovered (log_of stop.knows) count b)
     prefix (Ok b) is =
         is (log_of stop.knows) shown_last (is_kept kept) sound_left of_master old (λ h of. shown h)
     prefix (Err e) is = tt
 
-    loss : Covers start.knows.config.tablets will
+    pub loss : (r : Result Rebuilt RecoveryFault) → IfErr r (IsSomeLoss hs least start.knows.config.master will order)
+        → Covers start.knows.config.tablets will
         → NamesHeld (survivors (is_kept kept) shown_first) start.knows.config.master will order
-        → (r : Result Rebuilt RecoveryFault) → IfErr r (IsSomeLoss hs least start.knows.config.master will order)
         → IfErr r (λ e. IsLossOrMemory e
         × (BothSurvive (IsHome (log_of stop.knows)) (newest_opened (log_of stop.knows)) shown_last
         stop.knows.config.master (is_kept kept) → IsWant e))
-    loss covers names (Ok b) is = tt
-    loss covers names (Err e) is =
+    loss (Ok b) is covers names = tt
+    loss (Err e) is covers names =
         let lost = is (log_of stop.knows) shown_last (is_kept kept) (newest_opened (log_of stop.knows)) sound_left
         newest_left of_master old (λ h of. shown h) (covers_stop covers) (names hs shown) in (
           lost.0,
@@ -113,6 +99,22 @@ module _ (start stop : World) (steps : List Step) (kept : List ℕ) (will : List
               (is_kept kept))
               of_master both),
         )
+
+    -- what some backups show of the fleet gives a prefix, or a loss
+    pub drilled : (r : Result Rebuilt RecoveryFault) → IfOk r (IsSomePrefix hs least start.knows.config.master)
+        → IfErr r (IsSomeLoss hs least start.knows.config.master will order)
+        → IfOk r (IsRebuiltFrom hs least start.knows.config.master will order)
+        → IfErr r (IsRefusedFrom hs least start.knows.config.master will order)
+        → IsDrill start steps kept will order answers r left
+    drilled r recovered refused rebuilt fault = record {
+      stop = stop;
+      run = ran;
+      fleet = same;
+      valid = valid;
+      asked = asked r rebuilt fault;
+      prefix = prefix r recovered;
+      loss = loss r refused;
+    }
 
   -- if memory for an inventory ran out, nothing is named as lost
   pub drilled_without : (e : RecoveryFault) → IsLossOrMemory e → IsWant e

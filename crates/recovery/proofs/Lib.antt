@@ -5,6 +5,8 @@ pub mod Recoveries
 pub mod Asked
 pub mod AskedOnce
 pub mod Drilling
+pub mod Takings
+pub mod Heading
 pub mod Lives
 pub mod Outliving
 pub mod Succeeding

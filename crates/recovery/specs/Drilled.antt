@@ -1,11 +1,11 @@
 -- A master's steps, its end, and its recovery from what some backups hold.
-use Rattle.std.specs.Prelude.{◌≡◌, ◌⊎◌, ℕ, List, Result, Ok, Err, IfOk, IfErr}
+use Rattle.std.specs.Prelude.{◌≡◌, ◌⊎◌, ◌↔◌, ℕ, List, None, Result, Ok, Err, IfOk, IfErr}
 use Rattle.tablet_will.specs.declared.part.Part.{Part}
 use Rattle.claims.specs.declared.rebuilt.Rebuilt.{Rebuilt}
 use Rattle.replica.specs.declared.holding.Holding.{Holding}
 use Rattle.replica.specs.Picture.{FleetState, Shown, AreHeld, shown_of, survivors}
 use Rattle.replica.specs.Survival.{BothSurvive}
-use Rattle.replay.specs.master.failover_model.Data.{IsHome}
+use Rattle.replay.specs.master.failover_model.Data.{IsHome, durable_of}
 use Rattle.replay.specs.master.failover_bytes.Choice.{newest_opened}
 use Rattle.replay.specs.master.master_state.declared.step.Refusal.{Refusal}
 use Rattle.replay.specs.master.master_state.declared.step.Step.{Step}
@@ -48,3 +48,12 @@ pub record IsDrill (start : World) (steps : List Step) (kept : List ℕ) (will :
       BothSurvive (IsHome (log_of stop.knows)) (newest_opened (log_of stop.knows))
       (shown_of left stop.knows.config.master) stop.knows.config.master (is_kept kept)
       → IsWant e))
+
+-- The master told its durable count, and how many pushes an open failover still needed, as it stopped.
+pub record IsTold (start : World) (steps : List Step) (answers : List (Result StepAnswer Refusal)) (durable pushes : ℕ)
+    (left : FleetState) : Type 0 where
+  pub stop : World
+  pub run : IsRun start steps answers stop
+  pub fleet : left ≡ stop.fleet
+  pub count : durable ≡ durable_of (log_of stop.knows)
+  pub calm : (stop.knows.failover ≡ None) ↔ (pushes ≡ 0)

@@ -2,7 +2,10 @@
 
 ghost use Rattle.std.specs.Prelude.{◌≡◌, ◌≤◌, IfOk, IfErr};
 ghost use Rattle.replay.specs.master.World.{world};
-ghost use Rattle.recovery.specs.Drilled.{IsDrill};
+ghost use Rattle.recovery.specs.Drilled.{IsDrill, IsTold};
+ghost use Rattle.recovery.specs.Headline.{Headline};
+ghost use Rattle.recovery.specs.Kept.{is_kept};
+ghost use Rattle.recovery.specs.Seen.{seen};
 
 use crate::inventory::inventory_of;
 use crate::recovery::{RecoveryFault, recover};
@@ -15,10 +18,13 @@ use replica::Fleet;
 use std::alloc::Global;
 use tablet_will::Will;
 
-/// What the steps answered, what was recovered after them, and the fleet as it was left.
+/// What the steps answered, how many commands were durable then, how many pushes an open failover still needed, what
+/// was recovered, and the fleet as it was left.
 #[derive(Drop)]
 pub struct Drill<F> {
     pub answers: Vec<Result<StepAnswer, Refusal>>,
+    pub durable: u64,
+    pub pushes_left: u64,
     pub recovered: Result<Rebuilt, RecoveryFault>,
     pub fleet: F,
 }
@@ -37,6 +43,11 @@ pub fn run_drill<F: Fleet>(
     ensures drill { IfOk result (λ d.
         IsDrill (world F.state master) steps.now kept.now will.now order.now d.answers.items d.recovered
         (F.state d.fleet)) }
+    ensures headline { IfOk result (λ d.
+        Headline (seen (world F.state master)) steps.now d.answers.items d.durable d.pushes_left (F.state d.fleet)
+        (is_kept kept.now) will.now order.now d.recovered) }
+    ensures told { IfOk result (λ d.
+        IsTold (world F.state master) steps.now d.answers.items d.durable d.pushes_left (F.state d.fleet)) }
     ensures backups { IfOk result (λ d. master.knows.config.backups ≤ (F.state d.fleet).backups) }
     ensures refused { IfErr result (λ e. world F.state e.1 ≡ world F.state master) }
 {
@@ -46,6 +57,8 @@ pub fn run_drill<F: Fleet>(
         Ok(answers) => answers,
         Err(fault) => return Err((fault, master)),
     };
+    let durable = master.durable();
+    let pushes_left = master.failover_left();
     let fleet = master.crash();
     let recovered = match inventory_of(alloc, &fleet, kept) {
         Ok(inventory) => recover(alloc, &inventory, number, fleet.least(number), will, order),
@@ -53,6 +66,8 @@ pub fn run_drill<F: Fleet>(
     };
     Ok(Drill {
         answers,
+        durable,
+        pushes_left,
         recovered,
         fleet,
     })

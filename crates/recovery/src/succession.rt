@@ -134,6 +134,8 @@ fn live<F: Bench>(
     master.show_valid();
     let Drill {
         answers,
+        durable,
+        pushes_left,
         recovered,
         fleet,
     } = match run_drill(
@@ -152,6 +154,8 @@ fn live<F: Bench>(
         Err(fault) => {
             return Err(End::NotRecovered(Drill {
                 answers,
+                durable,
+                pushes_left,
                 recovered: Err(fault),
                 fleet,
             }));
@@ -169,6 +173,8 @@ fn live<F: Bench>(
         Err((why, fleet)) => Err(End::NotAdopted(
             Drill {
                 answers,
+                durable,
+                pushes_left,
                 recovered: Ok(recovered),
                 fleet,
             },

@@ -1,0 +1,179 @@
+-- The headline, from what a run keeps and what a recovery gives.
+use Rattle.std.proofs.Common.{◌≡◌, ℕ, ◌<◌, ◌≤◌, Bool, true, false, List, [], ◌∷◌, inl, inr, length, take, refl, sym, ap, subst, ◌∙◌}
+use Rattle.std.specs.Prelude.{◌↔◌, ◌⊎◌, Some, None, if◌then◌else◌, Result, Ok, Err, IfOk, IfErr}
+use Rattle.entry.specs.declared.key.Key.{Key}
+use Rattle.tablet_will.specs.declared.part.Part.{Part}
+use Rattle.claims.specs.declared.fault.ReplayFault.TheVariants as replay_fault
+use Rattle.claims.specs.declared.rebuilt.Rebuilt.{Rebuilt}
+use Rattle.recovery_plan.specs.declared.fault.PlanFault.TheVariants as plan_fault
+use Rattle.entry.specs.Meaning.{contents_of}
+use Rattle.replica.specs.Picture.{FleetState, Shown, shown_of, survivors}
+use Rattle.replica.specs.Survival.{BothSurvive}
+use Rattle.rebuilding.specs.declared.order.GroupOrder.{GroupOrder}
+use Rattle.rebuilding.specs.declared.order.GroupOrder.TheVariants.{Forward, Reverse, Given}
+use Rattle.versioned_map.specs.declared.command.Record.{Record}
+use Rattle.versioned_map.specs.History.{IsLegal, commands_of}
+use Rattle.versioned_map.specs.Versioned.{State, after}
+use Rattle.replay.specs.master.failover_model.Data.{IsHome, durable_of}
+use Rattle.replay.specs.master.failover_bytes.Choice.{newest_opened}
+use Rattle.replay.specs.master.master_state.declared.config.Config.{Config}
+use Rattle.replay.specs.master.master_state.declared.step.Refusal.{Refusal}
+use Rattle.replay.specs.master.master_state.declared.step.Refusal.TheVariants as refusal
+use Rattle.replay.specs.master.master_state.declared.step.Step.{Step}
+use Rattle.replay.specs.master.master_state.declared.step.Step.TheVariants.{Push}
+use Rattle.replay.specs.master.master_state.declared.step.StepAnswer.{StepAnswer}
+use Rattle.replay.specs.master.master_state.Causes.{is_done}
+use Rattle.replay.specs.master.master_state.Data.{Origin}
+use Rattle.replay.specs.master.master_state.Log.{log_of, opening_of}
+use Rattle.replay.specs.master.Steps.{IsRun, Steps}
+use Rattle.replay.specs.master.Survive.{lost}
+use Rattle.replay.specs.master.Valid.{IsValid}
+use Rattle.replay.specs.master.World.{World}
+use Rattle.recovery.specs.declared.recovery.RecoveryFault.{RecoveryFault}
+use Rattle.recovery.specs.declared.recovery.RecoveryFault.TheVariants as fault
+use Rattle.recovery.specs.Headline.{Asked, Headline, IsEmpty, IsLoss, IsMapAfter, IsNoMemory, IsWholeOrder, MakeOf, records_of}
+use Rattle.recovery.specs.Headline.{EndDone, IsDonePush}
+use Rattle.recovery.specs.Seen.{seen}
+use Rattle.recovery.specs.Kept.{is_kept}
+use Rattle.recovery.specs.Orders.{Covers, NamesHeld}
+use Rattle.recovery.specs.Recovered.{IsRecovered, IsLossOrMemory, IsWant}
+use Rattle.recovery.proofs.Counting.{orders_name}
+use Rattle.recovery.proofs.Drilling.{run_keeps}
+use Rattle.recovery.proofs.Takings.{led_all, made_all}
+
+-- the origin of a master stays
+origin_keeps : (old new : World) (steps : List Step) (answers : List (Result StepAnswer Refusal))
+    → IsRun old steps answers new → new.knows.origin ≡ old.knows.origin
+origin_keeps old new [] [] run = ap (λ (w : World). w.knows.origin) run
+origin_keeps old new [] (a ∷ rest) run = absurd run
+origin_keeps old new (s ∷ ss) [] run = absurd run
+origin_keeps old new (s ∷ ss) (a ∷ rest) run = origin_keeps run.0 new ss rest run.3 ∙ run.2.keeps.origin
+
+-- ---- once nothing waits
+
+nothing_waits : (halted done : Bool) → (if halted then Some refusal.Halted else if done then Some refusal.Nothing else None)
+    ≡ Some refusal.Nothing → done ≡ true
+nothing_waits true done is = absurd (cc)
+nothing_waits false true is = refl
+nothing_waits false false is = absurd (cc)
+
+-- all is durable once a push finds nothing that waits
+by_push : (s : Step) (a : Result StepAnswer Refusal) → IsDonePush s a → (old new : World) → Steps old s a new
+    → is_done new.knows ≡ true
+by_push Push (Err refusal.Nothing) done old new (inl h) =
+    subst (λ (w : World). is_done w.knows ≡ true) (sym h.1)
+    (nothing_waits old.knows.is_halted (is_done old.knows) h.0)
+by_push Push (Err refusal.Nothing) done old new (inr (test, inl h)) = let never = h.2 in absurd (cc)
+by_push Push (Err refusal.Nothing) done old new (inr (test, inr (inl h))) = let never = h.1 in absurd (cc)
+by_push Push (Err refusal.Nothing) done old new (inr (test, inr (inr h))) = absurd h
+by_push _ _ done old new h = absurd done
+
+at_end : (old new : World) (steps : List Step) (answers : List (Result StepAnswer Refusal))
+    → IsRun old steps answers new → EndDone steps answers → is_done new.knows ≡ true
+at_end old new (s ∷ []) (a ∷ []) run ends =
+    subst (λ (w : World). is_done w.knows ≡ true) (sym run.3) (by_push s a ends old run.0 run.1)
+at_end old new (s ∷ []) (a ∷ b ∷ rest) run ends = absurd run.3
+at_end old new (s ∷ t ∷ ss) (a ∷ []) run ends = absurd run.3
+at_end old new (s ∷ t ∷ ss) (a ∷ b ∷ rest) run ends = at_end run.0 new (t ∷ ss) (b ∷ rest) run.3 ends
+at_end old new [] answers run ends = absurd ends
+at_end old new (s ∷ ss) [] run ends = absurd run
+
+-- ---- refusals
+
+-- a loss or want of memory, in the headline's words
+loss_or : (e : RecoveryFault) → IsLossOrMemory e → IsLoss e ⊎ IsNoMemory e
+loss_or (fault.Plan plan_fault.NoHead) is = inl tt
+loss_or (fault.Plan (plan_fault.HeadTooOld id)) is = inl tt
+loss_or (fault.Plan (plan_fault.HeadClosed id)) is = inl tt
+loss_or (fault.Plan (plan_fault.Missing id)) is = inl tt
+loss_or (fault.Plan (plan_fault.BadReplica b id)) is = absurd is
+loss_or (fault.Plan plan_fault.NoMemory) is = inr tt
+loss_or (fault.Replay replay_fault.NoMemory) is = inr tt
+loss_or (fault.Replay _) is = absurd is
+
+want : (e : RecoveryFault) → IsWant e → IsNoMemory e
+want (fault.Plan plan_fault.NoMemory) is = tt
+want (fault.Plan _) is = absurd is
+want (fault.Replay replay_fault.NoMemory) is = tt
+want (fault.Replay _) is = absurd is
+
+-- a whole order names each group of whatever is shown
+names_held : (order : GroupOrder) → IsWholeOrder order → (shown : Shown) (master : ℕ) (will : List Part)
+    → NamesHeld shown master will order
+names_held Forward whole shown master will hs held = (orders_name hs shown.least master will).0
+names_held Reverse whole shown master will hs held = (orders_name hs shown.least master will).1
+names_held (Given numbers) whole shown master will hs held = absurd whole
+
+module _ (start stop : World) (steps : List Step) (kept : List ℕ) (will : List Part) (order : GroupOrder)
+    (answers : List (Result StepAnswer Refusal)) (ran : IsRun start steps answers stop)
+    (left : FleetState) (same : left ≡ stop.fleet) (valid : IsValid stop.knows left)
+    (durable pushes : ℕ) (told : durable ≡ durable_of (log_of stop.knows))
+    (calm : (stop.knows.failover ≡ None) ↔ (pushes ≡ 0)) where
+  config_is : stop.knows.config ≡ start.knows.config
+  config_is = run_keeps start stop steps answers ran
+
+  opening_is : opening_of stop.knows ≡ opening_of start.knows
+  opening_is = ap (λ (o : Origin). record { contents = contents_of o.objects; safe = o.safe })
+      (origin_keeps start stop steps answers ran)
+
+  abbrev Loss : RecoveryFault → Type 0
+  Loss e = IsLossOrMemory e × (
+      BothSurvive (IsHome (log_of stop.knows)) (newest_opened (log_of stop.knows))
+      (shown_of left stop.knows.config.master) stop.knows.config.master (is_kept kept) → IsWant e)
+
+  -- a sound drill has the headline
+  pub headline : (r : Result Rebuilt RecoveryFault)
+      → IfOk r (λ b. (count : ℕ) × IsRecovered (log_of stop.knows) count b)
+      → (Covers start.knows.config.tablets will
+      → NamesHeld (survivors (is_kept kept) (shown_of left start.knows.config.master)) start.knows.config.master will
+      order
+      → IfErr r (λ e. IsLossOrMemory e × (
+      BothSurvive (IsHome (log_of stop.knows)) (newest_opened (log_of stop.knows))
+      (shown_of left stop.knows.config.master) stop.knows.config.master (is_kept kept) → IsWant e)))
+      → Headline (seen start) steps answers durable pushes left (is_kept kept) will order r
+  headline r prefix loss = record {
+    history = stop.knows.history;
+    interleaved = made_all start stop steps answers ran;
+    replied = subst (λ (st : State). IsLegal st stop.knows.history) opening_is valid.legal;
+    takes = asked.0;
+    stopped = subst (λ (f : FleetState). MakeOf start.knows.config.master start.fleet asked.0 f) (sym same) asked.1;
+    rebuilds = rebuilds r prefix;
+    acknowledged = λ ends.
+        told ∙ valid.pushed (at_end start stop steps answers ran ends);
+    refuses = λ covers whole. refuses r (loss covers (names_held order whole _ _ will));
+    never = λ covers whole none few. never none few r (loss covers (names_held order whole _ _ will));
+  } where
+    asked : (xs : List Asked) × MakeOf start.knows.config.master start.fleet xs stop.fleet
+    asked = led_all start stop steps answers ran
+
+    rebuilds : (r : Result Rebuilt RecoveryFault)
+        → IfOk r (λ b. (count : ℕ) × IsRecovered (log_of stop.knows) count b)
+        → IfOk r (IsMapAfter (opening_of start.knows) stop.knows.history durable)
+    rebuilds (Err e) is = tt
+    rebuilds (Ok b) is =
+        let whole = is.1 in
+        subst (λ (st : State). IsMapAfter st stop.knows.history durable b) opening_is (record {
+          count = is.0;
+          holds = subst (λ (n : ℕ). n ≤ is.0) (sym told) whole.durable;
+          within = whole.within;
+          exactly = whole.exactly;
+          once = whole.order;
+          safe = whole.safe;
+        })
+
+    refuses : (r : Result Rebuilt RecoveryFault) → IfErr r Loss → IfErr r (λ e. IsLoss e ⊎ IsNoMemory e)
+    refuses (Ok b) is = tt
+    refuses (Err e) is = loss_or e is.0
+
+    never : pushes ≡ 0 → length (lost (is_kept kept) start.knows.config.backups) < start.knows.config.replicas
+        → (r : Result Rebuilt RecoveryFault) → IfErr r Loss
+        → IfErr r (λ e. IsNoMemory e ⊎ IsEmpty (after (opening_of start.knows) (commands_of stop.knows.history)))
+    never none few (Ok b) is = tt
+    never none few (Err e) is =
+        elim (valid.survive (is_kept kept) (calm.1 none)
+        (subst (λ (c : Config). length (lost (is_kept kept) c.backups) < c.replicas) (sym config_is) few))
+        as (λ _. IsNoMemory e ⊎ IsEmpty (after (opening_of start.knows) (commands_of stop.knows.history))) [
+          | inl both ↦ inl (want e (is.1 both))
+          | inr empty ↦ inr
+              (subst (λ (st : State). IsEmpty (after st (commands_of stop.knows.history))) opening_is empty)
+        ]

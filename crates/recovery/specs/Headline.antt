@@ -1,0 +1,156 @@
+-- The headline, a field for each phrase: after any interleaving of client, compaction, cleaning and rolling steps,
+-- stopped after any step, recovery from honest surviving replicas rebuilds, however segments are divided and replayed,
+-- exactly the objects and versions of the versioned map after a prefix of the commands that holds every acknowledged
+-- one; it refuses only by naming a lost head or segment, and never where both survive.
+use Rattle.std.specs.Prelude.{◌≡◌, ◌⊎◌, ℕ, ◌<◌, ◌≤◌, List, [], ◌∷◌, ◌++◌, map, take, length, Bool, None}
+use Rattle.std.specs.Prelude.{Result, Ok, Err, IfOk, IfErr}
+use Rattle.std.specs.List.Sorted.{IsStrictlySortedBy}
+use Rattle.entry.specs.declared.entry.Object.{Object}
+use Rattle.entry.specs.declared.key.Key.{Key}
+use Rattle.entry.specs.declared.tablet.Tablet.{Tablet}
+use Rattle.entry.specs.Meaning.{contents_of}
+use Rattle.entry.specs.Order.{key_cmp}
+use Rattle.versioned_map.specs.declared.command.Record.{Record}
+use Rattle.versioned_map.specs.History.{IsLegal, commands_of}
+use Rattle.versioned_map.specs.Versioned.{State, IsSafeAfter, after}
+use Rattle.replica.specs.declared.op.TakeFault.{TakeFault}
+use Rattle.replica.specs.Op.{ActValue}
+use Rattle.replica.specs.Picture.{FleetState}
+use Rattle.replica.specs.Registry.{RaiseGives}
+use Rattle.replica.specs.Take.{TakeGives}
+use Rattle.tablet_will.specs.declared.part.Part.{Part}
+use Rattle.claims.specs.declared.fault.ReplayFault.TheVariants as replay_fault
+use Rattle.claims.specs.declared.rebuilt.Rebuilt.{Rebuilt}
+use Rattle.rebuilding.specs.declared.order.GroupOrder.{GroupOrder}
+use Rattle.rebuilding.specs.declared.order.GroupOrder.TheVariants.{Forward, Reverse, Given}
+use Rattle.recovery_plan.specs.declared.fault.PlanFault.TheVariants as plan_fault
+use Rattle.replay.specs.master.master_state.declared.step.Refusal.{Refusal}
+use Rattle.replay.specs.master.master_state.declared.step.Refusal.TheVariants.{Nothing}
+use Rattle.replay.specs.master.master_state.declared.step.Step.{Step}
+use Rattle.replay.specs.master.master_state.declared.step.Step.TheVariants.{Apply, Push}
+use Rattle.replay.specs.master.master_state.declared.step.StepAnswer.{StepAnswer}
+use Rattle.replay.specs.master.master_state.declared.step.StepAnswer.TheVariants.{Applied}
+use Rattle.replay.specs.master.Survive.{lost}
+use Rattle.recovery.specs.declared.recovery.RecoveryFault.{RecoveryFault}
+use Rattle.recovery.specs.declared.recovery.RecoveryFault.TheVariants as fault
+use Rattle.recovery.specs.Orders.{Covers}
+
+-- ---- a master
+
+-- What the headline sees of a master as it begins, and of its fleet: how many backups there are, how many replicas a
+-- segment has, the map that its history begins with, and its commands so far.
+pub record Seen : Type 0 where
+  pub master : ℕ
+  pub backups : ℕ
+  pub replicas : ℕ
+  pub tablets : List Tablet
+  pub opening : State
+  pub history : List Record
+  pub fleet : FleetState
+
+-- ---- steps
+
+-- the record of a command that was accepted, with its reply
+abbrev pub record_of : Step → Result StepAnswer Refusal → List Record
+record_of (Apply seat command) (Ok (Applied place reply)) =
+    record { seat = seat; command = command; reply = reply } ∷ []
+record_of _ _ = []
+
+-- those of steps with these answers, in order
+abbrev pub records_of : List Step → List (Result StepAnswer Refusal) → List Record
+records_of (step ∷ steps) (answer ∷ answers) = record_of step answer ++ records_of steps answers
+records_of _ _ = []
+
+-- the step is a push, and nothing waited for one
+abbrev pub IsDonePush : Step → Result StepAnswer Refusal → Type 0
+IsDonePush Push (Err Nothing) = Unit {0}
+IsDonePush _ _ = ⊥
+
+-- the last of the steps is so
+abbrev pub EndDone : List Step → List (Result StepAnswer Refusal) → Type 0
+EndDone (step ∷ []) (answer ∷ []) = IsDonePush step answer
+EndDone (step ∷ steps) (answer ∷ answers) = EndDone steps answers
+EndDone _ _ = ⊥
+
+-- ---- takes
+
+-- What a backup was asked to do with its replica of a segment, and what it answered; or what the registry was: to let no
+-- older head be used than this one.
+pub data Asked : Type 0 where
+  Backup : ℕ → ℕ → ActValue → Result Unit TakeFault → Asked
+  Registry : ℕ → Result Unit TakeFault → Asked
+
+-- what that makes of the fleet
+abbrev pub Makes : ℕ → Asked → FleetState → FleetState → Type 0
+Makes master (Backup b segment act answer) f g =
+    TakeGives f b (record { master = master; segment = segment; act = act }) answer g
+Makes master (Registry id answer) f g = RaiseGives f master id answer g
+
+-- what all of them make of it, in order
+abbrev pub MakeOf : ℕ → FleetState → List Asked → FleetState → Type 0
+MakeOf master f [] g = g ≡ f
+MakeOf master f (a ∷ more) g = (mid : FleetState) × Makes master a f mid × MakeOf master mid more g
+
+-- ---- what comes back
+
+-- Each key once, with the version and the value that the map has after this many of the commands. Every durable one is
+-- among them. The safe version is above each version that a key had.
+pub record IsMapAfter (opening : State) (history : List Record) (durable : ℕ) (r : Rebuilt) : Type 0 where
+  pub count : ℕ
+  pub holds : durable ≤ count
+  pub within : count ≤ length history
+  pub exactly : contents_of r.objects ≡ (after opening (take count (commands_of history))).contents
+  pub once : IsStrictlySortedBy key_cmp (map (λ (o : Object). o.key) r.objects)
+  pub safe : IsSafeAfter opening (take count (commands_of history)) r.safe
+
+-- a head or a segment is named as lost
+abbrev pub IsLoss : RecoveryFault → Type 0
+IsLoss (fault.Plan plan_fault.NoHead) = Unit {0}
+IsLoss (fault.Plan (plan_fault.HeadTooOld id)) = Unit {0}
+IsLoss (fault.Plan (plan_fault.HeadClosed id)) = Unit {0}
+IsLoss (fault.Plan (plan_fault.Missing id)) = Unit {0}
+IsLoss _ = ⊥
+
+-- memory ran out
+abbrev pub IsNoMemory : RecoveryFault → Type 0
+IsNoMemory (fault.Plan plan_fault.NoMemory) = Unit {0}
+IsNoMemory (fault.Replay replay_fault.NoMemory) = Unit {0}
+IsNoMemory _ = ⊥
+
+-- an order that names each group: the refusal of another one names the group that it leaves out or names twice
+abbrev pub IsWholeOrder : GroupOrder → Type 0
+IsWholeOrder Forward = Unit {0}
+IsWholeOrder Reverse = Unit {0}
+IsWholeOrder (Given numbers) = ⊥
+
+-- no key has anything
+abbrev pub IsEmpty : State → Type 0
+IsEmpty st = (k : Key) → st.contents k ≡ None
+
+-- ---- the headline
+
+-- A master took steps and answered them. At its end it told how many of its commands were durable, and how many pushes
+-- an open failover still needed. The fleet was left so, some backups of it were kept, and this was recovered of them.
+pub record Headline (start : Seen) (steps : List Step) (answers : List (Result StepAnswer Refusal)) (durable pushes : ℕ)
+    (left : FleetState) (keep : ℕ → Bool) (will : List Part) (order : GroupOrder)
+    (recovered : Result Rebuilt RecoveryFault) : Type 0 where
+  -- 'after any interleaving of client, compaction, cleaning and rolling steps': the history has just the commands that
+  -- were accepted, with their replies, and these are the versioned map's
+  pub history : List Record
+  pub interleaved : history ≡ start.history ++ records_of steps answers
+  pub replied : IsLegal start.opening history
+  -- 'stopped after any step': the fleet is what takes made of it, each whole or not at all
+  pub takes : List Asked
+  pub stopped : MakeOf start.master start.fleet takes left
+  -- 'rebuilds .. exactly the objects and versions of the versioned map after a prefix of the commands that holds every
+  -- acknowledged one'
+  pub rebuilds : IfOk recovered (IsMapAfter start.opening history durable)
+  -- 'every acknowledged one': what is answered once it is durable. Once a push finds nothing that waits, all of it is.
+  pub acknowledged : EndDone steps answers → durable ≡ length history
+  -- 'it refuses only by naming a lost head or segment': or if memory runs out
+  pub refuses : Covers start.tablets will → IsWholeOrder order → IfErr recovered (λ e. IsLoss e ⊎ IsNoMemory e)
+  -- 'and never where both survive': where no failover is open, and fewer backups are lost than a segment has replicas.
+  -- Before a head was ever open the table is empty, and no head may be left.
+  pub never : Covers start.tablets will → IsWholeOrder order → pushes ≡ 0
+      → length (lost keep start.backups) < start.replicas
+      → IfErr recovered (λ e. IsNoMemory e ⊎ IsEmpty (after start.opening (commands_of history)))
