@@ -1,6 +1,7 @@
 //! What lies under the lock.
 
 ghost use Rattle.std.specs.Prelude.{◌≡◌, ◌↔◌, IsTrue, IfOk, OnErr};
+ghost use Rattle.std.specs.Option.{is_some};
 ghost use Rattle.store_step.specs.master.Shown.{IsShown, NeedsMemory};
 ghost use Rattle.store_step.specs.master.World.{limited_world, world};
 ghost use Rattle.locked_log.specs.Held.{Held, held};
@@ -67,6 +68,13 @@ impl<F: Fleet, B: Naming> State<F, B> {
         ensures { IsTrue result ↔ Knows self.now.book seat.now }
     {
         is_known(&self.book, seat)
+    }
+
+    /// Whether a pass is open. It takes no memory.
+    pub fn has_pass_held(&self) -> bool
+        ensures { result ≡ is_some self.now.master.knows.pass }
+    {
+        self.master.has_pass()
     }
 
     /// Shows what the look asks for. Nothing changes.

@@ -1,6 +1,7 @@
 //! A pass of a master: it begins, copies entry by entry, and its survivor is sealed. What it leaves is freed.
 
 ghost use Rattle.std.specs.Prelude.{◌≡◌, None, true, IfOk, IfErr, OnErr};
+ghost use Rattle.std.specs.Option.{is_some};
 ghost use Rattle.tablet_will.specs.Sizes.{are_sizes};
 ghost use Rattle.master_core.specs.master_space.Choosing.{chosen, next_step, pending_step, NeedsChoice};
 ghost use Rattle.master_core.specs.master_state.Log.{state_now};
@@ -31,6 +32,13 @@ impl<F: Fleet> Master<F> {
         ensures refused { OnErr result ((self.now.knows.pass ≡ None) × NeedsChoice self.now.knows) }
     {
         self.core.next_step()
+    }
+
+    /// Whether a pass is open. It takes no memory.
+    pub fn has_pass(&self) -> bool
+        ensures { result ≡ is_some self.now.knows.pass }
+    {
+        self.core.pass.is_some()
     }
 
     /// The step that is under way: an open failover goes on, then an open pass, then a roll, and then what waits is freed.
