@@ -1,7 +1,7 @@
 -- If fewer backups are lost than a segment has replicas, the head and the segments survive.
 use Rattle.std.proofs.Common.{◌≡◌, ℕ, zero, suc, ◌⊎◌, ◌<◌, ◌≤◌, inl, inr, Bool, true, false, List, [], ◌∷◌, ◌++◌, length}
-use Rattle.std.proofs.Common.{max, map, take, refl, sym, ap, subst, ◌∙◌, arith}
-use Rattle.std.specs.Prelude.{Option, Some, None, IfSome, IsSome, IsSomeAnd, is_none, nat_le, ◌==◌, ◌||◌, if◌then◌else◌}
+use Rattle.std.proofs.Common.{max, refl, sym, ap, subst, ◌∙◌, arith}
+use Rattle.std.specs.Prelude.{Option, Some, None, IfSome, IsSome, is_none, ◌==◌, if◌then◌else◌}
 use Rattle.std.specs.Prelude.{option_to_list}
 use Rattle.std.specs.Option.{option_map, option_map_or}
 use Rattle.std.proofs.lemmas.Bool.{and_parts, or_parts, cases_eq, le-leb, leb-true}
@@ -11,11 +11,11 @@ use Rattle.entry.specs.declared.key.Key.{Key}
 use Rattle.entry.specs.declared.entry.Entry.{Entry}
 use Rattle.entry.specs.Bag.{IsAmong}
 use Rattle.entry.specs.Meaning.{Versioned}
-use Rattle.entry.specs.Text.{Opening, opening_in, listed_ids}
+use Rattle.entry.specs.Text.{Opening, listed_ids}
 use Rattle.entry.proofs.BagLemmas.{among_either}
 use Rattle.entry.proofs.ListLemmas.{all_among}
-use Rattle.replica.specs.Picture.{Replica, FleetState}
-use Rattle.replica.specs.Survival.{HoldsHead, IsHomeLeft, IsHeadLeft, HeadSurvives, IsNewestLeft, SegmentsSurvive}
+use Rattle.replica.specs.Picture.{FleetState}
+use Rattle.replica.specs.Survival.{IsHomeLeft, IsHeadLeft, HeadSurvives, SegmentsSurvive}
 use Rattle.versioned_map.specs.declared.command.Record.{Record}
 use Rattle.versioned_map.specs.History.{commands_of}
 use Rattle.versioned_map.specs.Represents.{Represents}
@@ -23,40 +23,41 @@ use Rattle.versioned_map.specs.Versioned.{State, after}
 use Rattle.images.specs.Image.{Image}
 use Rattle.images.specs.Sorted.{replicas_of}
 use Rattle.master_core.specs.cleaner.declared.pass.Pass.{Pass}
-use Rattle.master_core.specs.cleaner.Passes.{survivor_ids, is_at_end, is_ready as is_ready_pass}
+use Rattle.master_core.specs.cleaner.Passes.{survivor_ids, is_at_end}
 use Rattle.master_core.specs.cleaner.Seals.{first_lacking}
 use Rattle.master_core.proofs.cleaner.Lacking.{none_is_lacking}
 use Rattle.log_head.specs.declared.head.Roll.{Roll}
-use Rattle.log_head.specs.Head.{HeadValue, IsRollValue}
+use Rattle.log_head.specs.Head.{IsRollValue}
 use Rattle.log_head.specs.Log.{head_of, start_of}
-use Rattle.log_head.specs.log_model.Data.{Start, ids_of, digest_for, records_before}
+use Rattle.log_head.specs.log_model.Data.{Start, ids_of, records_before}
 use Rattle.log_head.specs.log_model.Ids.{has, without}
 use Rattle.log_head.proofs.log_model.Lengths.{ids_listed}
 use Rattle.master_core.specs.failover_model.Text.{Text, Replica as ModelReplica}
-use Rattle.master_core.specs.failover_model.Data.{Head, Mode, FailData, IsHome, IsNew, opening_for, front_entries, new_of}
-use Rattle.master_core.specs.failover_model.Data.{state_of, state_after}
+use Rattle.master_core.specs.failover_model.Data.{Head, IsHome, IsNew, opening_for, front_entries, new_of}
+use Rattle.master_core.specs.failover_model.Data.{state_after}
 use Rattle.master_core.specs.failover_model.Log.{Texts, IsBase, IsReplica, IsLogHeld}
 use Rattle.master_core.specs.failover_bytes.Choice.{Counts, IsNewestCounted, is_opened as is_counted, greater}
 use Rattle.master_core.specs.failover_bytes.Choice.{greatest_opened, newest_opened}
 use Rattle.master_core.specs.failover_bytes.Spelled.{read_replica}
-use Rattle.master_core.proofs.failover_bytes.NewestHomes.{homes_hold_newest, taker}
+use Rattle.master_core.proofs.failover_bytes.NewestHomes.{taker}
 use Rattle.master_core.specs.failover_clean.Fleet.{read_of, shown_for}
 use Rattle.master_core.proofs.clean_model.CommitDigest.{all_out, without_from}
 use Rattle.master_core.proofs.failover_clean.KeptFleets.{kept_is_sound}
 use Rattle.master_core.specs.master_state.Budget.{victims_of, survivors_of, is_committing}
 use Rattle.master_core.specs.master_state.Data.{MasterData}
-use Rattle.master_core.specs.master_state.Invariant.{AreApart, IsCore, IsOpenPass, IsRollOf, listed_now, listed_with}
+use Rattle.master_core.specs.master_state.Invariant.{AreApart, IsCore, IsRollOf, listed_now, listed_with}
 use Rattle.master_core.specs.master_state.Ledger.{took_in}
-use Rattle.master_core.specs.master_state.Log.{placed, is_opened, is_headless, in_force, log_of, memory_of, state_now}
+use Rattle.master_core.specs.master_state.Log.{placed, is_opened, is_headless, log_of, memory_of, state_now}
 use Rattle.master_core.proofs.master_state.Homes.{length_left}
 use Rattle.master_core.proofs.master_state.Imaging.{same_id, ids_in}
 use Rattle.master.specs.Invariant.{IsWellKept}
-use Rattle.master.specs.Placed.{holders, IsPlaced}
+use Rattle.master.specs.Placed.{holders}
 use Rattle.master.specs.Survive.{lost, SurvivesFew}
 use Rattle.master.proofs.Counting.{kept_unfailed}
-use Rattle.master.proofs.InForce.{open_or, headed_or, real_head, none_head, roll_id, force_headed, force_headless, headless}
+use Rattle.master.proofs.InForce.{open_or, headed_or, roll_id, force_headed, force_headless, headless}
 use Rattle.master.proofs.InForce.{new_headed}
 use Rattle.master.proofs.LogSets.{closed_in}
+use Rattle.master.proofs.NewestHomes.{newest_held}
 use Rattle.master.proofs.OpenPasses.{open_now}
 use Rattle.master.proofs.Placements.{homes_of, image_there}
 use Rattle.master.proofs.Placing.{placed_length, placed_home, core_within, core_later, left_has, all_work, few_left}
@@ -290,8 +291,8 @@ module _ (d : MasterData) (f : FleetState) (kept : IsWellKept d f) (keep : ℕ �
         let home = newest_left.left in (
           home.0,
           home.2,
-          homes_hold_newest d.config.master (log_of d) texts (shown_for (log_of d) f) (read_of (log_of d) f)
-              newest_left.t home.0 kept.kept.spelled held counts home.1,
+          newest_held d.config.master (log_of d) texts (shown_for (log_of d) f) (read_of (log_of d) f)
+              kept.kept.spelled held newest_left.t home.0 counts home.1,
         )
 
     -- ---- the segments

@@ -36,6 +36,7 @@ pub mod Keeping
 pub mod KeptLoading
 pub mod Accepted
 pub mod Runs
+pub mod NewestHomes
 pub mod FewLost
 pub mod Validity
 mod Retired
