@@ -1,4 +1,5 @@
 pub mod MapLemmas
 pub mod Tops
 pub mod Meant
+pub mod Clashing
 pub mod ReplayLemmas

@@ -30,6 +30,7 @@ use Rattle.claims.proofs.ScanLemmas.{keys_of, tops-sorted}
 use Rattle.partition_replay.specs.declared.kept.Kept.{Kept}
 use Rattle.partition_replay.specs.declared.replay.Replayed.{Replayed}
 use Rattle.partition_replay.specs.Keeping.{kept_at, kept_in, IsKept, AreTops, AddsTops, IsUnkept, HaveClash}
+use Rattle.partition_replay.specs.Keeping.{Clashes, ClashAbove}
 use Rattle.partition_replay.specs.Replaying.{Replaying, IsPlaced, IsLowest, IsLowestMissing, IsReplayed, IsTakeFault}
 use Rattle.partition_replay.specs.Replaying.{IsFinishFault, AreSettled, taken, lower_of}
 use Rattle.partition_replay.proofs.MapLemmas.{Entries, same_key, same_where}
@@ -150,16 +151,18 @@ module _ (gs : List Grouped) (g : Grouped) (old : Entries) (are : AreToppedBy gs
       (subst HaveClash (sym claims_more) (h (claims_of (bag_of gs)) are))
 
   pub take_fault : (r : Replaying) (f : ReplayFault) → gs ≡ r.groups → IsPlaced r g.segment g.partition
-      → IsUnkept (kept_at old) (claims_of g.entries) f → IsTakeFault r g f
-  take_fault r fault.NoMemory is placed h = tt
-  take_fault r fault.Clash is placed h = (
+      → IsUnkept (kept_at old) (claims_of g.entries) f → (f ≡ fault.Clash → ClashAbove (kept_at old) g.entries)
+      → IsTakeFault r g f
+  take_fault r fault.NoMemory is placed h met = placed
+  take_fault r fault.Clash is placed h met = (
     placed,
+    subst (λ (hs : List Grouped). Clashes (bag_of hs) g.entries) is (met refl (bag_of gs) are),
     λ clean. unclean_more h (subst (λ (hs : List Grouped). IsClean (among (bag_of (hs ++ g ∷ [])))) (sym is) clean),
   )
-  take_fault r (fault.Double segment) is placed h = absurd h
-  take_fault r fault.Stranger is placed h = absurd h
-  take_fault r (fault.MissingGroup segment) is placed h = absurd h
-  take_fault r (fault.Stray key) is placed h = absurd h
+  take_fault r (fault.Double segment) is placed h met = absurd h
+  take_fault r fault.Stranger is placed h met = absurd h
+  take_fault r (fault.MissingGroup segment) is placed h met = absurd h
+  take_fault r (fault.Stray key) is placed h met = absurd h
 
 pub settled_more : (r : Replaying) (g : Grouped) (new : Entries) → AreToppedBy (r.groups ++ g ∷ []) new
     → AreSettled (taken r g)
@@ -168,14 +171,14 @@ settled_more r g new are = one_top (bag_of (r.groups ++ g ∷ [])) (kept_at new)
 -- ---- the end
 
 -- claims that do not clash are refused for memory alone
-pub unfinished : (r : Replaying) (cs : List Claimed) (f : ReplayFault) → has_clash cs ≡ false
-    → IsRefusedFor (has_clash cs) f → IsFinishFault r f
-unfinished r cs fault.NoMemory clean h = tt
-unfinished r cs fault.Clash clean h = absurd (cc)
-unfinished r cs (fault.Double segment) clean h = absurd h
-unfinished r cs fault.Stranger clean h = absurd h
-unfinished r cs (fault.MissingGroup segment) clean h = absurd h
-unfinished r cs (fault.Stray key) clean h = absurd h
+pub unfinished : (r : Replaying) (cs : List Claimed) (f : ReplayFault) → IsLowest r.ids r.groups None
+    → has_clash cs ≡ false → IsRefusedFor (has_clash cs) f → IsFinishFault r f
+unfinished r cs fault.NoMemory whole clean h = whole
+unfinished r cs fault.Clash whole clean h = absurd (cc)
+unfinished r cs (fault.Double segment) whole clean h = absurd h
+unfinished r cs fault.Stranger whole clean h = absurd h
+unfinished r cs (fault.MissingGroup segment) whole clean h = absurd h
+unfinished r cs (fault.Stray key) whole clean h = absurd h
 
 -- what is left of the claims that are kept, without the dead, in order
 module _ (kept : Key → Option Kept) (all live after : List Claim) (is : live ≡ filter (λ (c : Claim). not c.dead) all)

@@ -8,9 +8,7 @@ use Rattle.entry.specs.declared.key.Key.{Key}
 use Rattle.entry.specs.Bag.{IsAmong}
 use Rattle.entry.proofs.BagLemmas.{among_left, among_right, among_last, among_push, among_either}
 use Rattle.entry.proofs.KeyOrder.{key_eq_tells}
-use Rattle.entry.specs.declared.entry.Entry.{Entry}
-use Rattle.std.specs.List.{cons_option}
-use Rattle.claims.specs.Claims.{Claimed, claim_of, claims_of, rank}
+use Rattle.claims.specs.Claims.{Claimed, rank}
 use Rattle.claims.specs.declared.fault.ReplayFault.{ReplayFault}
 use Rattle.claims.specs.declared.fault.ReplayFault.TheVariants as fault
 use Rattle.partition_replay.specs.declared.kept.Kept.{Kept}
@@ -134,15 +132,3 @@ unkept_more old mid cs ds rest (fault.Double segment) first h = absurd h
 unkept_more old mid cs ds rest fault.Stranger first h = absurd h
 unkept_more old mid cs ds rest (fault.MissingGroup segment) first h = absurd h
 unkept_more old mid cs ds rest (fault.Stray key) first h = absurd h
-
--- ---- the claims of entries, one after another
-
-module _ (came : List Claimed) (e : Entry) (es left : List Entry) (c : Claimed) (total : List Claimed)
-    (first : es ≡ e ∷ left) (some : Some c ≡ claim_of e) (held : came ++ claims_of es ≡ total) where
-  pub came_front : came ++ (c ∷ claims_of left) ≡ total
-  came_front =
-      ap (λ (cs : List Claimed). came ++ cs)
-      (sym (ap claims_of first ∙ ap (λ (o : Option Claimed). cons_option o (claims_of left)) (sym some))) ∙ held
-
-  pub came_more : (came ++ c ∷ []) ++ claims_of left ≡ total
-  came_more = append_assoc came (c ∷ []) (claims_of left) ∙ came_front

@@ -1,16 +1,20 @@
 -- What a replay keeps in memory: of each key the claim of greatest rank.
-use Rattle.std.specs.Prelude.{◌≡◌, ◌<◌, ◌≤◌, List, ◌++◌, map, Option, Some, None}
+use Rattle.std.specs.Prelude.{◌≡◌, ◌≢◌, ◌<◌, ◌≤◌, List, ◌∷◌, ◌++◌, map, Option, Some, None}
 use Rattle.std.specs.Prelude.{Bool, true, false, ⊤}
 use Rattle.std.specs.Option.{option_or}
 use Rattle.std.specs.Map.{lookup}
 use Rattle.entry.specs.declared.key.Key.{Key}
+use Rattle.entry.specs.declared.entry.Object.{Object}
+use Rattle.entry.specs.declared.entry.Entry.{Entry}
+use Rattle.entry.specs.declared.entry.Entry.TheVariants as entry
 use Rattle.entry.specs.Bag.{IsAmong}
+use Rattle.entry.specs.Meaning.{Versioned, IsTop, among, object_at}
 use Rattle.entry.specs.Order.{key_eq}
 use Rattle.claims.specs.declared.placed.PlacedKey.{PlacedKey}
 use Rattle.claims.specs.declared.fault.ReplayFault.{ReplayFault}
 use Rattle.claims.specs.declared.fault.ReplayFault.TheVariants as fault
 use Rattle.claims.specs.Placed.{placed_key}
-use Rattle.claims.specs.Claims.{Claimed, rank, is_clash}
+use Rattle.claims.specs.Claims.{Claimed, claims_of, rank, is_clash}
 use Rattle.partition_replay.specs.declared.kept.Kept.{Kept}
 
 -- what is kept of a key, as its claim
@@ -75,3 +79,25 @@ abbrev pub IsUnkept : (Key → Option Kept) → List Claimed → ReplayFault →
 IsUnkept old cs fault.NoMemory = ⊤
 IsUnkept old cs fault.Clash = (all : List Claimed) → AreTops all old → HaveClash (all ++ cs)
 IsUnkept old cs _ = ⊥
+
+-- ---- entries as they come
+
+-- One of the entries is an object that clashes as it comes. Of its key an object is kept: among the entries before it,
+-- those in front of it here too, that one has the greatest rank. It has the same version and another value.
+pub record Clashes (before es : List Entry) : Type 0 where
+  pub front : List Entry
+  pub object : Object
+  pub back : List Entry
+  pub parts : es ≡ front ++ (entry.Object object ∷ back)
+  pub kept : Versioned
+  pub top : IsTop object.key (among (before ++ front)) (object_at object.key kept)
+  pub version : kept.version ≡ object.version
+  pub value : kept.value ≢ object.value
+
+-- behind all entries of which this is kept, one of these clashes
+abbrev pub ClashAbove : (Key → Option Kept) → List Entry → Type 0
+ClashAbove old es = (before : List Entry) → AreTops (claims_of before) old → Clashes before es
+
+-- behind all entries of which this is kept, none does
+abbrev pub PassAbove : (Key → Option Kept) → List Entry → Type 0
+PassAbove old es = (before : List Entry) → AreTops (claims_of before) old → ¬ Clashes before es

@@ -1,6 +1,6 @@
 -- A replay of one partition: what it is to take, what it took, and what that stands for.
 use Rattle.std.specs.Prelude.{◌≡◌, ℕ, ◌+◌, ◌<◌, max, List, [], ◌∷◌, ◌++◌, map, All, Option, Some, None}
-use Rattle.std.specs.Prelude.{nat_le, if◌then◌else◌, ⊤}
+use Rattle.std.specs.Prelude.{nat_le, if◌then◌else◌}
 use Rattle.std.specs.List.Sorted.{IsStrictlySortedBy}
 use Rattle.entry.specs.declared.key.Key.{Key}
 use Rattle.entry.specs.declared.entry.Object.{Object}
@@ -9,6 +9,7 @@ use Rattle.entry.specs.Format.{IsObject}
 use Rattle.entry.specs.Order.{key_cmp}
 use Rattle.entry.specs.Meaning.{Versioned, IsTop, IsMeaning, IsClean, among, bound_of, object_at, contents_of}
 use Rattle.division.specs.Groups.{Grouped, bag_of, segments_of}
+use Rattle.partition_replay.specs.Keeping.{Clashes}
 use Rattle.partition_replay.specs.declared.replay.Replayed.{Replayed}
 use Rattle.claims.specs.declared.fault.ReplayFault.{ReplayFault}
 use Rattle.claims.specs.declared.fault.ReplayFault.TheVariants as fault
@@ -48,9 +49,14 @@ abbrev pub AreSettled : Replaying → Type 0
 AreSettled r = (k : Key) (x y : Versioned) → IsTop k (among (bag_of r.groups)) (object_at k x)
     → IsTop k (among (bag_of r.groups)) (object_at k y) → x ≡ y
 
--- the group is wanted and new, and leaves each key with one object at most
+-- an object of the group clashes with what is kept of its key as it comes
+abbrev pub HasClash : Replaying → Grouped → Type 0
+HasClash r g = Clashes (bag_of r.groups) g.entries
+
+-- The group is wanted and new. None of its objects clashes as it comes, and it leaves each key with one object at most.
 pub record Takes (r : Replaying) (g : Grouped) : Type 0 where
   pub placed : IsPlaced r g.segment g.partition
+  pub passed : ¬ HasClash r g
   pub settled : AreSettled (taken r g)
 
 -- why no group of this segment and partition is taken
@@ -60,12 +66,12 @@ IsMisplaced r segment partition (fault.Double named) =
 IsMisplaced r segment partition fault.Stranger = ¬ IsWanted r segment partition
 IsMisplaced r segment partition _ = ⊥
 
--- why a group is not taken
+-- Why a group is not taken. Memory is wanted only for one that is wanted and new.
 abbrev pub IsTakeFault : Replaying → Grouped → ReplayFault → Type 0
 IsTakeFault r g (fault.Double named) = IsMisplaced r g.segment g.partition (fault.Double named)
 IsTakeFault r g fault.Stranger = IsMisplaced r g.segment g.partition fault.Stranger
-IsTakeFault r g fault.NoMemory = ⊤
-IsTakeFault r g fault.Clash = IsPlaced r g.segment g.partition × (¬ AreClean (taken r g))
+IsTakeFault r g fault.NoMemory = IsPlaced r g.segment g.partition
+IsTakeFault r g fault.Clash = IsPlaced r g.segment g.partition × HasClash r g × (¬ AreClean (taken r g))
 IsTakeFault r g _ = ⊥
 
 -- ---- the end
@@ -95,7 +101,8 @@ abbrev pub lower_of : Option ℕ → ℕ → ℕ
 lower_of None id = id
 lower_of (Some low) id = if nat_le low id then low else id
 
+-- Why a replay does not end. Memory is wanted only once each segment has a group.
 abbrev pub IsFinishFault : Replaying → ReplayFault → Type 0
 IsFinishFault r (fault.MissingGroup id) = IsLowestMissing r.ids r.groups id
-IsFinishFault r fault.NoMemory = ⊤
+IsFinishFault r fault.NoMemory = IsLowest r.ids r.groups None
 IsFinishFault r _ = ⊥

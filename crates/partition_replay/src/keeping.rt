@@ -9,6 +9,7 @@ ghost use Rattle.claims.specs.Claims.{Claimed, claimed, claims_of};
 ghost use Rattle.claims.specs.declared.claim.Claim.{Claim as ClaimValue};
 ghost use Rattle.claims.specs.Placed.{placed_key};
 ghost use Rattle.partition_replay.specs.Keeping.{kept_at, kept_in, IsKept, IsAbove, DoesClash, AddsTops, IsUnkept};
+ghost use Rattle.partition_replay.specs.Keeping.{PassAbove, ClashAbove};
 
 use crate::kept::{Keeping, Kept};
 use claims::{Claim, PlacedKey, ReplayFault};
@@ -55,7 +56,11 @@ fn keep<'a>(
 ) -> Result<(), ReplayFault>
     ensures ok { OnOk result (AddsTops (kept_in fresh.old.entries kept.now.entries) (claimed claim.now ∷ [])
         (kept_in fresh.new.entries kept.now.entries)) }
+    ensures calm { OnOk result
+        (DoesClash (kept_in fresh.old.entries kept.now.entries (placed_key claim.now.key)) (claimed claim.now) → ⊥) }
     ensures err { IfErr result (IsUnkept (kept_in fresh.old.entries kept.now.entries) (claimed claim.now ∷ [])) }
+    ensures clash { IfErr result (λ fault. fault ≡ ReplayFault.Clash →
+        DoesClash (kept_in fresh.old.entries kept.now.entries (placed_key claim.now.key)) (claimed claim.now)) }
 {
     if !is_above(fresh, kept, claim)? {
         return Ok(());
@@ -74,7 +79,10 @@ pub fn gather<'a>(
 ) -> Result<Keeping<'a>, ReplayFault>
     ensures ok { IfOk result (λ fresh. AddsTops
         (kept_at kept.now.entries) (claims_of entries.now) (kept_in fresh.entries kept.now.entries)) }
+    ensures passed { OnOk result (PassAbove (kept_at kept.now.entries) entries.now) }
     ensures err { IfErr result (IsUnkept (kept_at kept.now.entries) (claims_of entries.now)) }
+    ensures clash { IfErr result (λ fault. fault ≡ ReplayFault.Clash →
+        ClashAbove (kept_at kept.now.entries) entries.now) }
 {
     let mut fresh = Keeping::with_capacity(alloc, entries.len())?;
     for entry in entries.iter() {

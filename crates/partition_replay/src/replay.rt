@@ -1,6 +1,6 @@
 //! A partition of a log, replayed group by group.
 
-ghost use Rattle.std.specs.Prelude.{◌≡◌, ◌==◌, ℕ, map, [], IfOk, IfErr, OnOk, OnErr};
+ghost use Rattle.std.specs.Prelude.{◌≡◌, ◌≢◌, ◌==◌, ℕ, map, [], IfOk, IfErr, OnOk, OnErr, IsErr};
 ghost use Rattle.std.specs.List.{list_any};
 ghost use Rattle.division.specs.Groups.{grouped};
 ghost use Rattle.division.specs.declared.group.Group.{Group as GroupValue};
@@ -12,7 +12,7 @@ use crate::kept::Keeping;
 use claims::{Objects, ReplayFault, safe_above, winners};
 use division::Group;
 use entry::SafeVersion;
-use std::alloc::Global;
+use std::alloc::{AllocError, Global};
 use std::marker::Model;
 
 /// What the groups of a partition stand for.
@@ -69,6 +69,17 @@ fn has_id(ids: &[u64], segment: u64) -> bool
     ids.iter().any(|id| *id == segment)
 }
 
+/// A copy of the ids. Of none it takes no memory.
+fn copied(alloc: Global, ids: &[u64]) -> Result<Vec<u64>, AllocError>
+    ensures ok { IfOk result (λ copy. copy.items ≡ ids.now) }
+    ensures err { IsErr result → ids.now ≢ [] }
+{
+    if ids.is_empty() {
+        return Ok(Vec::new(alloc));
+    }
+    Vec::from_slice(alloc, ids)
+}
+
 /// The lower of the two, if there are two.
 fn lower(lowest: Option<u64>, id: u64) -> u64
     ensures { result ≡ lower_of lowest id }
@@ -93,16 +104,16 @@ fn lowest_missing(ids: &[u64], groups: &[Group<'_>]) -> Option<u64>
 }
 
 impl<'a> Replay<'a> {
-    /// A replay of a partition of these segments, before the first group.
+    /// A replay of a partition of these segments, before the first group. Of no segments it takes no memory.
     pub fn new(alloc: Global, partition: u32, ids: &[u64]) -> Result<Replay<'a>, ReplayFault>
         ensures ok { IfOk result (λ replay.
             replay ≡ record { partition = partition; ids = ids.now; groups = [] }) }
-        ensures err { IfErr result (λ fault. fault ≡ ReplayFault.NoMemory) }
+        ensures err { IfErr result (λ fault. (fault ≡ ReplayFault.NoMemory) × (ids.now ≢ [])) }
     {
         Ok(Replay {
             alloc,
             partition,
-            ids: Vec::from_slice(alloc, ids)?,
+            ids: copied(alloc, ids)?,
             groups: Vec::new(alloc),
             kept: Keeping::new(alloc),
         })
@@ -126,8 +137,9 @@ impl<'a> Replay<'a> {
     }
 
     /// Takes a group. A Stranger is of another partition, or of no segment that is replayed. A Double's segment has a
-    /// group already. A Clash has an object of the version of the one that is kept of its key, with another value. The
-    /// tests are made in this order. A group that is refused changes nothing.
+    /// group already. A Clash has an object of the version of the one that is kept of its key as it comes, with another
+    /// value. The tests are made in this order, and memory is asked for after the first two. A group that is refused
+    /// changes nothing.
     ///
     /// What is kept of a key is its object or tombstone of greatest rank so far, of the groups before and of what this
     /// one has in front. So two objects that clash pass if a later version of their key came before the second of them.

@@ -1,10 +1,11 @@
-use Rattle.std.proofs.Common.{◌≡◌, ◌++◌, List}
-use Rattle.claims.specs.Claims.{Claimed, claims_of}
-use Rattle.partition_replay.specs.Keeping.{kept_at, kept_in, AddsTops}
+use Rattle.std.proofs.Common.{List}
+use Rattle.entry.specs.declared.entry.Entry.{Entry}
+use Rattle.partition_replay.specs.Keeping.{kept_at, kept_in}
+use Rattle.partition_replay.proofs.Clashing.{HasCome}
 use Rattle.partition_replay.proofs.keeping.gather.Given as goal
 
--- the claims that came, and what is kept of them
+-- the entries that came, what is kept of them, and what clashes
 abbrev pub invariant-loop-entry : goal.invariant-loop-entry
 invariant-loop-entry l =
-    (came : List Claimed) × (came ++ claims_of l.entry-iterator ≡ claims_of l.entries)
-    × AddsTops (kept_at l.kept.entries) came (kept_in l.fresh.entries l.kept.entries)
+    (front : List Entry) × HasCome (kept_at l.kept.entries) l.entries front l.entry-iterator
+    (kept_in l.fresh.entries l.kept.entries)

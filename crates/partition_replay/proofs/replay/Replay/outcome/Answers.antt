@@ -1,14 +1,14 @@
-use Rattle.std.proofs.Common.{rules, ◌≡◌, ap, map, max, subst, ◌∙◌, None, false}
+use Rattle.std.proofs.Common.{rules, ◌≡◌, ap, map, max, subst, sym, ◌∙◌, None, false}
 use Rattle.std.specs.Prelude.{List, ℕ}
 use Rattle.entry.specs.Bag.{IsAmong}
 use Rattle.division.specs.declared.group.Group.{Group}
-use Rattle.division.specs.Groups.{grouped, bag_of}
+use Rattle.division.specs.Groups.{Grouped, grouped, bag_of}
 use Rattle.claims.specs.declared.claim.Claim.{Claim}
 use Rattle.claims.specs.Claims.{Claimed, claimed, bound_of_claims, has_clash, objects_in, tops}
 use Rattle.claims.proofs.Bounds.{one_less}
 use Rattle.claims.proofs.ClaimOrder.{Rises, Rises-from_sorted}
 use Rattle.partition_replay.specs.Keeping.{kept_at, IsKept}
-use Rattle.partition_replay.specs.Replaying.{IsLowest, IsFinishFault}
+use Rattle.partition_replay.specs.Replaying.{Replaying, IsLowest, IsFinishFault}
 use Rattle.partition_replay.proofs.Meant.{unclashed}
 use Rattle.partition_replay.proofs.ReplayLemmas.{replayed, live_only, live_each, unfinished}
 use Rattle.partition_replay.proofs.replay.Replay.outcome.Goals.{After-as_slice-4}
@@ -31,6 +31,21 @@ each c =
     c.sort_unstable.new.self.items c.drop_dead.ensures c.sort_unstable.ensures.permutation
     c.in_ok-claims.ensures.only c.in_ok-claims.ensures.each
 
+-- once no group is missing
+none_missing : (seen ids : List ℕ) (shown gs : List Group) (r : Replaying) → seen ≡ ids → shown ≡ gs
+    → r.ids ≡ ids → r.groups ≡ map grouped gs → IsLowest seen (map grouped shown) None → IsLowest r.ids r.groups None
+none_missing seen ids shown gs r same alike listed taken h =
+    subst (λ (ns : List ℕ). IsLowest ns r.groups None) (same ∙ sym listed)
+    (subst (λ (hs : List Grouped). IsLowest seen hs None) (ap (map grouped) alike ∙ sym taken) h)
+
+pub returns-in_err-claims-clause-fault : goal.returns-in_err-claims-clause-fault
+returns-in_err-claims-clause-fault c =
+    let whole : IsLowest c.args.self.now.ids c.args.self.now.groups None =
+    none_missing c.as_slice.result.now _ c.as_slice-2.result.now _ c.args.self.now c.as_slice.ensures.value
+    c.as_slice-2.ensures.value (ap (λ (r : Replaying). r.ids) (sym c.self.view_is))
+    (ap (λ (r : Replaying). r.groups) (sym c.self.view_is)) c.in_default.ensures in
+    search (rules, whole)
+
 pub returns-in_err-objects-clause-fault : goal.returns-in_err-objects-clause-fault
 returns-in_err-objects-clause-fault c =
     let a = (goal.at.returns-in_err-objects-clause-fault c).After-as_slice-4 in
@@ -39,8 +54,12 @@ returns-in_err-objects-clause-fault c =
     ap (λ (cs : List Claim). has_clash (map claimed cs)) c.as_slice-4.ensures.value
     ∙ unclashed (bag_of (map grouped inside.groups.items)) (kept_at inside.kept.entries) c.self.invariant
     (map claimed c.sort_unstable.new.self.items) (rises a) (only a) (each a) in
+    let whole : IsLowest c.args.self.now.ids c.args.self.now.groups None =
+    none_missing c.as_slice.result.now _ c.as_slice-2.result.now _ c.args.self.now c.as_slice.ensures.value
+    c.as_slice-2.ensures.value (ap (λ (r : Replaying). r.ids) (sym c.self.view_is))
+    (ap (λ (r : Replaying). r.groups) (sym c.self.view_is)) c.in_default.ensures in
     let refused : IsFinishFault c.args.self.now c.in_err-objects.field-0.0 =
-    unfinished c.args.self.now (map claimed c.as_slice-4.result.now) c.in_err-objects.field-0.0 clean
+    unfinished c.args.self.now (map claimed c.as_slice-4.result.now) c.in_err-objects.field-0.0 whole clean
     c.in_err-objects.ensures.err in
     search (rules, refused)
 

@@ -5,7 +5,7 @@ use Rattle.division.specs.Groups.{Grouped, grouped, bag_of}
 use Rattle.claims.specs.Claims.{claims_of}
 use Rattle.entry.specs.declared.key.Key.{Key}
 use Rattle.partition_replay.specs.Keeping.{kept_at}
-use Rattle.partition_replay.specs.Replaying.{Replaying, IsTakeFault}
+use Rattle.partition_replay.specs.Replaying.{Replaying, IsTakeFault, HasClash}
 use Rattle.partition_replay.proofs.ReplayLemmas.{AreToppedBy, reordered, same_tops, tops_more, take_fault, settled_more}
 use Rattle.partition_replay.proofs.replay.Replay.take.Goals.{After-put}
 use Rattle.partition_replay.proofs.replay.Replay.take.Goals as goal
@@ -16,7 +16,7 @@ returns-in_err-fresh-clause-fault c =
     let refused : IsTakeFault c.args.self.now (grouped c.args.group) c.in_err-fresh.field-0.0 =
     take_fault gs (grouped c.args.group) c.self.inside.kept.entries c.self.invariant c.args.self.now
     c.in_err-fresh.field-0.0 (ap (λ (r : Replaying). r.groups) c.self.view_is) c.in_ok-check_place.ensures.ok
-    c.in_err-fresh.ensures.err in
+    c.in_err-fresh.ensures.err c.in_err-fresh.ensures.clash in
     search (rules, refused)
 
 -- to make room for more keys changes nothing of any
@@ -55,6 +55,9 @@ returns-clause-sound c =
     let a = (goal.at.returns-clause-sound c).After-put in
     record {
       placed = c.in_ok-check_place.ensures.ok;
+      passed =
+          subst (λ (r : Replaying). HasClash r (grouped c.args.group) → ⊥) c.self.view_is
+          (c.in_ok-fresh.ensures.passed (bag_of (map grouped c.self.inside.groups.items)) c.self.invariant);
       settled =
           settled_more c.args.self.now (grouped c.args.group) c.put.new.kept.entries
           (subst (λ (r : Replaying). AreToppedBy (r.groups ++ grouped c.args.group ∷ []) c.put.new.kept.entries)
