@@ -3,8 +3,8 @@
 
   support/program_test.py [--program=FILE] [NAME ..]
 
-It tests the text of the help, words and lines that no file of examples holds, streams that fail, a terminal, pipes, and how much memory
-the program has at each point of a script. A test that fails says what it wanted. The last line is 'N tests, M failed', and the
+It tests the text of the help, words and lines that no file of examples holds, streams that fail, a terminal, pipes, how much memory
+the program has at each point of a script, and recoveries of large tables. A test that fails says what it wanted. The last line is 'N tests, M failed', and the
 status is 1 if any failed. It needs python3 on Linux.
 """
 
@@ -346,10 +346,27 @@ def survivors_take_a_segment_each(program):
     memory_after(program, PASSES)
 
 
+# Recoveries. The log has several segments and the will several partitions, so that each of several threads has groups of its own.
+
+OBJECTS, PARTITIONS = 100_000, 10
+TABLE_WORDS = ["--segment=1048576", f"--seglet={G}", "--seglets=1024", "--tables=1", f"--objects={OBJECTS // PARTITIONS}"]
+
+
+def large_tables_are_recovered(program):
+    """One thread and several recover each object of a large table, and the last master goes on behind them."""
+    keys = [b"%08d" % number for number in range(OBJECTS)]
+    puts = b"".join(b"put 1 %s x\n" % key for key in keys)
+    table = b"".join(b"1 %s %d x\n" % (key, place) for place, key in enumerate(keys, 1)) + b"recovered %d\n" % OBJECTS
+    script = puts + b"will\ncrash\nrecover\nwill\ncrash\nrecover threads 4\nput 1 z x\n"
+    output, errors, status = run(program, script, TABLE_WORDS)
+    cut, last = output.count(b"partitions %d\n" % PARTITIONS), output.splitlines()[-1]
+    want((output.count(table), cut, last, errors, status), (2, 2, b"ok %d" % (OBJECTS + 1), b"", 0))
+
+
 TESTS = [
     help_is_printed, version_is_printed, words_are_text, lines_have_limits, a_reader_fails, a_writer_fails,
     input_comes_in_parts, pipes_show_each_answer, output_goes_in_blocks, a_terminal_shows_each_answer, a_terminal_shows_why, an_end_is_not_asked_for_again,
-    memory_is_taken_and_given_back, survivors_take_a_segment_each,
+    memory_is_taken_and_given_back, survivors_take_a_segment_each, large_tables_are_recovered,
 ]
 
 
