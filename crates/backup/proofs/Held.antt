@@ -2,22 +2,23 @@
 use Rattle.std.proofs.Common.{◌≡◌, ℕ, zero, suc, ◌+◌, ◌<◌, ◌≤◌, ltb, arith, List, length, drop}
 use Rattle.std.proofs.Common.{get_or, append_assoc, [], ◌∷◌, ◌++◌, map, Bool, true, false, cond}
 use Rattle.std.proofs.Common.{Some, refl, sym, ◌∙◌, ap, subst, inl, inr, ◌↔◌}
+use Rattle.std.specs.Prelude.{Option, IsSome, Result, Ok, Err, OnErr}
 use Rattle.std.specs.Map.{lookup}
 use Rattle.std.specs.List.{All, AllByRecursion, slice_get}
 use Rattle.std.specs.BTreeMap.{is_at}
 use Rattle.std.proofs.lemmas.List.Elements.{All-contains, All-map}
 use Rattle.std.proofs.lemmas.Map.Views.{tells_apart}
-use Rattle.std.proofs.lemmas.Option.{same_Some}
+use Rattle.std.proofs.lemmas.Option.{same_Some, slice_get_read}
 use Rattle.std.proofs.lemmas.List.{at_drop_more, get_or_default}
 use Rattle.std.proofs.lemmas.Bool.{ltb-true, ltb-false}
 use Rattle.entry.specs.Bag.{IsAmong}
 use Rattle.entry.proofs.BagLemmas.{among_place, among_left, among_right, among_either}
-use Rattle.replica.specs.Picture.{Replica, IsHeld}
+use Rattle.replica.specs.Picture.{Replica, Picture, AreHeld, IsHeld}
 use Rattle.replica.specs.declared.holding.Holding.{Holding}
 use Rattle.backup.specs.declared.memory.MemoryBackup.{MemoryBackup}
 use Rattle.backup.specs.Shelf.{replica_at, holding_of, holdings_of, IsInOrder}
 use Rattle.backup.specs.Slots.{place_cmp}
-use Rattle.backup.specs.State.{replica_on, picture_of}
+use Rattle.backup.specs.State.{replica_on, picture_of, HoldsAny, HoldsSome}
 use Rattle.backup.proofs.Places.{place_exact}
 use Rattle.backup.proofs.Shelves.{all_found}
 
@@ -109,6 +110,36 @@ one_shown backups b x is ordered h = (
   λ held. held_among b x h held.0 (rw (held.0, is) at held.1),
 )
 
+-- a backup that shows something holds a replica
+pub some_held : (backups : List MemoryBackup) (b : ℕ) (x : MemoryBackup) → slice_get backups b ≡ Some x → IsInOrder x
+    → 0 < length (holdings_of b x) → HoldsSome (picture_of backups) b
+some_held backups b x is ordered some = go x.replicas refl some
+  where
+    go : (es : List ((ℕ × ℕ) × Replica)) → x.replicas ≡ es → 0 < length (map (holding_of b) es)
+        → HoldsSome (picture_of backups) b
+    go [] e more = absurd (omega (arith, more))
+    go (k ∷ ks) e more =
+        let among : IsAmong (holding_of b k) (holdings_of b x) =
+        subst (λ (rs : List ((ℕ × ℕ) × Replica)). IsAmong (holding_of b k) (map (holding_of b) rs)) (sym e) (inl refl) in
+        let held = ((one_shown backups b x is ordered (holding_of b k)).0 among).1 in
+        (k.0.0, k.0.1, subst (λ (r : Option Replica). IsSome r) (sym held) refl)
+
+-- if all backups show something, one of them holds a replica
+pub any_held : (hs : List Holding) (p : Picture) → AreHeld hs p → 0 < length hs → HoldsAny p
+any_held [] p held some = absurd (omega (arith, some))
+any_held (h ∷ hs) p held some =
+    (h.backup, (h.master, h.segment, subst (λ (r : Option Replica). IsSome r) (sym ((held h).0 (inl refl))) refl))
+
+-- what a refusal has whatever it is
+pub on_err : {A B X : Type 0} (r : Result A B) → X → OnErr r X
+on_err (Ok a) x = tt
+on_err (Err e) x = x
+
+-- what is not Ok is refused
+pub of_err : {A B X : Type 0} (r : Result A B) → ((a : A) → r ≡ Ok a → ⊥) → OnErr r X → X
+of_err (Ok a) other x = absurd (other a refl)
+of_err (Err e) other x = x
+
 -- what all backups show is the picture
 pub all_shown : (backups : List MemoryBackup) → AreInOrder backups → (h : Holding)
     → IsAmong h (inventory_of 0 backups) ↔ IsHeld (picture_of backups) h
@@ -127,6 +158,9 @@ module _ (seen backups : List MemoryBackup) (i : ℕ) (x : MemoryBackup) (same :
 
   found : x ≡ get_or backups i x
   found = at ∙ ap (λ (ms : List MemoryBackup). get_or ms i x) same
+
+  pub is_there : slice_get backups i ≡ Some x
+  is_there = slice_get_read backups (length backups) i x refl within found
 
   pub shown_more : (old new all : List Holding) → new ≡ old ++ holdings_of i x
       → old ++ inventory_of i (drop i backups) ≡ all →

@@ -6,4 +6,5 @@ mod Held
 mod Rising
 mod Serving
 mod Others
+mod Freeing
 pub mod Empty

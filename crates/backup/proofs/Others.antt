@@ -1,5 +1,5 @@
 -- The replicas of other masters among those that backups show.
-use Rattle.std.proofs.Common.{◌≡◌, ℕ, inl, inr, List, [], ◌∷◌, ◌++◌, map, true}
+use Rattle.std.proofs.Common.{◌≡◌, ℕ, ◌+◌, ◌<◌, inl, inr, List, [], ◌∷◌, ◌++◌, map, true, zero, suc, length, length-append, get_or, arith}
 use Rattle.std.proofs.Common.{refl, sym, ap, subst, ◌∙◌}
 use Rattle.std.specs.Prelude.{filter, not, ◌==◌, Option, Some, None, IsSome}
 use Rattle.std.specs.List.{AllByRecursion}
@@ -9,12 +9,13 @@ use Rattle.std.proofs.lemmas.Bool.{cases_eq, ne_eqb}
 use Rattle.std.proofs.lemmas.Bool.Decides.{Decides-eqb}
 use Rattle.std.proofs.lemmas.List.Elements.{filter-append}
 use Rattle.entry.specs.Bag.{IsAmong}
-use Rattle.replica.specs.Picture.{Replica, Picture, AreHeld}
+use Rattle.replica.specs.Picture.{Replica, Picture, AreHeld, IsHeld}
 use Rattle.replica.specs.Retire.{AreOthers, HoldsOther, spot_cmp}
 use Rattle.replica.specs.declared.holding.Holding.{Holding}
 use Rattle.replica.specs.declared.spot.Spot.{Spot}
 use Rattle.backup.specs.Inventory.{holding_cmp, IsRising}
-use Rattle.backup.specs.Retire.{spot_of, spots_of_others}
+use Rattle.backup.specs.Shelf.{holding_of}
+use Rattle.backup.specs.Retire.{spot_of, spots_of_others, HoldsOthers}
 
 -- ---- one replica more
 
@@ -133,3 +134,40 @@ are_others keep hs p held rising = record {
         is_open = r.0.is_open;
       } in
       others_among keep hs h ((held h).1 r.1) holds.0
+
+-- one of those that are held is another master's
+pub other_held : (keep : ℕ) (hs : List Holding) (p : Picture) → 0 < length (spots_of_others keep hs)
+    → ((h : Holding) → IsAmong h hs → IsHeld p h) → HoldsOthers p keep
+other_held keep hs p some held = go (spots_of_others keep hs) refl some
+  where
+    go : (spots : List Spot) → spots_of_others keep hs ≡ spots → 0 < length spots → HoldsOthers p keep
+    go [] e more = absurd (omega (arith, more))
+    go (spot ∷ spots) e more =
+        let among : IsAmong spot (spots_of_others keep hs) =
+        subst (λ (xs : List Spot). IsAmong spot xs) (sym e) (inl refl) in
+        let s = among_others keep hs spot among in (
+          spot,
+          subst (λ (x : Spot). HoldsOther p keep x) s.at
+              (s.other, subst (λ (x : Option Replica). IsSome x) (sym (held s.h s.among)) refl),
+        )
+
+-- one of the last of some replicas is another master's
+pub other_left : (keep : ℕ) (xs ys : List Holding) → 0 < length (spots_of_others keep ys)
+    → 0 < length (spots_of_others keep (xs ++ ys))
+other_left keep xs ys some =
+    let whole : length (spots_of_others keep (xs ++ ys))
+    ≡ length (spots_of_others keep xs) + length (spots_of_others keep ys) =
+    ap length (others_append keep xs ys) ∙ length-append (spots_of_others keep xs) (spots_of_others keep ys) in
+    omega (arith, whole, some)
+
+-- a replica of a backup is another master's
+pub other_slot : (keep b : ℕ) (es : List ((ℕ × ℕ) × Replica)) (i : ℕ) (x : (ℕ × ℕ) × Replica) → i < length es
+    → x ≡ get_or es i x → (x.0.0 ≡ keep → ⊥) → 0 < length (spots_of_others keep (map (holding_of b) es))
+other_slot keep b [] i x less is other = absurd (omega (arith, less))
+other_slot keep b (y ∷ ys) zero x less is other =
+    let away : y.0.0 ≡ keep → ⊥ = λ e. other (ap (λ (z : (ℕ × ℕ) × Replica). z.0.0) is ∙ e) in
+    let first = other_first keep (holding_of b y) (map (holding_of b) ys) away in
+    subst (λ (spots : List Spot). 0 < length spots) (sym first) (omega arith)
+other_slot keep b (y ∷ ys) (suc i) x less is other =
+    other_left keep (holding_of b y ∷ []) (map (holding_of b) ys)
+    (other_slot keep b ys i x (omega (arith, less)) is other)

@@ -1,5 +1,5 @@
 -- Faults that are asked for, and what a take does by its answer.
-use Rattle.std.specs.Prelude.{◌≡◌, ℕ, ◌-◌, ◌<◌, false, Result, Ok, Err, if◌then◌else◌}
+use Rattle.std.specs.Prelude.{◌≡◌, ℕ, ◌+◌, ◌-◌, ◌<◌, false, Result, Ok, Err, if◌then◌else◌}
 use Rattle.replica.specs.declared.op.TakeFault.{TakeFault}
 use Rattle.replica.specs.declared.op.TakeFault.TheVariants as take_fault
 use Rattle.replica.specs.Op.{OpValue}
@@ -45,6 +45,21 @@ MeetsAsked Does old (Ok u) new = (IsDue old → ⊥) × (new.asked ≡ nearer ol
 MeetsAsked Does old (Err take_fault.Fault) new =
     IsDue old × (new.asked ≡ nothing_asked) × FaultsAsAsked Does old new
 MeetsAsked Does old (Err _) new = new.asked ≡ old.asked
+
+-- what is asked for once so many more ops were taken, none of which ended in the fault
+abbrev pub after_takes : ℕ → Asked → Asked
+after_takes count asked = record { takes = asked.takes - count; taken = asked.taken }
+
+-- one more take if the op of the fault is lost, which isn't counted
+abbrev pub lost_take : Asked → ℕ
+lost_take asked = if asked.taken then 0 else 1
+
+-- The takes of one call after another end in a fault just if it is the one that was asked for, and then they end. As
+-- long as it hasn't come, it is as many takes nearer as there were.
+abbrev pub MeetsAskedFreeing : MemoryFleet → Result Unit TakeFault → MemoryFleet → Type 0
+MeetsAskedFreeing old (Err take_fault.Fault) new = (new.asked ≡ nothing_asked) × (0 < old.asked.takes)
+    × (new.takes + lost_take old.asked ≡ old.takes + old.asked.takes)
+MeetsAskedFreeing old result new = new.asked ≡ after_takes (new.takes - old.takes) old.asked
 
 -- ---- without a fault
 

@@ -1,5 +1,5 @@
 -- What a fleet in memory holds.
-use Rattle.std.specs.Prelude.{ℕ, ◌==◌, List, length, Option, Some, None, not}
+use Rattle.std.specs.Prelude.{ℕ, ◌==◌, List, length, Option, Some, None, IsSome, not}
 use Rattle.std.specs.List.{slice_get}
 use Rattle.replica.specs.Picture.{Replica, Picture, FleetState, left_on}
 use Rattle.replica.specs.Take.{no_limit}
@@ -49,3 +49,11 @@ lost f b = record {
   faults = f.faults;
   least = f.least;
 }
+
+-- this backup holds a replica
+abbrev pub HoldsSome : Picture → ℕ → Type 0
+HoldsSome p b = (m : ℕ) × (s : ℕ) × IsSome (p b m s)
+
+-- some backup holds a replica
+abbrev pub HoldsAny : Picture → Type 0
+HoldsAny p = (b : ℕ) × HoldsSome p b

@@ -5,7 +5,7 @@ ghost use Rattle.std.specs.Prelude.{◌≤◌};
 use crate::memory::MemoryBackup;
 use crate::registry::Registry;
 use entry::NoMemory;
-use replica::{Act, Bench, Fleet, Holding, Inventory, Labels, Op, Spot, TakeFault, add_labels};
+use replica::{Act, Bench, Fleet, Holding, Inventory, Labels, Op, Spot, TakeFault};
 use std::alloc::Global;
 
 /// A fault that is asked for: of which take from now, 1 for the next one, and whether its op is taken. With 0 there is
@@ -57,14 +57,16 @@ pub struct MemoryFleet {
 }
 
 impl MemoryFleet {
-    ghost use Rattle.std.specs.Prelude.{◌≡◌, ◌≤◌, ◌<◌, ◌↔◌, ℕ, IfOk, IsTrue, if◌then◌else◌};
-    ghost use Rattle.replica.specs.Op.{shown_op};
+    ghost use Rattle.std.specs.Prelude.{◌≡◌, ◌≤◌, ◌<◌, ◌↔◌, ℕ, Err, IfOk, IsTrue, OnErr, if◌then◌else◌};
+    ghost use Rattle.replica.specs.Op.{shown_act, shown_op};
     ghost use Rattle.replica.specs.Picture.{FleetState, AreHeld, AreLabelsOf};
     ghost use Rattle.replica.specs.Retire.{AreOthers};
     ghost use Rattle.replica.specs.Take.{faulted, no_limit};
+    ghost use Rattle.backup.specs.Acts.{MayGrow};
     ghost use Rattle.backup.specs.Faults.{nothing_asked, IsDue, Serves, Fails, ServesRaise, FailsRaise};
     ghost use Rattle.backup.specs.Inventory.{IsRising, AreRising};
-    ghost use Rattle.backup.specs.State.{fleet_state, new_fleet, lost};
+    ghost use Rattle.backup.specs.Retire.{HoldsOthers};
+    ghost use Rattle.backup.specs.State.{fleet_state, new_fleet, lost, HoldsAny};
 
     /// A fleet of so many backups, which hold nothing. It isn't limited, and no fault is asked for.
     pub fn new(alloc: Global, backups: u64) -> Result<MemoryFleet, NoMemory>
@@ -105,10 +107,12 @@ impl MemoryFleet {
         }
     }
 
-    /// All replicas of all backups, by backup, then by master, then by segment. Their bytes stay with the backups.
+    /// All replicas of all backups, by backup, then by master, then by segment. Their bytes stay with the backups. It
+    /// takes no memory if there is none.
     pub fn inventory(&self, alloc: Global) -> Result<Inventory<'_>, NoMemory>
         ensures shown { IfOk result (λ hs. AreHeld hs (fleet_state self.entry.now).picture) }
         ensures rising { IfOk result (λ hs. IsRising hs) }
+        ensures memory { OnErr result (HoldsAny (fleet_state self.entry.now).picture) }
     {
         let mut list = Vec::new(alloc);
         for (backup, memory) in self.backups.iter().enumerate() {
@@ -117,20 +121,27 @@ impl MemoryFleet {
         Ok(Inventory::new(list))
     }
 
-    /// The labels of all replicas of all backups, by backup, then by master, then by segment.
+    /// The labels of all replicas of all backups, by backup, then by master, then by segment. It takes no memory if
+    /// there is none.
     pub fn labels(&self, alloc: Global) -> Result<Labels, NoMemory>
         ensures shown { IfOk result (AreLabelsOf (fleet_state self.now).picture) }
         ensures rising { IfOk result AreRising }
+        ensures memory { OnErr result (HoldsAny (fleet_state self.now).picture) }
     {
         let inventory = self.inventory(alloc)?;
-        let mut labels = Vec::with_capacity(alloc, inventory.as_slice().len())?;
-        add_labels(&mut labels, inventory.as_slice())?;
+        let holdings = inventory.as_slice();
+        let mut labels = Vec::with_capacity(alloc, holdings.len())?;
+        for holding in holdings {
+            labels.push_reserved(holding.label());
+        }
         Ok(Labels::new(labels))
     }
 
-    /// Where the replicas of other masters than `keep` are, by backup, then by master, then by segment.
+    /// Where the replicas of other masters than `keep` are, by backup, then by master, then by segment. It takes no
+    /// memory if there is none.
     fn others(&self, keep: u64) -> Result<Vec<Spot>, NoMemory>
-        ensures { IfOk result (λ spots. AreOthers spots.items (fleet_state self.now).picture keep) }
+        ensures others { IfOk result (λ spots. AreOthers spots.items (fleet_state self.now).picture keep) }
+        ensures memory { OnErr result (HoldsOthers (fleet_state self.now).picture keep) }
     {
         let mut list = Vec::new(self.alloc);
         for (backup, memory) in self.backups.iter().enumerate() {
@@ -166,6 +177,7 @@ impl MemoryFleet {
     fn serve(&mut self, backup: u64, op: &Op<'_>) -> Result<(), TakeFault>
         ensures serves { Serves (fleet_state self.old) backup (shown_op op.now) result (fleet_state self.new) }
         ensures asked { self.new.asked ≡ self.old.asked }
+        ensures memory { result ≡ Err TakeFault.NoMemory → MayGrow (shown_act op.now.act) }
     {
         if self.takes == self.end {
             return Err(TakeFault::Spent);
@@ -184,6 +196,7 @@ impl MemoryFleet {
         ensures serves { (mid : FleetState) × Serves (fleet_state self.old) backup (shown_op op.now) result mid }
         ensures same { fleet_state self.new ≡ fleet_state self.old }
         ensures asked { self.new.asked ≡ self.old.asked }
+        ensures memory { result ≡ Err TakeFault.NoMemory → MayGrow (shown_act op.now.act) }
     {
         if self.takes == self.end {
             return Err(TakeFault::Spent);
@@ -203,6 +216,7 @@ impl MemoryFleet {
         ensures serves { (mid : FleetState) × Serves (fleet_state self.old) backup (shown_op op.now) result mid
             × (fleet_state self.new ≡ (if self.old.asked.taken then mid else fleet_state self.old)) }
         ensures asked { self.new.asked ≡ self.old.asked }
+        ensures memory { result ≡ Err TakeFault.NoMemory → MayGrow (shown_act op.now.act) }
     {
         if self.asked.taken {
             self.serve(backup, op)
@@ -215,7 +229,8 @@ impl MemoryFleet {
     #[cold]
     fn fail(&mut self, backup: u64, op: &Op<'_>) -> Result<(), TakeFault>
         requires { IsDue self.old }
-        ensures { Fails self.old backup (shown_op op.now) result self.new }
+        ensures fails { Fails self.old backup (shown_op op.now) result self.new }
+        ensures memory { result ≡ Err TakeFault.NoMemory → MayGrow (shown_act op.now.act) }
     {
         match self.attempt(backup, op) {
             Ok(()) => Err(self.end_in_fault()),
@@ -272,25 +287,26 @@ impl MemoryFleet {
 }
 
 impl Fleet for MemoryFleet {
-    ghost use Rattle.std.specs.Prelude.{◌≡◌, ◌≤◌, ◌↔◌, [], IfOk, Err};
-    ghost use Rattle.replica.specs.Op.{shown_op};
+    ghost use Rattle.std.specs.Prelude.{◌≡◌, ◌≤◌, ◌↔◌, [], IfOk, OnErr, Err};
+    ghost use Rattle.replica.specs.Op.{shown_act, shown_op};
     ghost use Rattle.replica.specs.Picture.{AreHeldBy, IsOnce};
     ghost use Rattle.replica.specs.Registry.{RaiseGives};
     ghost use Rattle.replica.specs.Take.{TakeGives};
-    ghost use Rattle.backup.specs.Acts.{IsWrongOp};
+    ghost use Rattle.backup.specs.Acts.{IsWrongOp, MayGrow};
     ghost use Rattle.backup.specs.Faults.{TakesOp, TakesRaise, MeetsAsked};
     ghost use Rattle.backup.specs.Inventory.{IsRising};
-    ghost use Rattle.backup.specs.State.{fleet_state};
+    ghost use Rattle.backup.specs.State.{fleet_state, HoldsSome};
 
     ghost state = { fleet_state };
 
-    /// Hands an op to a backup. Spent is answered before Wrong, and NoMemory only if the op fits. A take ends in a fault
-    /// just if `fault_at` asked for that, and it wouldn't have been refused.
+    /// Hands an op to a backup. Spent is answered before Wrong, and NoMemory only if the op fits, and never to a Close or
+    /// a Free. A take ends in a fault just if `fault_at` asked for that, and it wouldn't have been refused.
     #[inline(always)]
     fn take(&mut self, backup: u64, op: &Op<'_>) -> Result<(), TakeFault>
         ensures gives { TakeGives (fleet_state self.old) backup (shown_op op.now) result (fleet_state self.new) }
         ensures spent { (result ≡ Err TakeFault.Spent) ↔ ((fleet_state self.old).takes ≡ (fleet_state self.old).end) }
         ensures wrong { (result ≡ Err TakeFault.Wrong) ↔ IsWrongOp (fleet_state self.old) backup (shown_op op.now) }
+        ensures memory { result ≡ Err TakeFault.NoMemory → MayGrow (shown_act op.now.act) }
         ensures faults { MeetsAsked (TakesOp backup (shown_op op.now)) self.old result self.new }
     {
         if self.asked.takes == 0 {
@@ -334,12 +350,14 @@ impl Fleet for MemoryFleet {
         self.registry.least(master)
     }
 
-    /// All replicas of one backup, by master, then by segment. Their bytes stay with the backup.
+    /// All replicas of one backup, by master, then by segment. Their bytes stay with the backup. It takes no memory if
+    /// there is none.
     fn holdings(&self, alloc: Global, backup: u64) -> Result<Vec<Holding<'_>>, NoMemory>
         ensures shown { IfOk result (λ hs. AreHeldBy hs.items (fleet_state self.entry.now).picture backup) }
         ensures once { IfOk result (λ hs. IsOnce hs.items) }
         ensures none { IfOk result (λ hs. (fleet_state self.entry.now).backups ≤ backup → hs.items ≡ []) }
         ensures rising { IfOk result (λ hs. IsRising hs.items) }
+        ensures memory { OnErr result (HoldsSome (fleet_state self.entry.now).picture backup) }
     {
         let mut list = Vec::new(alloc);
         let Some(memory) = self.backups.as_slice().get(backup as usize) else {
@@ -363,8 +381,11 @@ impl Fleet for MemoryFleet {
 }
 
 impl Bench for MemoryFleet {
-    ghost use Rattle.std.specs.Prelude.{◌≡◌};
+    ghost use Rattle.std.specs.Prelude.{◌≡◌, ℕ, Err};
+    ghost use Rattle.replica.specs.Retire.{Retires};
     ghost use Rattle.replica.specs.Take.{limited};
+    ghost use Rattle.backup.specs.Faults.{MeetsAskedFreeing};
+    ghost use Rattle.backup.specs.Retire.{HoldsOthers};
     ghost use Rattle.backup.specs.State.{fleet_state};
 
     fn limit(&mut self, n: u64)
@@ -381,7 +402,17 @@ impl Bench for MemoryFleet {
         self.asked = Asked { takes: n, taken };
     }
 
-    fn retire(&mut self, keep: u64) -> Result<(), TakeFault> {
+    /// Frees the replicas of all masters but `keep`: by backup, then by master, then by segment, one Free a take. It
+    /// ends at the first fault, and what was freed before stays freed. NoMemory comes before the first take alone, and
+    /// only if there is a replica to be freed. A Free ends in a fault just if `fault_at` asked for that.
+    fn retire(&mut self, keep: u64) -> Result<(), TakeFault>
+        ensures retires { Retires (fleet_state self.old) keep result (fleet_state self.new) }
+        ensures same { (b s : ℕ) →
+            (fleet_state self.new).picture b keep s ≡ (fleet_state self.old).picture b keep s }
+        ensures memory { result ≡ Err TakeFault.NoMemory →
+            HoldsOthers (fleet_state self.old).picture keep × (fleet_state self.new ≡ fleet_state self.old) }
+        ensures faults { MeetsAskedFreeing self.old result self.new }
+    {
         let Ok(spots) = self.others(keep) else {
             return Err(TakeFault::NoMemory);
         };

@@ -267,6 +267,8 @@ impl MemoryBackup {
         ensures listed { OnOk result
             (list.new.items ≡ list.old.items ++ spots_of_others keep (holdings_of backup self.now)) }
         ensures ordered { IsInOrder self.now }
+        // Memory is wanted only for the place of such a replica.
+        ensures needed { OnErr result (0 < length (spots_of_others keep (holdings_of backup self.now))) }
     {
         for (place, _) in self.replicas.as_slice() {
             if place.0 != keep {

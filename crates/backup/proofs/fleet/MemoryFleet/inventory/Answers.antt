@@ -1,8 +1,9 @@
-use Rattle.std.proofs.Common.{◌≡◌, [], ◌++◌, sym, ◌∙◌, drop, arith}
+use Rattle.std.proofs.Common.{◌≡◌, ◌<◌, [], ◌++◌, length, sym, ◌∙◌, drop, arith}
 use Rattle.std.proofs.lemmas.List.{append-nil, drop_all}
 use Rattle.std.proofs.lemmas.List.Elements.{recursion_from_All}
-use Rattle.backup.specs.Shelf.{IsInOrder}
+use Rattle.backup.specs.Shelf.{IsInOrder, holdings_of}
 use Rattle.backup.proofs.Held.{AreInOrder, inventory_of, all_shown, shown_more, ordered_more}
+use Rattle.backup.proofs.Held.{is_there, on_err, some_held}
 use Rattle.backup.proofs.Rising.{rising_inventory}
 use Rattle.backup.proofs.fleet.MemoryFleet.inventory.Goals as goal
 
@@ -37,3 +38,15 @@ loop-backup-preserved c =
           ordered_more seen backups c.loop-backup.backup c.memory-item.result same c.loop-backup-test.true
           c.memory-item.is c.in_ok-show.ensures.ordered c.loop-backup.invariant.ordered;
     }
+
+pub returns-in_err-show-clause-memory : goal.returns-in_err-show-clause-memory
+returns-in_err-show-clause-memory c =
+    let backups = c.args.self.now.backups.items in
+    let b = c.loop-backup.backup in
+    let x = c.memory-item.result in
+    let is = is_there c.deref-memory-items.result.now backups b x c.deref-memory-items.ensures.value
+    c.loop-backup-test.true c.memory-item.is in
+    let full = c.in_err-show.ensures.full in
+    let within = c.loop-backup.list.ok.1 in
+    let some : 0 < length (holdings_of b x) = omega (arith, full, within) in
+    on_err c.from_residual.result (b, some_held backups b x is c.in_err-show.ensures.ordered some)
