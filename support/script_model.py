@@ -8,8 +8,8 @@ recovery reads the replicas' bytes, and nothing else. The wills of `will` change
 however a log is divided, and in whatever order and by however many workers it is replayed. So a recovery of the model is of the
 whole log at once.
 
-One client without a cleaner has one way to run. For others no model can tell in which order threads take the lock: the model
-raises Undetermined there, and `script_witness.py` says what may come after it.
+One client without a cleaner has one way to run. Of others nobody can tell in which order threads take the lock: the model raises
+Undetermined there, `script_orders.py` follows each order if there are few, and `script_witness.py` says what may come after others.
 """
 
 import re
@@ -22,8 +22,22 @@ REFUSED = "refused NoMemory\n"
 NO_MEMORY = "ramlog: no memory\n"
 
 
+def hashed_once(kind):
+    """The same class, whose values keep their hash: a store that is followed in many orders is hashed as often."""
+    plain = kind.__hash__
+
+    def kept(self):
+        if "hash" not in self.__dict__:
+            self.__dict__["hash"] = plain(self)
+        return self.__dict__["hash"]
+
+    kind.__hash__ = kept
+    return kind
+
+
 # Options (section 13).
 
+@hashed_once
 @dataclass(frozen=True)
 class Options:
     backups: int = 3
@@ -326,6 +340,7 @@ def read_segment(text):
 
 # Backups (section 5).
 
+@hashed_once
 @dataclass(frozen=True)
 class Holding:
     backup: int
@@ -338,6 +353,7 @@ class Holding:
         return (self.backup, self.master, self.segment)
 
 
+@hashed_once
 @dataclass(frozen=True)
 class Fleet:
     """What the backups hold, sorted by backup, master and segment, and how many further ops they take."""
@@ -383,6 +399,7 @@ class Fleet:
 
 # The master (sections 7 to 9).
 
+@hashed_once
 @dataclass(frozen=True)
 class Segment:
     """The image of a segment, and of each of its units the number of its record and where it ends."""
@@ -438,6 +455,7 @@ class Live:
     segment: int
 
 
+@hashed_once
 @dataclass(frozen=True)
 class Pass:
     """An open pass of the cleaner."""
@@ -485,6 +503,7 @@ class Failover:
     part: str = "mends"
 
 
+@hashed_once
 @dataclass(frozen=True)
 class Master:
     number: int
@@ -651,6 +670,10 @@ class Master:
         return tuple((id_, entry) for id_ in ids for entry in read_segment(by_id[id_].text)
                      if isinstance(entry, (Object, Tombstone)))
 
+    def kept_of(self, ids):
+        """Those of them that the cleaners keep."""
+        return [(id_, entry) for id_, entry in self.rest_of(ids) if self.is_kept(id_, entry)]
+
     def pass_refusal(self, ids, options):
         """The refusal of a pass with these victims, apart from NoMemory, or None."""
         refusal = self.victims_refusal(ids)
@@ -664,8 +687,20 @@ class Master:
 
     def survivors_of(self, ids, options):
         """How many survivors what is kept of these segments fills now."""
-        kept = (len(entry.spelled()) for id_, entry in self.rest_of(ids) if self.is_kept(id_, entry))
-        return survivors_for(kept, options.segment)
+        return survivors_for((len(entry.spelled()) for _, entry in self.kept_of(ids)), options.segment)
+
+    def chosen(self, options):
+        """The victims that a cleaner chooses by itself; none if a pass over them has no place in the digest."""
+        closed = [it.id for it in self.log()[:-1]]
+        kept = {id_: sum(len(entry.spelled()) for _, entry in self.kept_of((id_,))) for id_ in closed}
+        free, whole = options.seglets - self.used(options), options.segment // options.seglet
+        victims, coming = (), 1
+        for id_ in sorted(closed, key=lambda it: (kept[it], it))[:32]:
+            more = self.survivors_of((*victims, id_), options)
+            if more > 4 or free < (more + 1) * whole:
+                break
+            victims, coming = (*victims, id_), more
+        return victims if len(self.segments) - len(victims) + coming + 1 <= options.segment // 32 else ()
 
     def cleaned(self, ids, options):
         """The master after the begin of a pass."""
@@ -881,6 +916,7 @@ def client_key(number):
     return b"c%d" % number
 
 
+@hashed_once
 @dataclass(frozen=True)
 class Store:
     """A fleet, and a master over it."""

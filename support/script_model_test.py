@@ -20,6 +20,9 @@ WORDS = ("--segment=8192", "--seglets=4096")
 FOUR = "clients 4 100 5 / crash / recover / log / put 1 a x"
 TWO = "clients 2 3 0 / get 1 c0 / get 1 c1 / put 1 a x"
 STOPPED = "stop 9 / clients 2 3 0 / crash / recover / put 1 a x"
+FEW = "fault 1 lost / clients 2 1 0 / get 1 c0 / crash / recover"
+MANY = "fault 9 lost / clients 8 9 2 / get 1 c0 / crash / recover / put 1 a x"
+CLEANED = "put 1 a x / roll / begin 1 / clients 1 1 1 / get 1 c0 / begin 2"
 
 
 def four(*objects, calls=800, head=1, version=104):
@@ -55,6 +58,17 @@ RUNS = [
     (STOPPED, "stop 9 / stopped / refused Down / 1 c1 2 1 / recovered 1 / ok 3", False),
     (STOPPED, "stop 9 / stopped / refused Down / 1 c1 4 4 / recovered 1 / ok 5", False),
     (STOPPED, "stop 9 / stopped / refused Down / recovered 0 / ok 1", True),
+    (FEW, "fault 1 lost / refused Halted / refused Halted / crashed / recovered 0", True),
+    (FEW, "fault 1 lost / clients 2 1 4 / refused Halted / crashed / recovered 0", False),
+    (FEW, "fault 1 lost / refused Halted / none / crashed / recovered 0", False),
+    (FEW, "fault 1 lost / refused Halted / refused Halted / crashed / 1 c0 1 1 / recovered 1", False),
+    (MANY, "fault 9 lost / refused Halted / refused Halted / crashed / 1 c0 1 2 / recovered 1 / ok 2", False),
+    (MANY, "fault 9 lost / refused Halted / refused Halted / crashed / 1 c0 2 2 / recovered 1 / ok 3", True),
+    (MANY, "fault 9 lost / refused Halted / none / crashed / recovered 0 / ok 1", False),
+    (MANY.removeprefix("fault 9 lost / "), "refused Halted / refused Halted / crashed / recovered 0 / ok 1", False),
+    (CLEANED, "ok 1 / head 2 / begun 3 / clients 1 1 2 / 2 1 / begun 5", True),
+    (CLEANED, "ok 1 / head 2 / begun 3 / clients 1 1 2 / 2 1 / refused PassOpen", False),
+    (CLEANED, "ok 1 / head 2 / begun 3 / clients 1 1 2 / 2 1 / refused NotInLog 2", False),
 ]
 
 

@@ -1,9 +1,11 @@
 """What is wrong with a run, by the model of the rules and by a plain map.
 
 `wrong_run` follows a run line by line. As long as one order of steps is possible, each line has to print what
-`script_model.py` prints. Behind a line of clients it doesn't: threads took the lock in an order that nobody knows, so neither
-the layout of the log nor the order of the versions is known. From there up to a recovery each answer has to be one that some
-order allows. What was recovered has the layout of no earlier log, so from there the model goes on.
+`script_model.py` prints. Behind a line of clients there are several, since nobody knows in which order threads took the lock. As
+long as these are few, each line has to print what it prints after one of them that fits all answers before it
+(`script_orders.py`). Behind others neither the layout of the log nor the order of the versions is known. From there up to a
+recovery each answer has to be one that some order allows. What was recovered has the layout of no earlier log, so from there the
+model goes on, unless a fault may still come.
 
 A `Witness` sees all lines, and judges them by a plain map alone. A get tells what became of a client's key: it has to come before
 any other command of that key, or of one that is absent.
@@ -12,10 +14,13 @@ any other command of that key, or of one that is absent.
 import re
 from dataclasses import dataclass, field
 
-from script_model import (NO_LIMIT, Command, Fleet, Object, Store, Undetermined, answers_of, client_key, is_too_big, lines_of,
-                          make_will, name_of, options_of, parse, place)
+from script_model import (NO_LIMIT, STEPS, Command, Fleet, Object, Store, Undetermined, answers_of, client_key, is_too_big,
+                          lines_of, make_will, name_of, options_of, parse, place)
+from script_orders import orders_of
 
 COMMANDS = ("put", "new", "cas", "get", "del")
+# If more stores than this fit the answers, none of them is followed.
+MOST_STORES = 60
 
 
 # A plain map.
@@ -244,10 +249,11 @@ FORMS = {
     "log": r"log( \d+)+",
     "hex": r"([0-9a-f]{2})+|refused NotInLog \d+",
 }
-# What they may print besides, if a failover was open when the clients began: it may be open still.
+# What they may print besides, if a failover may be open.
 MENDING_FORMS = {
-    "push": r"repair \d+ \d+|raise \d+",
-    **dict.fromkeys(("beginroll", "compact", "begin", "copy", "seal", "free"), "refused Rolling"),
+    "push": r"repair \d+ \d+|raise \d+|refused Lost \d+",
+    **dict.fromkeys(("beginroll", "compact", "begin", "copy"), "refused Rolling"),
+    **dict.fromkeys(("seal", "free"), r"refused Rolling|refused Lost \d+"),
 }
 # Lines that a spent fleet may stop.
 TAKING = (*COMMANDS, "roll", "push", "clean", "seal", "free", "clients", "recover")
@@ -264,46 +270,81 @@ def end_of(steps):
             return None
 
 
+def outcomes_of(stores, line):
+    """Each answer that the line may print over one of these stores, if no memory is refused, and the store then."""
+    outcomes, others = [], []
+    for store in stores:
+        try:
+            outcomes.append(store.answered(line))
+        except Undetermined:
+            others.append(store)
+    return outcomes + orders_of(others, *line[1:]) if others else outcomes
+
+
 class Follower:
     """Says what is wrong with the answers to the lines of a script."""
 
     def __init__(self, options):
         self.options = options
         self.witness = Witness(options.replicas)
-        # None if its layout isn't known. The numbers below are for that time.
-        self.store = Store.new(options)
+        # Each that fits the answers so far: behind clients there may be several. Empty if the layout isn't known. The numbers
+        # below are for that time.
+        self.stores = [Store.new(options)]
         self.is_up = True
         # Whether the fleet takes whatever comes.
         self.is_unlimited = True
         self.greatest = 1
         # How many records the history has, if that is known.
         self.records = None
-        # The format of the masters that start from then on.
-        self.format = options.format
-        # How many backups failed for the master, and whether a failover was open when the clients began.
+        # The format of the masters that start from then on, and of the one that is up.
+        self.format = self.master_format = options.format
+        # How many backups may have failed for the master, and whether a failover may be open.
         self.failed, self.is_mending = 0, False
+        # Whether a fault was asked for and may still come, and whether the master has told that it is halted.
+        self.is_due = self.is_halted = False
+        # Whether a pass may be open.
+        self.may_clean = True
 
     def wrong(self, line, answer):
         """What is wrong with the answer to this line, or None."""
-        if self.store:
+        if self.stores:
             try:
-                wanted, after = self.store.answered(line)
+                outcomes = outcomes_of(self.stores, line)
             except Undetermined:
-                self.lose_sight()
+                self.lose_sight(self.stores)
             else:
-                if wanted.splitlines() != answer:
-                    return f"{line} printed {answer}, and the model prints {wanted.splitlines()}"
-                self.store = after
+                wanted = "".join(f"{row}\n" for row in answer)
+                fitting = list(dict.fromkeys(store for text, store in outcomes if text == wanted))
+                if not fitting:
+                    texts = list(dict.fromkeys(text for text, _ in outcomes))
+                    return f"{line} printed {answer}, and the model prints {' or '.join(map(repr, texts[:9]))}"
+                self.stores = fitting
+                if len(fitting) > MOST_STORES:
+                    self.lose_sight(fitting)
                 return self.witness.wrong(line, answer)
         return self.witness.wrong(line, answer) or self.wrong_unseen(line, answer)
 
-    def lose_sight(self):
-        """From here on the layout isn't known."""
-        self.is_up = True
-        self.is_unlimited = self.store.fleet.left == NO_LIMIT
-        self.greatest, self.records, self.format = self.store.greatest, self.store.master.records, self.store.format
-        self.failed, self.is_mending = len(self.store.master.failed), bool(self.store.master.failover)
-        self.store = None
+    def lose_sight(self, stores):
+        """From here on the layout isn't known, which was that of one of these stores."""
+        masters = [it.master for it in stores if it.master]
+        self.stores, self.is_up, self.may_clean = [], bool(masters), any(it.cleaning for it in masters)
+        self.is_unlimited = all(it.fleet.left == NO_LIMIT for it in stores)
+        self.greatest, self.format = max(it.greatest for it in stores), stores[0].format
+        records = {it.records for it in masters}
+        self.records = records.pop() if len(records) == 1 else None
+        self.master_format = 2 if any(it.has_lengths for it in masters) else 1
+        self.failed = max((len(it.failed) for it in masters), default=0)
+        self.is_mending = any(it.failover for it in masters)
+        self.is_due, self.is_halted = False, bool(masters) and all(it.is_halted for it in masters)
+        # A master that may be halted is one that may be halted by what comes.
+        if any(it.fleet.due for it in stores) or any(it.is_halted for it in masters):
+            self.ask_fault()
+
+    def ask_fault(self):
+        """A fault may come from here on."""
+        self.is_due = True
+        if self.is_up and self.master_format == 2:
+            self.failed, self.is_mending = self.failed + 1, True
 
     def wrong_unseen(self, line, answer):
         name = line[0]
@@ -314,19 +355,41 @@ class Follower:
         elif answer == ["stopped"]:
             may_be = not self.is_unlimited and name in TAKING
             self.stop(name)
+        elif name in STEPS and (self.is_halted or answer == ["refused Halted"]):
+            may_be = answer == ["refused Halted"] and self.may_halt()
         elif name in COMMANDS:
             may_be = self.may_command(line, answer[0])
         elif name in FORMS:
-            may_be = len(answer) == 1 and (re.fullmatch(FORMS[name], answer[0]) or self.may_mend(name, answer[0]))
+            may_be = len(answer) == 1 and (self.may_form(name, answer[0]) or self.may_mend(name, answer[0]))
         else:
             may_be = getattr(self, f"may_{name}")(line, answer)
         return None if may_be else f"{line} printed {answer}, which isn't possible behind clients"
 
+    def may_halt(self):
+        """Whether the master may be halted. From here on it is."""
+        # A failover that finds no room for its head halts the master too.
+        may_be = self.is_halted or self.is_due or self.failed > 0
+        self.is_halted = True
+        # A fault halts a master of format 1, and no further one was asked for.
+        self.is_due = self.is_due and self.master_format == 2
+        return may_be
+
+    def may_form(self, name, row):
+        shows_pass = row == "refused PassOpen" or (name in ("copy", "seal") and row != "refused Nothing")
+        if shows_pass and not self.may_clean:
+            return False
+        if name in ("begin", "clean"):
+            self.may_clean = self.may_clean or not row.startswith("refused ")
+        return re.fullmatch(FORMS[name], row)
+
     def may_mend(self, name, row):
-        return self.is_mending and name in MENDING_FORMS and re.fullmatch(MENDING_FORMS[name], row)
+        """Whether it may be an answer of a failover, or the one that opens it."""
+        if not self.is_mending or name not in MENDING_FORMS:
+            return False
+        return re.fullmatch(MENDING_FORMS[name], row)
 
     def stop(self, name):
-        self.is_up, self.is_unlimited = False, True
+        self.is_up, self.is_unlimited, self.is_halted = False, True, False
         if name == "recover":
             self.greatest += 1
 
@@ -349,6 +412,8 @@ class Follower:
         return not row.startswith("refused ")
 
     def may_clients(self, line, answer):
+        # The cleaner ends each pass, unless a step of it is refused.
+        self.may_clean = not self.is_unlimited or self.is_due or self.master_format == 2
         calls, left = 2 * line[1] * line[2], None if self.records is None else self.options.history - self.records
         if answer[0].startswith("clients "):
             if self.records is not None:
@@ -364,12 +429,16 @@ class Follower:
         self.is_unlimited = line[1] == NO_LIMIT
         return answer == [f"stop {line[1]}"]
 
+    def may_fault(self, line, answer):
+        self.ask_fault()
+        return answer == [f"fault {line[1]} {'taken' if line[2] else 'lost'}"]
+
     def may_format(self, line, answer):
         self.format = line[1]
         return answer == [f"format {line[1]}"]
 
     def may_crash(self, _, answer):
-        self.is_up = False
+        self.is_up = self.is_halted = False
         return answer == ["crashed"]
 
     def may_lose(self, line, answer):
@@ -396,18 +465,23 @@ class Follower:
         return backup < options.backups and 1 <= master <= self.greatest and is_home
 
     def may_recover(self, _, answer):
-        """A recovery that came to its end was judged by the witness; the new master's layout is known then."""
+        """A recovery that came to its end was judged by the witness; the new master's layout is known then, unless a fault may come."""
         if answer[-1].startswith("refused "):
-            self.greatest += answer == ["refused Full"]
+            self.greatest += answer[-1] in ("refused Full", "refused Halted")
+            if answer == ["refused Halted"]:
+                return self.is_due
             too_old = "HeadTooOld|" if self.failed else ""
             return re.fullmatch(rf"refused (Full|NoHead|({too_old}HeadClosed|Missing) \d+)", answer[-1])
         found = self.witness.answered
         down = Store(self.options, Fleet(), None, greatest=self.greatest, format=self.format)
         store = end_of(down.adopted(found.objects(), found.safe))
-        self.is_up, self.records = True, 0
+        self.is_up, self.records, self.master_format = True, 0, self.format
         self.greatest += 1
-        if self.is_unlimited:
-            self.store = store
+        self.failed, self.is_mending, self.may_clean = 0, False, False
+        if self.is_due:
+            self.ask_fault()
+        elif self.is_unlimited:
+            self.stores = [store]
         return store is not None
 
 
