@@ -89,7 +89,7 @@ fn add_head(images: &mut Images, id: u64, head: Segment) -> bool
 }
 
 /// Adds a new head as `add_head` does.
-fn add(alloc: Global, images: &mut Images, id: u64) -> bool
+pub fn add(alloc: Global, images: &mut Images, id: u64) -> bool
     ensures { result ≡ true → IsWhole images.new.images id }
 {
     match new_head(alloc, id) {

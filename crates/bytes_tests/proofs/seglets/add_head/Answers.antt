@@ -1,4 +1,4 @@
-use Rattle.std.proofs.Common.{◌≡◌, List, true, None, ap, subst, sym, refl, rules}
+use Rattle.std.proofs.Common.{◌≡◌, List, None, ap, subst, sym, refl, rules}
 use Rattle.images.specs.Image.{Image, whole_image}
 use Rattle.images.specs.Images.{ImagesValue}
 use Rattle.images.specs.Sorted.{IsWhole, image_of}
