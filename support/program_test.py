@@ -363,10 +363,67 @@ def large_tables_are_recovered(program):
     want((output.count(table), cut, last, errors, status), (2, 2, b"ok %d" % (OBJECTS + 1), b"", 0))
 
 
+# Sizes at which no memory may be wanting, since there is enough of it. No contract tells when a call may want memory that begins a
+# segment, compacts one, makes a master, chooses victims or measures objects.
+
+def a_whole_segment_is_compacted_and_cleaned(program):
+    """Of a head of eight mebibytes every second object is put again, and what is left of it fills half a survivor."""
+    firsts = [f"k{key:04}" for key in range(FILL)]
+    seconds = firsts[::2]
+    lines = [f"put 1 {key} {VALUE * 'v'}" for key in firsts] + ["roll"] + [f"put 1 {key} w" for key in seconds]
+    script = [*lines, "roll", "compact 1", "clean 1", "log", "room", f"get 1 {firsts[0]}", f"get 1 {firsts[1]}"]
+    kept = (FILL - len(seconds)) * (23 + 5 + VALUE)
+    others = len(seconds) * (50 + 2 * 5 + 1)
+    counted = -(-(18 + kept) // G) - (-(40 + 8 + others) // G) + -(-(40 + 2 * 8) // G) + S // G
+    answers = [f"ok {version}" for version in range(1, FILL + 1)] + ["head 2"] + [f"ok {2 * place + 2}" for place in range(len(seconds))]
+    wanted = [*answers, "head 3", f"compacted 1 {40 + kept}", "cleaned 4 5", "log 2 3 4 5", f"used {counted} free {16 * S // G - counted}",
+              "2 w", f"2 {VALUE * 'v'}"]
+    script, wanted = ("".join(f"{line}\n" for line in lines).encode() for lines in (script, wanted))
+    want(run(program, script, WORDS), (wanted, b"", 0))
+
+
+MANY, PER_SEGMENT, PER_PARTITION = 100000, 50, 1000
+MANY_WORDS = ["--segment=131072", "--seglets=2000000", "--tables=1", f"--objects={PER_PARTITION}"]
+
+
+def many_segments_and_objects_are_served(program):
+    """2,001 segments have 100,000 objects. A will measures them all, and a cleaner chooses 32 segments among them."""
+    heads = MANY // PER_SEGMENT + 1
+    script, wanted = [], []
+    for number in range(1, MANY + 1):
+        script.append(f"put 1 k{number:06} x")
+        wanted.append(f"ok {number}")
+        if number % PER_SEGMENT == 0:
+            script.append("roll")
+            wanted.append(f"head {number // PER_SEGMENT + 1}")
+    places = [f"k{number:06}".encode().hex() for number in range(1, MANY + 1, PER_PARTITION)]
+    firsts = [16 * "0"] + [f"{place}00" for place in places[1:]]
+    lasts = [f"{int(first, 16) - 1:016x}" for first in firsts[1:]] + [16 * "f"]
+    wanted += [f"1 {first} {last} {number}" for number, (first, last) in enumerate(zip(firsts, lasts))]
+    wanted += [f"partitions {len(places)}", "clients 1 1 2", f"log {' '.join(map(str, range(33, heads + 3)))}"]
+    script += ["will", "clients 1 1 1", "log"]
+    script, wanted = ("".join(f"{line}\n" for line in lines).encode() for lines in (script, wanted))
+    want(run(program, script, MANY_WORDS), (wanted, b"", 0))
+
+
+LARGEST = [
+    "--backups=64", "--replicas=64", "--step=64", f"--segment={S}", f"--seglet={G}", "--seglets=4294967296", "--tables=64",
+    "--history=1048576", "--format=2",
+]
+
+
+def the_largest_configuration_is_served(program):
+    """A new master, one that is restored from 64 replicas of each segment, and a store with 63 clients and 1,048,576 cells."""
+    script = b"put 64 a x\nroll\nget 64 a\ncrash\nrecover threads 64\nput 64 b y\nroll\nlog\nclients 63 1 0\n"
+    answers = b"ok 1\nhead 2\n1 x\ncrashed\n64 a 1 x\nrecovered 1\nok 2\nhead 2\nlog 1 2\nclients 63 1 126\n"
+    want(run(program, script, LARGEST), (answers, b"", 0))
+
+
 TESTS = [
     help_is_printed, version_is_printed, words_are_text, lines_have_limits, a_reader_fails, a_writer_fails,
     input_comes_in_parts, pipes_show_each_answer, output_goes_in_blocks, a_terminal_shows_each_answer, a_terminal_shows_why, an_end_is_not_asked_for_again,
     memory_is_taken_and_given_back, survivors_take_a_segment_each, large_tables_are_recovered,
+    a_whole_segment_is_compacted_and_cleaned, many_segments_and_objects_are_served, the_largest_configuration_is_served,
 ]
 
 
