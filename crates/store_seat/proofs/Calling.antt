@@ -50,11 +50,14 @@ pub left_call : (m n k : SeatValue) (command : Command) (reply : Reply) (place :
     → n ≡ noted m (told place (record_by m.number command reply)) → k ≡ n → IsLeft place fault
     → Calls m command (Err fault) k
 left_call m n k command reply place (Refused e) first is same left = absurd left
-left_call m n k command reply place (Unsure at e) first is same left = record {
-  reply = reply;
-  above = omega (arith, first, left);
-  seat = same ∙ is ∙ ap (λ p. noted m (told p (record_by m.number command reply))) (sym left);
-}
+left_call m n k command reply place (Unsure at e) first is same left = (
+  left.1,
+  record {
+    reply = reply;
+    above = omega (arith, first, left.0);
+    seat = same ∙ is ∙ ap (λ p. noted m (told p (record_by m.number command reply))) (sym left.0);
+  },
+)
 left_call m n k command reply place SeatUnknown first is same left = absurd left
 left_call m n k command reply place CellRefused first is same left =
     left_more m (noted m (told place (record_by m.number command reply))) k (same ∙ is) refl refl refl refl refl refl

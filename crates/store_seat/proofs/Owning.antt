@@ -1,5 +1,5 @@
 -- What a seat is handed of a record of its own.
-use Rattle.std.proofs.Common.{◌≡◌, ◌<◌, ◌≤◌, ◌↔◌, ℕ, Bool, IsTrue, List, Option, Some, IfSome, length}
+use Rattle.std.proofs.Common.{◌≡◌, ◌<◌, ◌≤◌, ◌↔◌, ℕ, Bool, IsTrue, List, Option, Some, Ok, IfSome, length}
 use Rattle.std.proofs.Common.{sym, ◌∙◌, ap, subst}
 use Rattle.std.specs.Prelude.{slice_get}
 use Rattle.versioned_map.specs.declared.command.Record.{Record}
@@ -8,8 +8,8 @@ use Rattle.history_row.specs.Receipts.{Told}
 use Rattle.history_row.specs.Rows.{IsRowOf}
 use Rattle.history_row.proofs.Slots.{row_has}
 use Rattle.std.proofs.lemmas.Option.{same_Some, slice_get_within}
-use Rattle.store_seat.specs.Claims.{Owns, Hands}
-use Rattle.store_seat.specs.Seats.{SeatValue}
+use Rattle.store_seat.specs.Claims.{Owns, Hands, IsOwn, IsAsNoted, SettlesSeat}
+use Rattle.store_seat.specs.Seats.{SeatValue, record_by, told, answered}
 
 -- the record that is there
 pub owns_there : (records : List Record) (m : SeatValue) (place : ℕ) (what : Record) (b : Bool) → m.first ≤ place
@@ -42,3 +42,24 @@ module _ (records : List Record) (row : List (Option Record)) (m : SeatValue) (p
         reply_is = subst (λ (o : Option Record). IfSome o (λ (r : Record). reply ≡ r.reply)) owned.1.1 is;
         receipt_is = λ i. record { place = at i; what = kept i };
       }
+
+-- a receipt that agrees with the seat's note is as noted
+pub as_noted : (m : SeatValue) (place : ℕ) (reply : Reply) (t : Told) → IsOwn m place reply t
+    → ((r : Record) (q : Record) → m.last ≡ Some (told t.place r) → t.what ≡ Some q → q ≡ r)
+    → IsAsNoted m place reply t
+as_noted m place reply t own agree what last =
+    let mine = record_by m.number own.1.0 reply in
+    let at : t.place ≡ place = ap (λ (x : Told). x.place) own.1.1 in
+    let same : mine ≡ what = agree what mine (last ∙ ap (λ (p : ℕ). Some (told p what)) (sym at))
+    (ap (λ (x : Told). x.what) own.1.1) in
+    (ap (λ (x : Record). x.reply) same, own.1.1 ∙ ap (told place) same)
+
+-- a record that was claimed and answered
+pub settled : (m k n : SeatValue) (place : ℕ) (reply : Reply) (t q : Told) → IsOwn m place reply t
+    → ((r : Record) (p : Record) → m.last ≡ Some (told t.place r) → t.what ≡ Some p → p ≡ r)
+    → k ≡ m → q ≡ t → n ≡ answered k place → SettlesSeat m place (Ok (reply, q)) n
+settled m k n place reply t q own agree same kept done = (
+  subst (IsOwn m place reply) (sym kept) own,
+  subst (IsAsNoted m place reply) (sym kept) (as_noted m place reply t own agree),
+  done ∙ ap (λ (x : SeatValue). answered x place) same,
+)

@@ -6,11 +6,12 @@ use Rattle.history_row.specs.Receipts.{Told}
 use Rattle.store_seat.specs.declared.fault.CallFault.{CallFault}
 use Rattle.store_seat.specs.declared.fault.CallFault.TheVariants.{Refused, Unsure, SeatUnknown, CellRefused, NotYours}
 use Rattle.store_seat.specs.Seats.{SeatValue, record_by, told, noted, unnoted, answered}
+use Rattle.store_seat.specs.Stops.{StopsPush, RefusesCall}
 
 -- What a command under the lock does to its seat.
 abbrev pub AppliesSeat : SeatValue → Command → Result (ℕ × Reply) CallFault → SeatValue → Type 0
 AppliesSeat m command (Ok r) n = (m.first ≤ r.0) × (n ≡ noted m (told r.0 (record_by m.number command r.1)))
-AppliesSeat m command (Err (Refused e)) n = n ≡ m
+AppliesSeat m command (Err (Refused e)) n = RefusesCall e × (n ≡ m)
 AppliesSeat m command (Err (Unsure place e)) n = ⊥
 AppliesSeat m command (Err SeatUnknown) n = n ≡ m
 AppliesSeat m command (Err CellRefused) n = (n ≡ m) ⊎ (n ≡ unnoted m)
@@ -39,10 +40,11 @@ pub record LeavesRefused (m n : SeatValue) : Type 0 where
   pub amount : n.amount + m.count ≡ m.amount + n.count
   pub mark : n.mark ≡ m.mark
 
+-- A call pushes rolls and failovers to their end, so neither is a reason to refuse it or to leave it without an answer.
 abbrev pub Calls : SeatValue → Command → Result (Reply × Told) CallFault → SeatValue → Type 0
 Calls m command (Ok r) n = Answers m command r.0 r.1 n
-Calls m command (Err (Refused e)) n = n ≡ m
-Calls m command (Err (Unsure place e)) n = LeavesUnsure m command place n
+Calls m command (Err (Refused e)) n = RefusesCall e × (n ≡ m)
+Calls m command (Err (Unsure place e)) n = StopsPush e × LeavesUnsure m command place n
 Calls m command (Err SeatUnknown) n = n ≡ m
 Calls m command (Err CellRefused) n = LeavesRefused m n
 Calls m command (Err NotYours) n = ⊥
@@ -50,7 +52,7 @@ Calls m command (Err NotYours) n = ⊥
 -- the ways in which a record can be left without an answer
 abbrev pub IsLeft : ℕ → CallFault → Type 0
 IsLeft place (Refused e) = ⊥
-IsLeft place (Unsure at e) = at ≡ place
+IsLeft place (Unsure at e) = (at ≡ place) × StopsPush e
 IsLeft place SeatUnknown = ⊥
 IsLeft place CellRefused = Unit {0}
 IsLeft place NotYours = ⊥

@@ -8,6 +8,7 @@ use Rattle.history_row.specs.Receipts.{Told}
 use Rattle.store_seat.specs.declared.fault.CallFault.{CallFault}
 use Rattle.store_seat.specs.declared.fault.CallFault.TheVariants.{Refused, Unsure, SeatUnknown, CellRefused, NotYours}
 use Rattle.store_seat.specs.Seats.{SeatValue, record_by, told, answered}
+use Rattle.store_seat.specs.Stops.{StopsPush}
 
 -- There is a record at the place, it is the seat's, and the place isn't below the seat's first number.
 abbrev pub Owns : List Record → SeatValue → ℕ → Type 0
@@ -42,17 +43,23 @@ IsOwn m place reply receipt = (m.first ≤ place)
 abbrev pub ClaimsSeat : SeatValue → ℕ → Result (Reply × Told) CallFault → Type 0
 ClaimsSeat m place (Ok r) = IsOwn m place r.0 r.1
 ClaimsSeat m place (Err (Refused e)) = ⊥
-ClaimsSeat m place (Err (Unsure at e)) = at ≡ place
+ClaimsSeat m place (Err (Unsure at e)) = (at ≡ place) × (e ≡ refusal.NoMemory)
 ClaimsSeat m place (Err SeatUnknown) = Unit {0}
 ClaimsSeat m place (Err CellRefused) = Unit {0}
 ClaimsSeat m place (Err NotYours) = Unit {0}
 
+-- If the seat has a note of this place, as a call that was left without an answer leaves it, the reply and the receipt
+-- are those of the note.
+abbrev pub IsAsNoted : SeatValue → ℕ → Reply → Told → Type 0
+IsAsNoted m place reply receipt =
+    (what : Record) → m.last ≡ Some (told place what) → (reply ≡ what.reply) × (receipt ≡ told place what)
+
 -- A record of the seat is durable, and the seat was answered up to it. Its count and its share stay. A fault changes
--- nothing of the seat, and Unsure says the place again.
+-- nothing of the seat, and Unsure says the place again. An open failover is no reason for it: it is pushed to its end.
 abbrev pub SettlesSeat : SeatValue → ℕ → Result (Reply × Told) CallFault → SeatValue → Type 0
-SettlesSeat m place (Ok r) n = IsOwn m place r.0 r.1 × (n ≡ answered m place)
+SettlesSeat m place (Ok r) n = IsOwn m place r.0 r.1 × IsAsNoted m place r.0 r.1 × (n ≡ answered m place)
 SettlesSeat m place (Err (Refused e)) n = ⊥
-SettlesSeat m place (Err (Unsure at e)) n = (at ≡ place) × (n ≡ m)
+SettlesSeat m place (Err (Unsure at e)) n = (at ≡ place) × StopsPush e × (n ≡ m)
 SettlesSeat m place (Err SeatUnknown) n = n ≡ m
 SettlesSeat m place (Err CellRefused) n = n ≡ m
 SettlesSeat m place (Err NotYours) n = n ≡ m

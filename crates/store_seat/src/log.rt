@@ -1,9 +1,10 @@
 //! What lies under the lock, as the calls of a seat see it.
 
-ghost use Rattle.std.specs.Prelude.{◌≡◌, ◌≤◌, MatchBool};
+ghost use Rattle.std.specs.Prelude.{◌≡◌, ◌≤◌, IfErr, MatchBool};
 ghost use Rattle.store_seat.specs.Claims.{ClaimsSeat};
 ghost use Rattle.store_seat.specs.Seats.{answered};
 ghost use Rattle.store_seat.specs.Shared.{AttemptsSeat, ProceedsSeat};
+ghost use Rattle.store_seat.specs.Stops.{StopsPush};
 
 use crate::fault::CallFault;
 use crate::naming::Naming;
@@ -53,6 +54,8 @@ pub trait Log<B: Naming> {
     fn claim(&mut self, seat: &Seat<B>, place: u64) -> Result<(Reply, Receipt<B>), CallFault>
         ensures seat { ClaimsSeat seat.now place result };
 
-    /// One push. If nothing waits, another thread made it.
-    fn push(&mut self) -> Result<(), Refusal>;
+    /// One push. If nothing waits, another thread made it; and if a backup fails in it, a failover is open, which further
+    /// pushes end. Neither is a refusal here.
+    fn push(&mut self) -> Result<(), Refusal>
+        ensures stops { IfErr result StopsPush };
 }

@@ -1,8 +1,9 @@
 //! Who calls.
 
-ghost use Rattle.std.specs.Prelude.{◌≡◌, ◌<◌, []};
+ghost use Rattle.std.specs.Prelude.{◌≡◌, ◌<◌, [], Some};
 ghost use Rattle.mark_word.specs.Marks.{nothing};
-ghost use Rattle.store_seat.specs.Seats.{fresh_seat};
+ghost use Rattle.store_seat.specs.Seats.{fresh_seat, told};
+ghost use Rattle.versioned_map.specs.declared.command.Record.{Record};
 
 use crate::naming::Naming;
 use history_row::Receipt;
@@ -75,6 +76,20 @@ impl<B: Naming> Seat<B> {
             last: _,
         } = self;
         share
+    }
+
+    /// Tells that a receipt of the place of the seat's last record has that record. Nothing changes.
+    pub(crate) fn compare(&mut self, receipt: &mut Receipt<B>)
+        ensures same { (self.new ≡ self.old) × (receipt.new ≡ receipt.old) }
+        ensures agree { (r : Record) (q : Record) → self.old.last ≡ Some (told receipt.old.place r) →
+            receipt.old.what ≡ Some q → q ≡ r }
+    {
+        let Some(last) = &mut self.last else {
+            return;
+        };
+        if last.place() == receipt.place() {
+            last.agree(receipt);
+        }
     }
 
     /// The last place that the seat was acknowledged or met, plus 1. It takes no memory.

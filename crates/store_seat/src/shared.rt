@@ -1,9 +1,10 @@
 //! The calls of a seat over a log that threads share.
 
-ghost use Rattle.std.specs.Prelude.{◌≡◌, ◌≤◌, max, OnOk, IfErr, MatchBool};
+ghost use Rattle.std.specs.Prelude.{◌≡◌, ◌≤◌, max, OnOk, IfErr, IfSome, MatchBool};
 ghost use Rattle.store_seat.specs.Calls.{AppliesSeat, Calls, IsLeft, met};
 ghost use Rattle.store_seat.specs.Claims.{SettlesSeat};
 ghost use Rattle.store_seat.specs.Seats.{SeatValue, answered};
+ghost use Rattle.store_seat.specs.Stops.{RefusesCall, RefusesRoll};
 
 use crate::fault::CallFault;
 use crate::log::{Attempt, Log, Progress};
@@ -68,7 +69,7 @@ impl<L: Log<B>, B: Naming> Shared<L, B> {
     }
 
     /// One command, until its record is durable. It rolls and pushes a step at a time, and lets the lock go between
-    /// them.
+    /// them. Whoever opened a failover, it pushes that to its end.
     pub fn call<R: Wait>(
         &self,
         rt: &R,
@@ -101,10 +102,11 @@ impl<L: Log<B>, B: Naming> Shared<L, B> {
     ) -> Result<(Reply, Receipt<B>), CallFault>
         ensures { SettlesSeat seat.old place result seat.new }
     {
-        let answer = match self.state.lock(rt).claim(seat, place) {
+        let mut answer = match self.state.lock(rt).claim(seat, place) {
             Ok(answer) => answer,
             Err(fault) => return Err(fault),
         };
+        seat.compare(&mut answer.1);
         match self.finish(rt, seat, place) {
             Ok(()) => Ok(answer),
             Err(fault) => Err(fault),
@@ -135,7 +137,10 @@ impl<L: Log<B>, B: Naming> Shared<L, B> {
     }
 
     /// Goes on with a roll that was begun, or that could not be begun for this reason.
-    fn roll<R: Wait>(&self, rt: &R, refusal: Option<Refusal>) -> Result<(), Refusal> {
+    fn roll<R: Wait>(&self, rt: &R, refusal: Option<Refusal>) -> Result<(), Refusal>
+        requires { IfSome refusal RefusesRoll }
+        ensures { IfErr result RefusesCall }
+    {
         match refusal {
             None => Ok(()),
             Some(Refusal::Rolling) => self.state.lock(rt).push(),
