@@ -1,9 +1,7 @@
 //! A command under the lock.
 
-ghost use Rattle.std.specs.Prelude.{◌≡◌, true, Some, Err};
-ghost use Rattle.store_step.specs.master.master_state.Causes.{command_refusal};
-ghost use Rattle.store_step.specs.master.master_state.declared.step.Refusal.TheVariants as refusal;
-ghost use Rattle.locked_log.specs.Applies.{AppliesHeld};
+ghost use Rattle.std.specs.Prelude.{◌≡◌, ◌↔◌, IsTrue, Err};
+ghost use Rattle.locked_log.specs.Applies.{AppliesHeld, WaitsForRoll};
 ghost use Rattle.locked_log.specs.Held.{held};
 ghost use Rattle.locked_log.specs.States.{IsState, Lasts};
 
@@ -99,14 +97,14 @@ impl<F: Fleet, B: Naming> State<F, B> {
 
     /// Whether the command of this seat would be applied but for a roll that has to come first.
     pub(crate) fn waits_for_roll(&self, seat: &Seat<B>, command: &Command) -> bool
-        ensures { result ≡ true → command_refusal self.now.master.knows command.now ≡ Some refusal.Rolling }
+        ensures { IsTrue result ↔ WaitsForRoll (held F.state self.now) seat.now command.now }
     {
         if self.is_refused || !self.knows(seat) {
             return false;
         }
-        matches!(
-            self.master.would(seat.number(), command),
-            Err(Refusal::Rolling)
-        )
+        match self.master.would(seat.number(), command) {
+            Ok(()) => false,
+            Err(refusal) => refusal == Refusal::Rolling,
+        }
     }
 }

@@ -1,12 +1,13 @@
 //! The value under the lock, as the calls of a seat see it.
 
-ghost use Rattle.std.specs.Prelude.{◌≡◌, ◌≤◌, ℕ, Err, MatchBool};
-ghost use Rattle.store_step.specs.master.master_state.declared.step.Refusal.TheVariants as refusal;
-ghost use Rattle.locked_log.specs.Applies.{Attempts, ClaimsHeld, Proceeds};
+ghost use Rattle.std.specs.Prelude.{◌≡◌, ◌≤◌, IfErr, MatchBool};
+ghost use Rattle.locked_log.specs.Applies.{Attempts, ClaimsHeld, DoesNotSettle, Proceeds, Settles};
 ghost use Rattle.locked_log.specs.Held.{held};
+ghost use Rattle.locked_log.specs.Steps.{PushesHeld};
 ghost use Rattle.store_seat.specs.Claims.{ClaimsSeat};
 ghost use Rattle.store_seat.specs.Seats.{answered};
 ghost use Rattle.store_seat.specs.Shared.{AttemptsSeat, ProceedsSeat};
+ghost use Rattle.store_seat.specs.Stops.{StopsPush};
 
 use crate::state::State;
 use history_row::Receipt;
@@ -47,6 +48,9 @@ impl<F: Fleet, B: Naming> Log<B> for State<F, B> {
     fn settle(&mut self, seat: &mut Seat<B>, place: u64) -> bool
         requires { seat.old.first ≤ place }
         ensures seat { MatchBool result (seat.new ≡ answered seat.old place) (seat.new ≡ seat.old) }
+        ensures settles { MatchBool result
+            (Settles (held F.state self.old) seat.old place (held F.state self.new) seat.new)
+            (DoesNotSettle (held F.state self.old) seat.old place (held F.state self.new) seat.new) }
     {
         self.settle_held(seat, place)
     }
@@ -60,8 +64,8 @@ impl<F: Fleet, B: Naming> Log<B> for State<F, B> {
     }
 
     fn push(&mut self) -> Result<(), Refusal>
-        // A push that opens a failover is no refusal: further pushes end it.
-        ensures goes_on { (b : ℕ) → result ≡ Err (refusal.Lost b) → ⊥ }
+        ensures stops { IfErr result StopsPush }
+        ensures pushes { PushesHeld (held F.state self.old) result (held F.state self.new) }
     {
         match self.step_held(CleanTurn::Push) {
             Ok(_) => Ok(()),

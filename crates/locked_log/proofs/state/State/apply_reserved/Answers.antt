@@ -23,9 +23,11 @@ returns-in-Err-clause-applies g c =
     let known : Knows c.args.self.now.book c.args.seat.now = c.knows.ensures.0 (search rules) in
     let d = declines_at g.F.Fleet.state _ c.args.self.now c.self.view_is c.args.seat.now c.number.result
     c.number.ensures c.args.command c.in-Err.refusal _ c.in-Err.ensures.gives in
+    let off = ap (λ (y : StateValue _). y.is_refused) (sym c.self.view_is) ∙ c.if-self.false in
     let same : world g.F.Fleet.state c.apply_command.new.master ≡ world g.F.Fleet.state c.self.inside.master =
     c.in-Err.ensures.gives.0 in (
       d,
+      off,
       known,
       (λ i. record {
         world = same i;
@@ -174,6 +176,8 @@ returns-then-self-clause-valid g c =
 
 pub returns-then-not-knows-clause-applies : goal.returns-then-not-knows-clause-applies
 returns-then-not-knows-clause-applies g c = (
+  ap (λ (y : StateValue _). y.is_refused) (sym c.self.view_is)
+      ∙ c.if-self.false,
   λ k. let yes = c.knows.ensures.1 k in
       let no = c.if-not-knows.true in cc,
   refl,

@@ -56,9 +56,12 @@ returns-then-self-clause-claims g c =
     ap (λ (y : StateValue _). y.is_refused) (sym c.self.view_is) ∙ c.if-self.true
 
 pub returns-then-not-knows-clause-claims : goal.returns-then-not-knows-clause-claims
-returns-then-not-knows-clause-claims g c =
-    λ k. let yes = c.knows.ensures.1 k in
-    let no = c.if-not-knows.true in cc
+returns-then-not-knows-clause-claims g c = (
+  ap (λ (y : StateValue _). y.is_refused) (sym c.self.view_is)
+      ∙ c.if-self.false,
+  λ k. let yes = c.knows.ensures.1 k in
+      let no = c.if-not-knows.true in cc,
+)
 
 pub returns-then-not-owns_held-clause-claims : goal.returns-then-not-owns_held-clause-claims
 returns-then-not-owns_held-clause-claims g c =

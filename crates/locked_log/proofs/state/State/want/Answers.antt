@@ -14,6 +14,8 @@ returns-then-self g c = inl (
 
 pub returns-then-not-knows : goal.returns-then-not-knows
 returns-then-not-knows g c = (
+  ap (λ (y : StateValue _). y.is_refused) (sym c.self.view_is)
+      ∙ c.if-self.false,
   λ k. let yes = c.knows.ensures.1 k in
       let no = c.if-not-knows.true in cc,
   refl,
@@ -26,7 +28,8 @@ returns-in-Err g c =
     let cause =
     ap (λ (y : StateValue _). command_refusal y.master.knows c.args.command.now) (sym c.self.view_is)
     ∙ sym c.in-Err.ensures in
-    ((refl, inl cause), known, refl, refl)
+    let off = ap (λ (y : StateValue _). y.is_refused) (sym c.self.view_is) ∙ c.if-self.false in
+    ((refl, inl cause), off, known, refl, refl)
 
 pub returns : goal.returns
 returns g c =
@@ -34,4 +37,5 @@ returns g c =
     let cause =
     ap (λ (y : StateValue _). command_refusal y.master.knows c.args.command.now) (sym c.self.view_is)
     ∙ sym c.in-Ok.ensures in
-    ((refl, inr (cause, refl)), known, refl, refl)
+    let off = ap (λ (y : StateValue _). y.is_refused) (sym c.self.view_is) ∙ c.if-self.false in
+    ((refl, inr (cause, refl)), off, known, refl, refl)
