@@ -1,14 +1,16 @@
 //! What the tests ask of a store, and what they are answered.
 
+use crate::guests::come_in;
 use crate::marks::is_free;
 use crate::slow::Watch;
 use entry::{Key, MAX_VALUE_LEN, Value};
 use replica::{Bench, Fleet};
 use std::alloc::Global;
 use std::sync::Wait;
+use std::thread;
 use std::thread::Threads;
 use store_clients::locked_log::{CallFault, CleanTurn, Naming, Receipt, Seat, Store};
-use store_clients::master::{Command, If, Refusal, Reply, StepAnswer};
+use store_clients::master::{Command, If, Look, Refusal, Reply, Shown, StepAnswer};
 
 /// A command of the tests. A put has a key and a value.
 pub enum Do {
@@ -26,12 +28,24 @@ pub enum Act {
     Calls(Do, u64, Told),
     /// A call that has no answer: the place if its record is there, and the refusal.
     Fails(Do, Option<u64>, Refusal),
+    /// A call that makes so many takes at least, while another thread gets in between two of them.
+    LetsIn(Do, u64, Told, u64),
     /// It settles the record at this place: the reply, or `None` for NotYours.
     Settles(u64, Option<Told>),
+    /// It settles the record at this place, which is left without an answer again, for this refusal.
+    Stays(u64, Refusal),
     /// The next turn of a cleaner: what it did, and its two numbers.
     Turns((&'static str, u64, u64)),
     /// The fleet takes so many more ops.
     Limits(u64),
+    /// The next take is refused for memory.
+    RunsShort,
+    /// The take of this number from now ends in a fault, and wasn't taken.
+    Faults(u64),
+    /// So many rolls.
+    Rolls(u64),
+    /// How many seglets are used. Nobody is asked for anything by it.
+    Looks(u64),
     /// It is shown the receipt of this number, from 0.
     Meets(usize),
     /// The receipt of this number agrees with a second one of its place.
@@ -40,7 +54,8 @@ pub enum Act {
     Raises(usize),
     /// It reads the mark.
     Reads(u64),
-    /// Seat 0 raises the mark by the receipt of this number, and seat 1 reads it, while another thread holds the lock.
+    /// The last seat raises the mark by the receipt of this number in one thread, and seat 0 reads it in another, while
+    /// a third holds the lock.
     Overtakes(usize),
     /// The last place that it was acknowledged or met, plus 1, and how many records its calls made.
     Counts(u64, u64),
@@ -106,6 +121,41 @@ fn calls<F: Fleet, B: Naming, R: Wait>(
     }
 }
 
+/// Makes the call, while another thread comes for the lock. Whether it is answered as wanted.
+fn lets_in<F: Bench + Send, B: Naming + Send + Sync, R: Threads + Wait + Sync>(
+    rt: &R,
+    alloc: Global,
+    store: &Store<F, B>,
+    watch: &Watch,
+    seat: &mut Seat<B>,
+    receipts: &mut Vec<Receipt<B>>,
+    what: &Do,
+    want: (u64, Told),
+) -> bool {
+    watch.expect_guest();
+    thread::scope(thread::scope_env(), rt, |scope| -> bool {
+        let comes = scope.spawn(move || come_in(rt, store, watch));
+        let is_answered = asks(rt, alloc, store, seat, receipts, what, want);
+        comes.is_ok() && is_answered
+    })
+}
+
+/// Makes the call of this command. Whether it is answered as wanted.
+fn asks<F: Fleet, B: Naming, R: Wait>(
+    rt: &R,
+    alloc: Global,
+    store: &Store<F, B>,
+    seat: &mut Seat<B>,
+    receipts: &mut Vec<Receipt<B>>,
+    what: &Do,
+    want: (u64, Told),
+) -> bool {
+    match command_of(alloc, what) {
+        Some(command) => calls(rt, store, seat, receipts, command, want),
+        None => false,
+    }
+}
+
 /// Makes the call. Whether the record is there as wanted, without an answer, for this refusal.
 fn fails<F: Fleet, B: Naming, R: Wait>(
     rt: &R,
@@ -150,6 +200,18 @@ fn settles<F: Fleet, B: Naming, R: Wait>(
     }
 }
 
+/// Settles the record. Whether it is left without an answer for this refusal.
+fn stays<F: Fleet, B: Naming, R: Wait>(
+    rt: &R,
+    store: &Store<F, B>,
+    seat: &mut Seat<B>,
+    place: u64,
+    why: Refusal,
+) -> bool {
+    let answer = store.settle(rt, seat, place);
+    is_left(&answer, Some(place), why)
+}
+
 fn turns<F: Fleet, B: Naming, R: Wait>(
     rt: &R,
     store: &Store<F, B>,
@@ -162,6 +224,50 @@ fn turns<F: Fleet, B: Naming, R: Wait>(
 fn limits<F: Bench, B: Naming, R: Wait>(rt: &R, store: &Store<F, B>, takes: u64) -> bool {
     store.limit(rt, takes);
     true
+}
+
+fn runs_short(watch: &Watch) -> bool {
+    watch.run_short();
+    true
+}
+
+fn faults<F: Bench, B: Naming, R: Wait>(rt: &R, store: &Store<F, B>, number: u64) -> bool {
+    store.fault_at(rt, number, false);
+    true
+}
+
+/// Whether so many rolls were made, of four pushes each.
+fn rolls<F: Fleet, B: Naming, R: Wait>(rt: &R, store: &Store<F, B>, times: u64) -> bool {
+    for _ in 0..times {
+        if !makes(rt, store, CleanTurn::BeginRoll) {
+            return false;
+        }
+        for _ in 0..4 {
+            if !makes(rt, store, CleanTurn::Push) {
+                return false;
+            }
+        }
+    }
+    true
+}
+
+fn makes<F: Fleet, B: Naming, R: Wait>(rt: &R, store: &Store<F, B>, turn: CleanTurn) -> bool {
+    store.turn(rt, turn).is_ok()
+}
+
+/// Whether so many seglets are used, and no take was asked for.
+fn looks<F: Fleet, B: Naming, R: Wait>(
+    rt: &R,
+    store: &Store<F, B>,
+    watch: &Watch,
+    used: u64,
+) -> bool {
+    let before = watch.takes();
+    let is_wanted = match &store.look(rt, Look::Room) {
+        Ok(Shown::Room(in_use, _)) => *in_use == used,
+        _ => false,
+    };
+    is_wanted && watch.takes() == before
 }
 
 fn meets<F: Fleet, B: Naming, R: Wait>(
@@ -205,24 +311,29 @@ fn raises<F: Fleet, B: Naming>(
 }
 
 /// Does what a seat asks. Whether that is the answer.
-fn is_told<F: Fleet, B: Naming, R: Wait>(
+fn is_told<F: Bench + Send, B: Naming + Send + Sync, R: Threads + Wait + Sync>(
     rt: &R,
     alloc: Global,
     store: &Store<F, B>,
+    watch: &Watch,
     seat: &mut Seat<B>,
     receipts: &mut Vec<Receipt<B>>,
     act: &Act,
 ) -> bool {
     match act {
-        Act::Calls(what, place, reply) => match command_of(alloc, what) {
-            Some(command) => calls(rt, store, seat, receipts, command, (*place, *reply)),
-            None => false,
-        },
+        Act::Calls(what, place, reply) => {
+            asks(rt, alloc, store, seat, receipts, what, (*place, *reply))
+        }
+        Act::LetsIn(what, place, reply, takes) => {
+            let want = (*place, *reply);
+            lets_in(rt, alloc, store, watch, seat, receipts, what, want) && watch.has_let_in(*takes)
+        }
         Act::Fails(what, place, why) => match command_of(alloc, what) {
             Some(command) => fails(rt, store, seat, command, *place, *why),
             None => false,
         },
         Act::Settles(place, reply) => settles(rt, store, seat, receipts, *place, *reply),
+        Act::Stays(place, why) => stays(rt, store, seat, *place, *why),
         Act::Meets(at) => meets(rt, store, seat, receipts.as_slice(), *at),
         Act::Raises(at) => raises(store, seat, receipts.as_slice(), *at),
         Act::Reads(place) => store.mark(seat) == *place,
@@ -244,10 +355,14 @@ pub fn is_answered<F: Bench + Send, B: Naming + Send + Sync, R: Threads + Wait +
     match &ask.1 {
         Act::Turns(want) => turns(rt, store, *want),
         Act::Limits(takes) => limits(rt, store, *takes),
+        Act::RunsShort => runs_short(watch),
+        Act::Faults(number) => faults(rt, store, *number),
+        Act::Rolls(times) => rolls(rt, store, *times),
+        Act::Looks(used) => looks(rt, store, watch, *used),
         Act::Agrees(at) => agrees(receipts, *at),
-        Act::Overtakes(at) => is_free(rt, store, seats, receipts.as_slice(), *at, watch),
+        Act::Overtakes(at) => is_free(rt, store, seats, receipts, *at, watch),
         act => match seats.get_mut(ask.0) {
-            Some(seat) => is_told(rt, alloc, store, seat, receipts, act),
+            Some(seat) => is_told(rt, alloc, store, watch, seat, receipts, act),
             None => false,
         },
     }

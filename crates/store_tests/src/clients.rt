@@ -1,7 +1,7 @@
 //! Days of clients over a master: what it has done in the morning, its clients and its cleaner, and what there is at
 //! the end.
 
-use crate::masters::{Morning, RECORDS, has_no_pass, prepare, small_master};
+use crate::masters::{HALTING, Morning, RECORDS, has_no_pass, prepare, small_master};
 use crate::slow::Watch;
 use gate::{Gate, NoGate};
 use holding::Holding;
@@ -80,7 +80,7 @@ fn ends_so<R: Threads + Wait + Sync, G: Gate + Sync>(
     day: &Day,
     gate: &G,
 ) -> bool {
-    let Some(mut master) = small_master(alloc, watch) else {
+    let Some(mut master) = small_master(alloc, watch, HALTING) else {
         return false;
     };
     prepare(alloc, &mut master, day.0);

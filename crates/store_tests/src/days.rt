@@ -1,10 +1,15 @@
 //! Days of a store with one seat or two: what a seat is answered, a record that is left without an answer and one that
-//! is settled, receipts that another seat is shown, the mark, also while a push waits, and a cleaner that makes room.
+//! is settled, also in a failover or for want of memory, receipts that another seat is shown, the mark, also while a
+//! push waits, and a cleaner that makes room.
 
 use crate::asks::{Act, Do};
+use crate::masters::{HALTING, LARGE, LASTING, Shape};
 use crate::slow::Watch;
-use crate::stores::run_day;
+use crate::stores::{Evening, run_day};
+use std::alloc::Global;
+use std::sync::Wait;
 use std::test::Fail;
+use std::thread::Threads;
 use store_clients::master::{If, Refusal};
 
 /// Puts and a delete whose conditions hold or don't.
@@ -161,31 +166,160 @@ const TURNED: &[(usize, Act)] = &[
     (0, Act::Calls(X, 15, ("ok", 16))),
 ];
 
-/// Two calls of one seat; then a push waits, and the mark is raised to the place of the second call.
-const OVERTAKEN: &[(usize, Act)] = &[
+/// One seat raises the mark by its receipt of place 5, another by its own of place 3. Both then read 5.
+const MARKED: &[(usize, Act)] = &[
     (0, Act::Calls(Do::Get(b"a"), 0, ("none", 0))),
     (0, Act::Calls(Do::Get(b"a"), 1, ("none", 0))),
+    (0, Act::Calls(Do::Get(b"a"), 2, ("none", 0))),
+    (1, Act::Calls(Do::Get(b"a"), 3, ("none", 0))),
+    (1, Act::Calls(Do::Get(b"a"), 4, ("none", 0))),
+    (0, Act::Calls(Do::Get(b"a"), 5, ("none", 0))),
+    (0, Act::Raises(5)),
+    (1, Act::Raises(3)),
+    (0, Act::Reads(5)),
+    (1, Act::Reads(5)),
+];
+
+/// Calls of two seats; then a push waits, and the mark is raised to the place of the second call and read.
+const OVERTAKEN: &[(usize, Act)] = &[
+    (0, Act::Calls(Do::Get(b"a"), 0, ("none", 0))),
+    (1, Act::Calls(Do::Get(b"a"), 1, ("none", 0))),
     (0, Act::Overtakes(1)),
 ];
 
-/// The seats of a store, what they ask, and the place behind the last receipt that the row told at its close.
-type Day = (u64, &'static [(usize, Act)], usize);
+/// A backup fails in a put's first push, and the put pushes the failover to its end. Later another fails, and no further
+/// one may: the master is halted.
+const FAILED_OVER: &[(usize, Act)] = &[
+    (0, Act::Calls(Do::Put(b"a", b"x", If::Any), 0, ("ok", 1))),
+    (0, Act::Faults(1)),
+    (0, Act::Calls(Do::Put(b"b", b"y", If::Any), 1, ("ok", 2))),
+    (0, Act::Counts(2, 2)),
+    (0, Act::Faults(1)),
+    (
+        0,
+        Act::Fails(Do::Put(b"c", b"z", If::Any), Some(2), Refusal::Halted),
+    ),
+    (0, Act::Stays(2, Refusal::Halted)),
+    (0, Act::Counts(2, 3)),
+];
+
+/// A put is left in a failover since the fleet takes no more ops. Until it does, the put isn't settled, and another
+/// seat's has no record. Then that seat's pushes the failover to its end, and the first is settled.
+const LEFT: &[(usize, Act)] = &[
+    (0, Act::Calls(Do::Put(b"a", b"x", If::Any), 0, ("ok", 1))),
+    (0, Act::Faults(1)),
+    (0, Act::Limits(2)),
+    (
+        0,
+        Act::Fails(Do::Put(b"b", b"y", If::Any), Some(1), Refusal::Spent),
+    ),
+    (0, Act::Stays(1, Refusal::Spent)),
+    (
+        1,
+        Act::Fails(Do::Put(b"c", b"z", If::Any), None, Refusal::Spent),
+    ),
+    (0, Act::Limits(u64::MAX)),
+    (1, Act::Calls(Do::Put(b"c", b"z", If::Any), 2, ("ok", 3))),
+    (0, Act::Settles(1, Some(("ok", 2)))),
+    (0, Act::Counts(2, 2)),
+];
+
+/// A put is left before its first push. A backup fails when it is settled, and `settle` pushes the failover to its end,
+/// also from the midst of it.
+const SETTLED_OVER: &[(usize, Act)] = &[
+    (0, Act::Calls(Do::Put(b"a", b"x", If::Any), 0, ("ok", 1))),
+    (0, Act::Limits(0)),
+    (
+        0,
+        Act::Fails(Do::Put(b"b", b"y", If::Any), Some(1), Refusal::Spent),
+    ),
+    (0, Act::Limits(3)),
+    (0, Act::Faults(1)),
+    (0, Act::Stays(1, Refusal::Spent)),
+    (0, Act::Limits(u64::MAX)),
+    (0, Act::Settles(1, Some(("ok", 2)))),
+    (0, Act::Counts(2, 2)),
+];
+
+/// A backup fails that has replicas of two thirds of forty closed segments. Each is sealed anew before the put is
+/// answered, which lets another thread in meanwhile.
+const MENDED: &[(usize, Act)] = &[
+    (0, Act::Calls(Do::Put(b"a", b"x", If::Any), 0, ("ok", 1))),
+    (0, Act::Rolls(40)),
+    (0, Act::Faults(1)),
+    (
+        0,
+        Act::LetsIn(Do::Put(b"b", b"y", If::Any), 1, ("ok", 2), 30),
+    ),
+    (0, Act::Calls(Do::Put(b"c", b"z", If::Any), 2, ("ok", 3))),
+];
+
+/// A take is refused for memory: in a put, in settling it, and in a roll that has to come before a put. None of them
+/// tries again.
+const SHORT: &[(usize, Act)] = &[
+    (0, Act::Calls(X, 0, ("ok", 1))),
+    (0, Act::RunsShort),
+    (0, Act::Fails(X, Some(1), Refusal::NoMemory)),
+    (0, Act::RunsShort),
+    (0, Act::Stays(1, Refusal::NoMemory)),
+    (0, Act::Settles(1, Some(("ok", 2)))),
+    (0, Act::Calls(X, 2, ("ok", 3))),
+    (0, Act::RunsShort),
+    (0, Act::Fails(X, None, Refusal::NoMemory)),
+    (0, Act::Calls(X, 3, ("ok", 4))),
+];
+
+/// A look pushes nothing, though a record waits for it; and it compacts nothing, though all but one are dead.
+const LOOKED: &[(usize, Act)] = &[
+    (0, Act::Calls(X, 0, ("ok", 1))),
+    (0, Act::Calls(X, 1, ("ok", 2))),
+    (0, Act::Calls(X, 2, ("ok", 3))),
+    (0, Act::Calls(X, 3, ("ok", 4))),
+    (0, Act::Limits(0)),
+    (0, Act::Fails(X, Some(4), Refusal::Spent)),
+    (0, Act::Limits(u64::MAX)),
+    (0, Act::Looks(15)),
+];
+
+/// The seats of a store, the shape of its master and what they ask; then the place behind the last receipt that the row
+/// told at its close, and how many seglets the master used.
+type Day = (u64, Shape, &'static [(usize, Act)], usize, u64);
 
 const DAYS: &[Day] = &[
-    (1, CONDITIONS, 6),
-    (1, UNSURE, 3),
-    (2, SETTLED, 6),
-    (2, MET, 3),
-    (1, TURNED, 16),
-    (2, OVERTAKEN, 2),
+    (1, HALTING, CONDITIONS, 6, 8),
+    (1, HALTING, UNSURE, 3, 8),
+    (2, HALTING, SETTLED, 6, 8),
+    (2, HALTING, MET, 3, 8),
+    (1, HALTING, TURNED, 16, 22),
+    (2, HALTING, MARKED, 6, 8),
+    (1, LASTING, FAILED_OVER, 2, 10),
+    (2, LASTING, LEFT, 2, 10),
+    (1, LASTING, SETTLED_OVER, 2, 10),
+    (1, LARGE, MENDED, 3, 317),
+    (1, HALTING, SHORT, 4, 15),
+    (1, HALTING, LOOKED, 4, 15),
 ];
+
+/// How a day ended.
+fn end_of<R: Threads + Wait + Sync>(rt: &R, alloc: Global, day: &Day) -> Option<Evening> {
+    let watch = Watch::new();
+    run_day(rt, alloc, &watch, day.0, day.1, day.2)
+}
 
 #[test]
 fn stores_answer_as_wanted(rt: HostRuntime) -> Result<(), Fail> {
     for (at, day) in DAYS.iter().enumerate() {
-        let watch = Watch::new();
-        let came = run_day(&rt, rt.alloc(), &watch, day.0, day.1);
-        assert!(rt; came == Some((day.1.len(), day.2)), "day {at}");
+        let came = end_of(&rt, rt.alloc(), day);
+        let wanted = Some((day.2.len(), day.3, day.4));
+        assert!(rt; came == wanted, "day {at}: {came:?}");
     }
+    Ok(())
+}
+
+/// One thread raises the mark and another reads it, while a third holds the lock.
+#[test]
+fn mark_free(rt: HostRuntime) -> Result<(), Fail> {
+    let came = end_of(&rt, rt.alloc(), &(2, HALTING, OVERTAKEN, 2, 8));
+    assert!(rt; came == Some((3, 2, 8)), "{came:?}");
     Ok(())
 }

@@ -1,6 +1,7 @@
 //! The tests of a store and of its clients: days of its seats, each a table of what they ask and of what they are
-//! answered; days of a small master whose clients and cleaner make their rounds and passes; that the mark waits for
-//! nobody; and that stores, seats and receipts cross threads.
+//! answered, failovers among them; days of a small master whose clients and cleaner make their rounds and passes; that
+//! the mark waits for nobody, and that a call lets others in between its pushes; and that stores, seats and receipts
+//! cross threads.
 #![tactic(auto)]
 
 mod crossing;
@@ -13,6 +14,8 @@ mod asks;
 mod clients;
 #[cfg(test)]
 mod days;
+#[cfg(test)]
+mod guests;
 #[cfg(test)]
 mod marks;
 #[cfg(test)]

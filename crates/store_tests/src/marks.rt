@@ -7,42 +7,60 @@ use std::thread;
 use std::thread::Threads;
 use store_clients::locked_log::{CleanTurn, Naming, Receipt, Seat, Store};
 
-/// Whether one seat raises the mark by the receipt and another reads it, while a push of another thread waits and holds
-/// the lock. A body that locks the store for the mark reaches the limit of turns, and the push isn't let go.
+/// Whether the last seat raises the mark by the receipt in one thread and seat 0 reads it in another, while a push of a
+/// third waits and holds the lock. A body that waits for the lock reaches the limit of turns, and the push isn't let go.
 pub fn is_free<F: Fleet + Send, B: Naming + Send + Sync, R: Threads + Wait + Sync>(
     rt: &R,
     store: &Store<F, B>,
     seats: &mut Vec<Seat<B>>,
-    receipts: &[Receipt<B>],
+    receipts: &mut Vec<Receipt<B>>,
     at: usize,
     watch: &Watch,
 ) -> bool {
-    let Some(receipt) = receipts.get(at) else {
+    let Some(receipt) = receipts.get_mut(at) else {
+        return false;
+    };
+    let place = receipt.place();
+    let receipt = receipt.again();
+    let Some(raiser) = seats.pop() else {
         return false;
     };
     watch.slow_down();
     let is_free = thread::scope(thread::scope_env(), rt, |scope| -> bool {
         let pushes = scope.spawn(move || drop(store.turn(rt, CleanTurn::Push)));
-        let is_free = raises_and_reads(store, seats, receipt, watch);
-        pushes.is_ok() && is_free
+        let raises = scope.spawn(move || raise_behind(store, raiser, receipt, watch));
+        let is_read = reads(store, seats, place, watch);
+        pushes.is_ok() && raises.is_ok() && is_read
     });
     is_free && watch.has_seen()
 }
 
-fn raises_and_reads<F: Fleet, B: Naming>(
+/// Raises the mark once a take waits.
+fn raise_behind<F: Fleet, B: Naming>(
+    store: &Store<F, B>,
+    raiser: Seat<B>,
+    receipt: Receipt<B>,
+    watch: &Watch,
+) {
+    let mut raiser = raiser;
+    if watch.wait_for_take() {
+        store.raise(&mut raiser, &receipt);
+        watch.tell_raise();
+    }
+}
+
+/// Whether the mark is at the place once it was raised. Then the take that waits goes on.
+fn reads<F: Fleet, B: Naming>(
     store: &Store<F, B>,
     seats: &mut Vec<Seat<B>>,
-    receipt: &Receipt<B>,
+    place: u64,
     watch: &Watch,
 ) -> bool {
-    let is_held = watch.wait_for_take();
-    if let Some(seat) = seats.get_mut(0) {
-        store.raise(seat, receipt);
-    }
-    let is_read = match seats.get_mut(1) {
-        Some(seat) => store.mark(seat) == receipt.place(),
+    let is_raised = watch.wait_for_raise();
+    let is_read = match seats.get_mut(0) {
+        Some(seat) => store.mark(seat) == place,
         None => false,
     };
     watch.finish();
-    is_held && is_read
+    is_raised && is_read
 }

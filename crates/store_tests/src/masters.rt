@@ -15,6 +15,18 @@ use store_clients::master::{Config, KeyHasher, Master, PassFault, Refusal, Step}
 /// How many records its history may have.
 pub const RECORDS: u64 = 24;
 
+/// What a master is made with: the format, the bytes of a segment, and the seglets of memory.
+pub type Shape = (u64, u64, u64);
+
+/// A small master under the first format: a fault halts it.
+pub const HALTING: Shape = (1, 512, 64);
+
+/// The same under the second format: after one fault a failover is open.
+pub const LASTING: Shape = (2, 512, 64);
+
+/// One whose log may have a hundred segments.
+pub const LARGE: Shape = (2, 4_096, 4_096);
+
 /// One table.
 const TABLETS: &[Tablet] = &[Tablet {
     table: 1,
@@ -34,10 +46,11 @@ pub enum Morning {
 }
 
 /// Three backups, two replicas and one table.
-fn small_config(alloc: Global) -> Option<Config>
+fn small_config(alloc: Global, shape: Shape) -> Option<Config>
     ensures fault { IfSome result (λ c. config_fault c ≡ None) }
     ensures records { IfSome result (λ c. c.history ≡ 24) }
 {
+    let (format, segment, seglets) = shape;
     let Ok(tablets) = Vec::from_slice(alloc, TABLETS) else {
         return None;
     };
@@ -46,13 +59,13 @@ fn small_config(alloc: Global) -> Option<Config>
         backups: 3,
         replicas: 2,
         step: 1,
-        segment: 512,
+        segment,
         seglet: 64,
-        seglets: 64,
+        seglets,
         tablets: Tablets::new(tablets),
         history: RECORDS,
         hasher: KeyHasher::new(),
-        format: 1,
+        format,
     };
     match config.check() {
         Ok(()) => Some(config),
@@ -72,11 +85,15 @@ fn new_fleet(alloc: Global, config: &Config) -> Option<MemoryFleet>
     }
 }
 
-/// A new master. Its fleet waits when the watch says so.
-pub fn small_master<'a>(alloc: Global, watch: &'a Watch) -> Option<Master<SlowFleet<'a>>>
+/// A new master of this shape. Its fleet does what the watch says.
+pub fn small_master<'a>(
+    alloc: Global,
+    watch: &'a Watch,
+    shape: Shape,
+) -> Option<Master<SlowFleet<'a>>>
     ensures { IfSome result (λ m. (m.knows.config.history ≡ 24) × (m.knows.history ≡ [])) }
 {
-    let config = small_config(alloc)?;
+    let config = small_config(alloc, shape)?;
     let fleet = new_fleet(alloc, &config)?;
     match Master::new(alloc, config, SlowFleet { fleet, watch }) {
         Ok(master) => Some(master),

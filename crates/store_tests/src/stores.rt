@@ -6,7 +6,7 @@ ghost use Rattle.store_clients.specs.locked_log.Made.{IsMade};
 ghost use Rattle.store_clients.specs.master.World.{world};
 
 use crate::asks::{Act, is_answered};
-use crate::masters::{RECORDS, small_master};
+use crate::masters::{RECORDS, Shape, small_master};
 use crate::slow::{SlowFleet, Watch};
 use replica::{Bench, Fleet};
 use std::alloc::Global;
@@ -14,11 +14,11 @@ use std::marker::Brand;
 use std::sync::Wait;
 use std::thread::Threads;
 use store_clients::locked_log::{Blank, Naming, Receipt, Row, Seat, Store};
-use store_clients::master::Master;
+use store_clients::master::{Look, Master, Shown};
 
-/// How many were answered as wanted up to the first that was not, and the place behind the last receipt that the row
-/// told.
-pub type Evening = (usize, usize);
+/// How many were answered as wanted up to the first that was not; the place behind the last receipt that the row told;
+/// and how many seglets the master uses that came back.
+pub type Evening = (usize, usize, u64);
 
 /// How many are answered as wanted, up to the first that is not.
 fn answered<F: Bench + Send, B: Naming + Send + Sync, R: Threads + Wait + Sync>(
@@ -65,6 +65,20 @@ fn told_at_close<F: Fleet, B: Naming>(
     }
 }
 
+fn used<F: Fleet>(master: &Master<F>) -> u64 {
+    match &master.look(Look::Room) {
+        Ok(Shown::Room(used, _)) => *used,
+        _ => 0,
+    }
+}
+
+fn used_at_close<F: Fleet, B: Naming>(closed: &Result<(Master<F>, Row<B>), Master<F>>) -> u64 {
+    match closed {
+        Ok((master, _)) => used(master),
+        Err(master) => used(master),
+    }
+}
+
 fn evening<F: Bench + Send + Drop, B: Naming + Send + Sync, R: Threads + Wait + Sync>(
     rt: &R,
     alloc: Global,
@@ -76,7 +90,8 @@ fn evening<F: Bench + Send + Drop, B: Naming + Send + Sync, R: Threads + Wait + 
     let mut receipts = Vec::new(alloc);
     let answered = answered(rt, alloc, &store, watch, &mut seats, &mut receipts, asks);
     let mut closed = store.close(seats);
-    (answered, told_at_close(&mut closed, &mut receipts))
+    let told = told_at_close(&mut closed, &mut receipts);
+    (answered, told, used_at_close(&closed))
 }
 
 fn day<F: Bench + Send + Drop, B: Naming + Send + Sync, R: Threads + Wait + Sync>(
@@ -100,15 +115,16 @@ fn day<F: Bench + Send + Drop, B: Naming + Send + Sync, R: Threads + Wait + Sync
     }
 }
 
-/// Does what is asked of a store with so many seats, 1 to 64.
+/// Does what is asked of a store with so many seats, 1 to 64, over a master of this shape.
 pub fn run_day<R: Threads + Wait + Sync>(
     rt: &R,
     alloc: Global,
     watch: &Watch,
     seats: u64,
+    shape: Shape,
     asks: &[(usize, Act)],
 ) -> Option<Evening> {
-    let master = small_master(alloc, watch)?;
+    let master = small_master(alloc, watch, shape)?;
     match Blank::make(alloc, RECORDS, seats.max(1).min(64)) {
         Ok(blank) => day::<SlowFleet<'_>, Brand, R>(rt, alloc, blank, master, watch, asks),
         Err(_) => None,
