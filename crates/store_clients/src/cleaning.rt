@@ -1,57 +1,42 @@
 //! The cleaner that runs beside clients.
 
 use counted_calls::locked_log::{CleanTurn, Naming, Store};
-use counted_calls::master::{PassFault, Refusal, StepAnswer};
-use entry::Row;
+use counted_calls::master::{Refusal, StepAnswer};
 use replica::Fleet;
-use std::alloc::Global;
 use std::sync::Wait;
 use std::thread;
 
 /// How many turns may give nothing.
 const IDLE: u64 = 1000;
 
-/// Makes turns until so many passes have ended or a thousand turns gave nothing, and then ends an open pass. Any other
-/// refusal ends it.
-pub(crate) fn clean<F: Fleet, B: Naming, R: Wait>(
-    rt: &R,
-    alloc: Global,
-    store: &Store<F, B>,
-    passes: u64,
-) {
-    let mut ended: u64 = 0;
+/// Makes the turns that are next until so many passes have ended or a thousand turns gave nothing, and then ends an
+/// open pass. A pass that was open before counts too. If a turn opens a failover, the cleaner pushes to its end. Any
+/// other refusal ends the cleaner.
+pub(crate) fn clean<F: Fleet, B: Naming, R: Wait>(rt: &R, store: &Store<F, B>, passes: u64) {
+    // Nobody else begins a pass. So if enough have begun, the open one is the last.
+    let mut begun: u64 = if store.has_pass(rt) { 1 } else { 0 };
     let mut idle: u64 = 0;
-    let mut is_open = has_pass(rt, alloc, store);
+    let mut is_mending = false;
     for _ in rt.forever() {
-        if !is_open && (ended >= passes || idle >= IDLE) {
+        let is_enough = begun >= passes || idle >= IDLE;
+        let turn = if !is_enough || store.has_pass(rt) {
+            CleanTurn::Next
+        } else if is_mending {
+            CleanTurn::Push
+        } else {
             return;
-        }
-        match store.turn(rt, CleanTurn::Next) {
-            Ok(StepAnswer::Begun(_)) => is_open = true,
-            // While a pass is open, no free is next. So the first free tells that the pass has ended.
-            Ok(StepAnswer::Freed(_, _)) if is_open => {
-                is_open = false;
-                ended = ended.saturating_add(1);
-            }
+        };
+        match store.turn(rt, turn) {
+            Ok(StepAnswer::Begun(_)) => begun = begun.saturating_add(1),
             Ok(_) => {}
-            // A failover is open, and goes on.
-            Err(Refusal::Lost(_)) => {}
-            // While a pass is open, something is next.
+            Err(Refusal::Lost(_)) => is_mending = true,
+            // While a failover is open, a push is next.
             Err(Refusal::Nothing) => {
-                is_open = false;
+                is_mending = false;
                 idle = idle.saturating_add(1);
                 thread::yield_now();
             }
             Err(_) => return,
         }
     }
-}
-
-/// Whether a pass is open. A pass without victims is refused always, and for this reason if one is open.
-fn has_pass<F: Fleet, B: Naming, R: Wait>(rt: &R, alloc: Global, store: &Store<F, B>) -> bool {
-    let victims = Row::new(Vec::new(alloc));
-    matches!(
-        store.turn(rt, CleanTurn::BeginClean(victims)),
-        Err(Refusal::Pass(PassFault::PassOpen))
-    )
 }

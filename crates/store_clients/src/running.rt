@@ -90,7 +90,7 @@ pub fn run_clients<
             // Room for all is taken before a thread is started.
             let mut started = Vec::with_capacity(alloc, seats.len())?;
             let mut clients = Vec::with_capacity(alloc, seats.len())?;
-            let _cleaner = scope.spawn(move || clean(rt, alloc, store, passes));
+            let _cleaner = scope.spawn(move || clean(rt, store, passes));
             for seat in seats {
                 let task = Task {
                     alloc,
