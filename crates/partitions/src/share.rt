@@ -1,6 +1,7 @@
 //! What a worker gathers of one partition.
 
-ghost use Rattle.std.specs.Prelude.{◌≡◌, ◌++◌, map, length, true, false, IfOk, IfErr, OnOk, OnErr, All};
+ghost use Rattle.std.specs.Prelude.{◌≡◌, ◌++◌, map, length, Bool, true, false, IfOk, IfErr, OnOk, OnErr, All};
+ghost use Rattle.std.specs.List.{list_all};
 ghost use Rattle.entry.specs.Format.{IsObject};
 ghost use Rattle.claims.specs.Claims.{claimed, claims_of, has_clash, objects_in, tops};
 ghost use Rattle.partitions.specs.Parted.{entries_in};
@@ -39,7 +40,8 @@ impl<'a, D: Division> Model for Share<'a, D> {
 
 /// Whether all are marked.
 pub fn are_whole(marks: &[bool]) -> bool
-    ensures { result ≡ true → All (λ mark. mark ≡ true) marks.now }
+    ensures test { result ≡ list_all (λ (mark : Bool). mark) marks.now }
+    ensures each { result ≡ true → All (λ mark. mark ≡ true) marks.now }
 {
     marks.iter().all(|mark| *mark)
 }

@@ -21,7 +21,7 @@ gathered g c =
     (gathered_all g.D.Division.parts g.D.Division.segments partition c.self.inside.marks.items
     (claims_of (entries_in c.self.inside.parcels.items)) c.self.invariant
     (subst (λ (ms : List Bool). All (λ (mark : Bool). mark ≡ true) ms) c.as_slice.ensures.value
-    (c.are_whole.ensures c.if-not-are_whole.false)))
+    (c.are_whole.ensures.each c.if-not-are_whole.false)))
 
 pub returns-in_err-objects : goal.returns-in_err-objects
 returns-in_err-objects g c =
