@@ -1,6 +1,7 @@
 //! A log that is divided segment by segment, as its groups are asked for.
 
-ghost use Rattle.std.specs.Prelude.{◌≡◌, ◌<◌, ℕ, map, length, IfOk, IfErr, OnOk, IsTrue, slice_index_or, []};
+ghost use Rattle.std.specs.Prelude.{◌≡◌, ◌<◌, ℕ, Bool, map, length, IfOk, IfErr, OnOk, IsTrue, slice_index_or, []};
+ghost use Rattle.std.specs.List.{list_all};
 ghost use Rattle.division.specs.Division.{AreCovered, IsDivision};
 ghost use Rattle.division.specs.Groups.{grouped};
 ghost use Rattle.claims.specs.Bags.{segments_bag};
@@ -125,7 +126,8 @@ impl<'s, 'a, D: Division> Divider<'s, 'a, D> {
 
     /// Whether all segments are divided. Then each key has a partition.
     pub fn is_whole(&self) -> bool
-        ensures { IsTrue result → AreCovered D.parts (segments_bag D.segments) }
+        ensures test { result ≡ list_all (λ (mark : Bool). mark) self.now }
+        ensures covered { IsTrue result → AreCovered D.parts (segments_bag D.segments) }
     {
         are_whole(self.divided.as_slice())
     }

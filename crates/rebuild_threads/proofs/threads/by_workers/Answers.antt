@@ -26,7 +26,7 @@ returns-clause-turns g c =
     let covered : AreCovered qs (segments_bag segments) =
     subst (λ (ps : List Part). AreCovered ps (segments_bag segments)) c.requires.parts
     (subst (λ (ss : List (List Entry)). AreCovered g.D.Division.parts (segments_bag ss)) c.requires.segments
-    (c.is_whole.ensures c.if-not-is_whole.false)) in
+    (c.is_whole.ensures.covered c.if-not-is_whole.false)) in
     if_ok (IsRebuilt g.D.Division.segments g.D.Division.safe)
     (IsRebuilt (replayed segments qs order) c.args.plan.now.safe)
     c.join_all.result
