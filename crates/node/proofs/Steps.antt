@@ -1,7 +1,7 @@
 -- Lines of steps that make no record, told of a master's life.
 use Rattle.std.proofs.Common.{[], ◌≡◌, ℕ, true, List, refl, sym, ap, subst, inl, inr, ◌∙◌}
 use Rattle.std.proofs.lemmas.List.{append-nil}
-use Rattle.std.specs.Prelude.{Option, Some, None, IfSome, Result, Ok, Err, IfOk}
+use Rattle.std.specs.Prelude.{Option, Some, None, IfSome, Result, Ok, Err, IfOk, OnErr}
 use Rattle.std.specs.Option.{option_map}
 use Rattle.lines.specs.Grammar.{LineValue, Idle, Roll, BeginRoll, Compact, Push, Clean, Begin, Copy, Seal, Free, Will}
 use Rattle.lines.specs.Grammar.{Hex, Log, Room, Holdings, Stop, Fault, Format, Crash, Lose, Recover, Clients}
@@ -9,6 +9,7 @@ use Rattle.std.specs.declared.alloc.AllocError.{AllocError}
 use Rattle.store_clients.specs.master.cleaner.declared.survivors.Survivors.{Survivors}
 use Rattle.replica.specs.declared.label.Label.{Label}
 use Rattle.backup.specs.Inventory.{AreRising}
+use Rattle.backup.specs.State.{HoldsAny}
 use Rattle.replica.specs.Picture.{FleetState, AreLabelsOf}
 use Rattle.versioned_map.specs.declared.command.Command.{Command}
 use Rattle.replica.specs.Take.{limited, no_limit}
@@ -171,11 +172,12 @@ command_makes old line new a command asks makes =
 
 -- ---- what backups hold
 
--- what is shown is all that the fleet holds
+-- what is shown is all that the fleet holds, or it holds something
 pub held_shows : (node : Node) (f : FleetState) (result : Result (List Label) AllocError) → fleet_of node ≡ Some f
-    → IfOk result (AreLabelsOf f.picture) → ShowsFleet node (held_answer result)
-held_shows node f (Err fault) fleet shown = tt
-held_shows node f (Ok labels) fleet shown =
+    → IfOk result (AreLabelsOf f.picture) → OnErr result (HoldsAny f.picture) → ShowsFleet node (held_answer result)
+held_shows node f (Err fault) fleet shown some =
+    subst (λ (o : Option FleetState). IfSome o (λ (x : FleetState). HoldsAny x.picture)) (sym fleet) some
+held_shows node f (Ok labels) fleet shown some =
     subst (λ (o : Option FleetState). IfSome o (λ (x : FleetState). AreLabelsOf x.picture labels)) (sym fleet) shown
 
 -- what the fleet of a master holds is shown, or memory ran out

@@ -1,7 +1,8 @@
 -- What a node stands for, and what its lines do to it.
 use Rattle.std.specs.Prelude.{◌≡◌, ◌⊎◌, ℕ, ◌≤◌, List, ◌++◌, Bool, true, false, Option, Some, None, length, Result, Ok}
 use Rattle.std.specs.Prelude.{Err, IfSome, OnOk, IsTrue}
-use Rattle.backup.specs.State.{fleet_state, lost}
+use Rattle.backup.specs.State.{fleet_state, lost, HoldsAny}
+use Rattle.backup.specs.declared.fleet.Asked.{Asked}
 use Rattle.backup.specs.declared.fleet.MemoryFleet.{MemoryFleet}
 use Rattle.lines.specs.Grammar.{LineValue, Idle, Roll, BeginRoll, Compact, Push, Clean, Begin, Copy, Seal, Free, Will}
 use Rattle.lines.specs.Grammar.{Recover, Hex, Log, Room, Stop, Fault, Crash, Lose, Holdings as HoldingsLine, Clients}
@@ -72,6 +73,12 @@ abbrev pub fleet_of : Node → Option FleetState
 fleet_of (Up m) = Some (fleet_state m.fleet)
 fleet_of (Down fleet) = Some (fleet_state fleet)
 fleet_of Changing = None
+
+-- the fault that the fleet of a node is asked for
+abbrev pub asked_of : Node → Option Asked
+asked_of (Up m) = Some m.fleet.asked
+asked_of (Down fleet) = Some fleet.asked
+asked_of Changing = None
 
 abbrev pub is_up : Node → Bool
 is_up (Up m) = true
@@ -260,35 +267,52 @@ abbrev pub AnswersStep : Node → Config → Step → Node → Answer → Type 0
 AnswersStep old config step new answer = IfSome (line_of step)
     (λ (line : LineValue). AnswersLine old config line new answer)
 
--- the fleet is to take this many more ops, and nothing else changed; what a master knows is the same
+-- The fleet of a node without a master is asked for this fault. A master shows no more of its fleet than any fleet does,
+-- and there nothing is said of it.
+abbrev pub IsAskedDown : Node → Asked → Node → Type 0
+IsAskedDown (Up m) asked new = Unit {0}
+IsAskedDown (Down fleet) asked new = asked_of new ≡ Some asked
+IsAskedDown Changing asked new = asked_of new ≡ None
+
+-- what the fleet of a node without a master is asked for stays
+abbrev pub KeepsAskedDown : Node → Node → Type 0
+KeepsAskedDown (Up m) new = Unit {0}
+KeepsAskedDown old new = asked_of new ≡ asked_of old
+
+-- The fleet is to take this many more ops, and nothing else changed. What a master knows is the same.
 abbrev pub LimitsFleet : Node → ℕ → Node → Type 0
 LimitsFleet old takes new =
     (world_of new ≡ option_map (λ (w : World). limited_world w takes) (world_of old))
     × (fleet_of new ≡ option_map (λ (f : FleetState). limited f takes) (fleet_of old))
+    × KeepsAskedDown old new
 
--- what a master knows, and the state of the fleet, stay as they are
-abbrev pub KeepsFleet : Node → Node → Type 0
-KeepsFleet old new = (world_of new ≡ world_of old) × (fleet_of new ≡ fleet_of old)
+-- just this fault is asked for, and nothing else changed
+abbrev pub AsksFault : Node → ℕ → Bool → Node → Type 0
+AsksFault old takes taken new = (world_of new ≡ world_of old) × (fleet_of new ≡ fleet_of old)
+    × IsAskedDown old (record { takes = takes; taken = taken }) new
 
--- there is no master any more, and the fleet is the same
+-- there is no master any more, and the fleet is the same, with the fault that it is asked for
 abbrev pub LosesMaster : Node → Node → Type 0
-LosesMaster old new = (is_up new ≡ false) × (fleet_of new ≡ fleet_of old)
+LosesMaster old new = (is_up new ≡ false) × (fleet_of new ≡ fleet_of old) × (asked_of new ≡ asked_of old)
 
--- the backup of a node without a master loses all that it holds, and no other does; a node with a master stays
+-- The backup of a node without a master loses all that it holds, and no other does. The fault that the fleet is asked for
+-- stays. A node with a master stays.
 abbrev pub LosesOne : Node → ℕ → Node → Type 0
 LosesOne (Up m) backup new = new ≡ Up m
 LosesOne old backup new =
     (is_up new ≡ false) × (fleet_of new ≡ option_map (λ (f : FleetState). lost f backup) (fleet_of old))
+    × (asked_of new ≡ asked_of old)
 
--- what is shown is what the node's backups hold, of all masters
+-- What is shown is what the node's backups hold, of all masters. Or memory ran out, and they hold a replica.
 abbrev pub ShowsFleet : Node → Answer → Type 0
 ShowsFleet node (Holdings labels) = IfSome (fleet_of node) (λ (f : FleetState). AreLabelsOf f.picture labels)
-ShowsFleet node answer = Unit {0}
+ShowsFleet node (Refused NoMemory) = IfSome (fleet_of node) (λ (f : FleetState). HoldsAny f.picture)
+ShowsFleet node answer = (answer ≡ answers.Down) × (fleet_of node ≡ None)
 
 -- What a line makes of the node: just the steps of its command, its step, its roll, its cleaning, or the rounds of its
 -- clients. A line that shows something changes nothing, and shows what this node has. A stop sets just the limit that
--- it names, a fault that is asked for changes no count, a format nothing of this master, and a crash leaves just the
--- fleet. What a recovery makes is said of the session.
+-- it names, a line of a fault asks for just this fault, a format changes nothing of this master, and a crash leaves just
+-- the fleet. What a recovery makes is said of the session.
 abbrev pub MakesLine : Node → LineValue → Node → Answer → Type 0
 MakesLine old Roll new answer = MakesRoll old new answer
 MakesLine old BeginRoll new answer = MakesStep old step.BeginRoll new answer
@@ -306,7 +330,7 @@ MakesLine old Room new answer = (new ≡ old) × ShowsRoom old answer
 MakesLine old HoldingsLine new answer = (new ≡ old) × ShowsFleet old answer
 MakesLine old Will new answer = new ≡ old
 MakesLine old (Stop takes) new answer = LimitsFleet old takes new
-MakesLine old (Fault takes taken) new answer = KeepsFleet old new
+MakesLine old (Fault takes taken) new answer = AsksFault old takes taken new
 MakesLine old Format new answer = new ≡ old
 MakesLine old Crash new answer = LosesMaster old new
 MakesLine old (Lose backup) new answer = LosesOne old backup new

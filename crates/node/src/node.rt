@@ -7,7 +7,7 @@ ghost use Rattle.std.specs.Option.{option_map};
 ghost use Rattle.history.specs.View.{shown_command, shown_reply};
 ghost use Rattle.answers.specs.Texts.{reply_text};
 ghost use Rattle.store_clients.specs.master.master_state.declared.config.Config.{Config};
-ghost use Rattle.node.specs.Served.{IsDropped, KeepsFleet, fleet_of, is_up};
+ghost use Rattle.node.specs.Served.{IsDropped, AsksFault, asked_of, fleet_of, is_up};
 ghost use Rattle.node.specs.Served.{AnswersLine, LimitsFleet, LosesMaster, LosesOne, MakesStep, MakesRoll, Refuses};
 ghost use Rattle.node.specs.Served.{AnswersStep, MakesClean, ShowsFleet, held_answer, step_told};
 ghost use Rattle.node.specs.Shows.{ShowsDigest, ShowsImage, ShowsRoom};
@@ -146,11 +146,12 @@ impl Node {
         }
     }
 
-    /// Drops the master of a node that is up. The fleet stays as it is.
+    /// Drops the master of a node that is up. The fleet stays as it is, and so does the fault that it is asked for.
     pub fn drop_master(&mut self)
         requires { is_up self.old ≡ true }
         ensures left { IsDropped self.old self.new }
         ensures fleet { fleet_of self.new ≡ fleet_of self.old }
+        ensures asked { asked_of self.new ≡ asked_of self.old }
         ensures down { is_up self.new ≡ false }
     {
         let Node::Up(up) = replace(self, Node::Changing) else {
@@ -296,7 +297,7 @@ impl Node {
     /// Asks the fleet for a fault of this take from now, whose op is taken or not.
     pub fn fault(&mut self, takes: u64, taken: bool) -> Answer
         ensures told { (config : Config) → AnswersLine self.old config (Fault takes taken) self.new result }
-        ensures same { KeepsFleet self.old self.new }
+        ensures same { AsksFault self.old takes taken self.new }
     {
         match self {
             Node::Up(up) => up.fault_at(takes, taken),
@@ -306,7 +307,7 @@ impl Node {
         Answer::Fault(takes, taken)
     }
 
-    /// Drops the master. The fleet stays as it is.
+    /// Drops the master. The fleet stays as it is, with the fault that it is asked for.
     pub fn crash(&mut self) -> Answer
         ensures told { (config : Config) → AnswersLine self.old config Crash self.new result }
         ensures dropped { LosesMaster self.old self.new }

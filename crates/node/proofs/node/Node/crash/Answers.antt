@@ -21,4 +21,4 @@ pub returns-in_default : goal.returns-in_default
 returns-in_default c =
     let node = c.args.self.now in
     let down = not_up node c.in_default.not-Up in
-    record { told = λ config. down_told node config Crash down refl; dropped = (down, refl) }
+    record { told = λ config. down_told node config Crash down refl; dropped = (down, refl, refl) }

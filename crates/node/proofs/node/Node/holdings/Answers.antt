@@ -1,6 +1,6 @@
 use Rattle.std.proofs.Common.{sym, ap, subst}
-use Rattle.std.specs.Prelude.{IfOk}
-use Rattle.backup.specs.State.{fleet_state}
+use Rattle.std.specs.Prelude.{IfOk, OnErr}
+use Rattle.backup.specs.State.{fleet_state, HoldsAny}
 use Rattle.lines.specs.Grammar.{Holdings}
 use Rattle.replica.specs.Picture.{FleetState, AreLabelsOf}
 use Rattle.answers.specs.declared.answer.Answer.{Answer}
@@ -38,10 +38,12 @@ returns-in-Up-clause-shown c =
     subst (λ (a : Answer). ShowsFleet c.args.self.now a) (sym c.held.ensures)
     (held_shows c.args.self.now (fleet_state c.in-Up.up.fleet) c.labels.result (ap fleet_of c.in-Up.is)
     (subst (λ (x : FleetState). IfOk c.labels.result (AreLabelsOf x.picture))
-    (ap fleet_state c.fleet.ensures) c.labels.ensures.shown))
+    (ap fleet_state c.fleet.ensures) c.labels.ensures.shown)
+    (subst (λ (x : FleetState). OnErr c.labels.result (HoldsAny x.picture))
+    (ap fleet_state c.fleet.ensures) c.labels.ensures.memory))
 
 pub returns-in-Down-clause-shown : goal.returns-in-Down-clause-shown
 returns-in-Down-clause-shown c =
     subst (λ (a : Answer). ShowsFleet c.args.self.now a) (sym c.held-in-Down.ensures)
     (held_shows c.args.self.now (fleet_state c.in-Down.fleet) c.labels-in-Down.result
-    (ap fleet_of c.in-Down.is) c.labels-in-Down.ensures.shown)
+    (ap fleet_of c.in-Down.is) c.labels-in-Down.ensures.shown c.labels-in-Down.ensures.memory)

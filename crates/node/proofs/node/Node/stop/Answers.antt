@@ -1,4 +1,5 @@
-use Rattle.std.proofs.Common.{◌≡◌, refl, ap, subst, ◌∙◌}
+use Rattle.std.proofs.Common.{◌≡◌, refl, sym, ap, subst, ◌∙◌}
+use Rattle.std.specs.Prelude.{Some}
 use Rattle.backup.specs.State.{fleet_state}
 use Rattle.lines.specs.Grammar.{Stop}
 use Rattle.store_clients.specs.master.World.{World}
@@ -8,7 +9,7 @@ use Rattle.replica.specs.Picture.{FleetState}
 use Rattle.answers.specs.declared.answer.Answer.TheVariants as answer
 use Rattle.node.specs.declared.node.Node.{Node}
 use Rattle.node.specs.declared.node.Node.TheVariants.{Down, Up}
-use Rattle.node.specs.Served.{AnswersLine, IsOf}
+use Rattle.node.specs.Served.{AnswersLine, LimitsFleet, IsOf}
 use Rattle.node.proofs.Standing.{same_told}
 use Rattle.node.proofs.WhatIsLeft.{same_picture}
 use Rattle.node.proofs.node.Node.stop.Goals.{in-Up, in-Down, in-Changing}
@@ -42,4 +43,15 @@ returns-clause-told c = λ config.
           ))
           (λ d at s. (refl, refl)))
       | in-Changing w ↦ λ d at s. absurd (subst (λ (n : Node). IsOf n at.left d) w.in-Changing.is s.node_of)
+    ]
+
+pub returns-clause-limited : goal.returns-clause-limited
+returns-clause-limited c =
+    elim c.match-self.branch as (λ _. LimitsFleet c.args.self.now c.args.takes c.match-self.self) [
+      | in-Up w ↦ rw w.self-is (subst (λ (n : Node). LimitsFleet n c.args.takes (Up w.limit.new.self))
+          (sym w.in-Up.is) (ap Some w.limit.ensures.limited, ap (λ (x : World). Some x.fleet) w.limit.ensures.limited, tt))
+      | in-Down w ↦ rw w.self-is (subst (λ (n : Node). LimitsFleet n c.args.takes (Down w.limit-in-Down.new.self))
+          (sym w.in-Down.is) (refl, ap Some w.limit-in-Down.ensures.limited, ap Some w.limit-in-Down.ensures.asked))
+      | in-Changing w ↦ rw w.self-is (subst (λ (n : Node). LimitsFleet n c.args.takes n) (sym w.in-Changing.is)
+          (refl, refl, refl))
     ]
