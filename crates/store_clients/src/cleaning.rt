@@ -19,14 +19,16 @@ pub(crate) fn clean<F: Fleet, B: Naming, R: Wait>(rt: &R, store: &Store<F, B>, p
     let mut is_mending = false;
     for _ in rt.forever() {
         let is_enough = begun >= passes || idle >= IDLE;
-        let turn = if !is_enough || store.has_pass(rt) {
-            CleanTurn::Next
-        } else if is_mending {
-            CleanTurn::Push
+        let answer = if is_enough {
+            match store.turn_in_pass(rt) {
+                Some(answer) => answer,
+                None if is_mending => store.turn(rt, CleanTurn::Push),
+                None => return,
+            }
         } else {
-            return;
+            store.turn(rt, CleanTurn::Next)
         };
-        match store.turn(rt, turn) {
+        match answer {
             Ok(StepAnswer::Begun(_)) => begun = begun.saturating_add(1),
             Ok(_) => {}
             Err(Refusal::Lost(_)) => is_mending = true,
