@@ -1,14 +1,18 @@
 //! What the tests ask of a master.
 
-use entry::{Key, MAX_VALUE_LEN, Value};
+use entry::{Key, MAX_VALUE_LEN, Row, Value};
 use recovery::master::{Command, If, Step};
 use std::alloc::Global;
 
-/// Pushes, the begin of a roll, or a command on a key. The key is of table 1, if no table is named.
+/// Pushes, the begin of a roll, steps of a pass, or a command on a key. The key is of table 1, if no table is named.
 pub enum Ask {
     /// So many pushes.
     Push(usize),
     Roll,
+    /// The begin of a pass with these victims.
+    Clean(&'static [u64]),
+    Copy,
+    Seal,
     Get(&'static [u8]),
     /// A put of one byte.
     Put(&'static [u8], u8, If),
@@ -56,10 +60,19 @@ fn add_pushes(steps: &mut Vec<Step>, times: usize) -> Option<()> {
     Some(())
 }
 
+/// The begin of a pass.
+fn clean(alloc: Global, victims: &[u64]) -> Option<Step> {
+    let victims = Vec::from_slice(alloc, victims).ok()?;
+    Some(Step::BeginClean(Row::new(victims)))
+}
+
 fn add_steps(alloc: Global, steps: &mut Vec<Step>, ask: &Ask) -> Option<()> {
     match ask {
         Ask::Push(times) => add_pushes(steps, *times),
         Ask::Roll => steps.push(Step::BeginRoll).ok(),
+        Ask::Clean(victims) => steps.push(clean(alloc, victims)?).ok(),
+        Ask::Copy => steps.push(Step::Copy).ok(),
+        Ask::Seal => steps.push(Step::Seal).ok(),
         _ => steps.push(Step::Apply(SEAT, command_of(alloc, ask)?)).ok(),
     }
 }

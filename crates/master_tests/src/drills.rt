@@ -1,8 +1,8 @@
 //! A master's whole life on a small fleet, and its recovery from the backups that are kept, in several orders.
 
-use crate::asks::Ask::{Get, Push, Put, Roll};
+use crate::asks::Ask::{Clean, Copy, Get, Push, Put, Roll, Seal};
 use crate::asks::{Ask, steps_of};
-use crate::masters::{TABLETS, new_master};
+use crate::masters::{TABLETS, new_master_in};
 use backup::MemoryFleet;
 use entry::{NoMemory, Row, Size};
 use recovery::master::{If, Master};
@@ -100,25 +100,43 @@ fn is_recovered(
 /// A drill, or the master if memory ran out.
 type Drilled = Result<Drill<MemoryFleet>, (NoMemory, Master<MemoryFleet>)>;
 
-fn is_told(alloc: Global, drilled: &Drilled, want: &Recovered) -> bool {
+/// The format of the log, and which take ends in a fault, though its op is taken. With 0 none does.
+type Start = (u64, u64);
+
+/// How many records were durable as the master stopped, how many pushes an open failover still needed, and what came
+/// back.
+type Want = (u64, u64, Recovered);
+
+/// Whether it stopped so.
+fn is_stopped(drill: &Drill<MemoryFleet>, durable: u64, pushes_left: u64) -> bool {
+    drill.durable == durable && drill.pushes_left == pushes_left
+}
+
+fn is_told(alloc: Global, drilled: &Drilled, want: &Want) -> bool {
+    let (durable, pushes_left, recovered) = want;
     match drilled {
-        Ok(drill) => is_recovered(alloc, &drill.recovered, want),
+        Ok(drill) => {
+            is_stopped(drill, *durable, *pushes_left)
+                && is_recovered(alloc, &drill.recovered, recovered)
+        }
         Err(_) => false,
     }
 }
 
-fn is_drilled(alloc: Global, course: &Course, want: &Recovered) -> bool {
-    let Some(master) = new_master(alloc) else {
+fn is_drilled(alloc: Global, start: Start, course: &Course, want: &Want) -> bool {
+    let (format, fault) = start;
+    let Some(mut master) = new_master_in(alloc, format) else {
         return false;
     };
+    master.fault_at(fault, true);
     let (steps, kept) = (course.steps.as_slice(), course.kept.as_slice());
     let drilled = run_drill(alloc, master, steps, kept, &course.will, &course.order);
     is_told(alloc, &drilled, want)
 }
 
-fn is_lived(alloc: Global, life: &Life, want: &Recovered) -> bool {
+fn is_lived(alloc: Global, start: Start, life: &Life, want: &Want) -> bool {
     match &course_of(alloc, life) {
-        Some(course) => is_drilled(alloc, course, want),
+        Some(course) => is_drilled(alloc, start, course, want),
         None => false,
     }
 }
@@ -155,6 +173,40 @@ const TWO_SEGMENTS: &[Ask] = &[
     Push(2),
 ];
 
+/// The same, and then a pass takes segment 1 out of the log: `b` goes to survivor 3, and head 4 commits it.
+const COMMITTED: &[Ask] = &[
+    Push(2),
+    Put(b"a", b'x', If::Any),
+    Put(b"b", b'y', If::Any),
+    Push(2),
+    Roll,
+    Push(4),
+    Put(b"a", b'z', If::Any),
+    Push(2),
+    Clean(&[1]),
+    Copy,
+    Copy,
+    Seal,
+    Seal,
+    Roll,
+    Push(4),
+];
+
+/// Puts `a` and `b`, and pushes `b` until nothing is left, also if its first Extend ends in a fault.
+const PUSHED: &[Ask] = &[
+    Push(2),
+    Put(b"a", b'x', If::Any),
+    Push(2),
+    Put(b"b", b'x', If::Any),
+    Push(9),
+];
+
+/// Format 1, without a fault.
+const CALM: Start = (1, 0);
+
+/// Format 2, and the fifth take ends in a fault.
+const FAILS: Start = (2, 5);
+
 /// The places of `a` and `b`.
 const SPLIT: &[Size] = &[
     Size {
@@ -176,62 +228,158 @@ const BOTH: Recovered = Ok((&[(b"a", 1), (b"b", 2)], 3));
 
 const AGAIN: Recovered = Ok((&[(b"a", 2), (b"b", 2)], 3));
 
-const ROWS: &[(Life, Recovered)] = &[
-    ((READ, ALL, &[], Order::Forward), Ok((&[(b"a", 1)], 2))),
-    ((ONE_BEHIND, ALL, &[], Order::Forward), BOTH),
-    ((ONE_BEHIND, ALL, &[], Order::Reverse), BOTH),
+const ONE: Recovered = Ok((&[(b"a", 1)], 2));
+
+const EMPTY: Recovered = Ok((&[], 1));
+
+const NO_HEAD: Recovered = Err("NoHead");
+
+const ROWS: &[(Start, Life, Want)] = &[
+    (CALM, (READ, ALL, &[], Order::Forward), (2, 0, ONE)),
+    (CALM, (ONE_BEHIND, ALL, &[], Order::Forward), (1, 0, BOTH)),
+    (CALM, (ONE_BEHIND, ALL, &[], Order::Reverse), (1, 0, BOTH)),
     (
+        CALM,
         (ONE_BEHIND, &[2, 0], &[], Order::Forward),
-        Ok((&[(b"a", 1)], 2)),
+        (1, 0, ONE),
     ),
     (
+        CALM,
         (ONE_BEHIND, &[2, 0], &[], Order::Reverse),
-        Ok((&[(b"a", 1)], 2)),
+        (1, 0, ONE),
     ),
-    ((ONE_BEHIND, &[0], &[], Order::Forward), Err("NoHead")),
-    ((ONE_BEHIND, &[0], &[], Order::Reverse), Err("NoHead")),
-    ((BATCH_BEHIND, ALL, &[], Order::Forward), BOTH),
-    ((BATCH_BEHIND, &[1, 0], &[], Order::Forward), BOTH),
-    ((BATCH_BEHIND, &[2, 0], &[], Order::Forward), Ok((&[], 1))),
+    (
+        CALM,
+        (ONE_BEHIND, &[0], &[], Order::Forward),
+        (1, 0, NO_HEAD),
+    ),
+    (
+        CALM,
+        (ONE_BEHIND, &[0], &[], Order::Reverse),
+        (1, 0, NO_HEAD),
+    ),
+    (CALM, (BATCH_BEHIND, ALL, &[], Order::Forward), (0, 0, BOTH)),
+    (
+        CALM,
+        (BATCH_BEHIND, &[1, 0], &[], Order::Forward),
+        (0, 0, BOTH),
+    ),
+    (
+        CALM,
+        (BATCH_BEHIND, &[2, 0], &[], Order::Forward),
+        (0, 0, EMPTY),
+    ),
+    // The head is open on backup 1 alone, and nothing was put. If that one is lost, no head is left.
+    (CALM, (&[], ALL, &[], Order::Forward), (0, 0, NO_HEAD)),
+    (
+        CALM,
+        (&[Push(1)], &[0, 1], &[], Order::Forward),
+        (0, 0, EMPTY),
+    ),
+    (
+        CALM,
+        (&[Push(1)], &[0, 2], &[], Order::Forward),
+        (0, 0, NO_HEAD),
+    ),
+    // One backup is lost after a roll, and after a commit.
+    (
+        CALM,
+        (TWO_SEGMENTS, &[1, 2], SPLIT, Order::Forward),
+        (3, 0, AGAIN),
+    ),
+    (
+        CALM,
+        (TWO_SEGMENTS, &[0, 2], SPLIT, Order::Forward),
+        (3, 0, AGAIN),
+    ),
+    (
+        CALM,
+        (TWO_SEGMENTS, &[0, 1], SPLIT, Order::Forward),
+        (3, 0, AGAIN),
+    ),
+    (CALM, (COMMITTED, ALL, SPLIT, Order::Forward), (3, 0, AGAIN)),
+    (
+        CALM,
+        (COMMITTED, &[1, 2], SPLIT, Order::Forward),
+        (3, 0, AGAIN),
+    ),
+    (
+        CALM,
+        (COMMITTED, &[0, 2], SPLIT, Order::Reverse),
+        (3, 0, AGAIN),
+    ),
+    (
+        CALM,
+        (COMMITTED, &[0, 1], SPLIT, Order::Forward),
+        (3, 0, AGAIN),
+    ),
+    // A failover is open, and the durable count stays. Seven pushes are left: an Extend, three Opens, the raise and two
+    // Closes.
+    (FAILS, (ONE_BEHIND, ALL, &[], Order::Forward), (1, 7, BOTH)),
+    (
+        FAILS,
+        (ONE_BEHIND, &[0, 2], &[], Order::Forward),
+        (1, 7, ONE),
+    ),
+    (FAILS, (PUSHED, &[0, 1], &[], Order::Forward), (2, 0, BOTH)),
+    (FAILS, (PUSHED, &[0, 2], &[], Order::Forward), (2, 0, BOTH)),
+    (FAILS, (PUSHED, &[1, 2], &[], Order::Forward), (2, 0, BOTH)),
+    (
+        FAILS,
+        (PUSHED, &[1], &[], Order::Forward),
+        (2, 0, Err("HeadTooOld 1")),
+    ),
     // Groups 0 and 1 are of segment 1, and 2 and 3 of segment 2. A given order counts as forwards.
-    ((TWO_SEGMENTS, ALL, SPLIT, Order::Forward), AGAIN),
     (
+        CALM,
+        (TWO_SEGMENTS, ALL, SPLIT, Order::Forward),
+        (3, 0, AGAIN),
+    ),
+    (
+        CALM,
         (TWO_SEGMENTS, ALL, SPLIT, Order::Given(&[2, 0, 3, 1])),
-        AGAIN,
+        (3, 0, AGAIN),
     ),
     (
+        CALM,
         (TWO_SEGMENTS, ALL, SPLIT, Order::Given(&[1, 3, 0, 2])),
-        AGAIN,
+        (3, 0, AGAIN),
     ),
     (
+        CALM,
         (TWO_SEGMENTS, ALL, SPLIT, Order::Given(&[3, 2, 1, 0])),
-        AGAIN,
+        (3, 0, AGAIN),
     ),
     (
+        CALM,
         (TWO_SEGMENTS, ALL, SPLIT, Order::Given(&[0, 3, 2, 1, 3])),
-        Err("Double 2"),
+        (3, 0, Err("Double 2")),
     ),
     (
+        CALM,
         (TWO_SEGMENTS, ALL, SPLIT, Order::Given(&[2, 0, 3, 0])),
-        Err("Double 1"),
+        (3, 0, Err("Double 1")),
     ),
     (
+        CALM,
         (TWO_SEGMENTS, ALL, SPLIT, Order::Given(&[3, 0, 1])),
-        Err("MissingGroup 2"),
+        (3, 0, Err("MissingGroup 2")),
     ),
     (
+        CALM,
         (TWO_SEGMENTS, ALL, SPLIT, Order::Given(&[3, 0, 2])),
-        Err("MissingGroup 1"),
+        (3, 0, Err("MissingGroup 1")),
     ),
     (
+        CALM,
         (TWO_SEGMENTS, ALL, SPLIT, Order::Given(&[4, 0, 3, 1, 2])),
-        Err("Stranger"),
+        (3, 0, Err("Stranger")),
     ),
 ];
 
 #[test]
 fn a_drill_recovers_what_is_left(rt: HostRuntime) {
-    for (place, (life, want)) in ROWS.iter().enumerate() {
-        assert!(rt; is_lived(rt.alloc(), life, want), "row {place}");
+    for (place, (start, life, want)) in ROWS.iter().enumerate() {
+        assert!(rt; is_lived(rt.alloc(), *start, life, want), "row {place}");
     }
 }
