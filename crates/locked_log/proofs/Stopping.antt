@@ -19,7 +19,7 @@ use Rattle.store_step.specs.declared.turn.CleanTurn.TheVariants as turn
 use Rattle.store_step.specs.Turns.{MakesTurn}
 use Rattle.store_seat.specs.Stops.{StopsPush, RefusesCall, RefusesRoll}
 use Rattle.locked_log.specs.Held.{Held, knows}
-use Rattle.locked_log.specs.Steps.{Turns}
+use Rattle.locked_log.specs.Steps.{Turns, GoesOn, PushesHeld}
 
 -- ---- a command and a roll
 
@@ -28,28 +28,43 @@ CanRefuse : Option Refusal → Type 0
 CanRefuse None = Unit {0}
 CanRefuse (Some r) = RefusesRoll r
 
+may : (r : Refusal) → RefusesRoll r → CanRefuse (Some r)
+unfolding CanRefuse
+may r h = h
+
+nothing : CanRefuse None
+unfolding CanRefuse
+nothing = tt
+
+refuses : (r : Refusal) → CanRefuse (Some r) → RefusesRoll r
+unfolding CanRefuse
+refuses r h = h
+
 pick : (a : Bool) (x y : Option Refusal) → CanRefuse x → CanRefuse y → CanRefuse (cond a x y)
 pick true x y p q = p
 pick false x y p q = q
 
 early_can : (d : MasterData) (command : Command) → CanRefuse (early_refusal d command)
-early_can d command = pick _ (Some refusal.Halted) _ tt (pick _ (Some refusal.TooBig) _ tt
-    (pick _ (Some refusal.NoTablet) _ tt (pick _ (Some refusal.HistoryFull) None tt tt)))
+early_can d command = pick _ (Some refusal.Halted) _ (may refusal.Halted tt)
+    (pick _ (Some refusal.TooBig) _ (may refusal.TooBig tt) (pick _ (Some refusal.NoTablet) _ (may refusal.NoTablet tt)
+    (pick _ (Some refusal.HistoryFull) None (may refusal.HistoryFull tt) nothing)))
 
 unit_can : (d : MasterData) (command : Command) (unit : List Entry) → CanRefuse (unit_refusal d command unit)
-unit_can d command unit =
-    pick _ None _ tt (pick _ (Some refusal.Full) _ tt (pick _ (Some refusal.Rolling) None tt tt))
+unit_can d command unit = pick _ None _ nothing (pick _ (Some refusal.Full) _ (may refusal.Full tt)
+    (pick _ (Some refusal.Rolling) None (may refusal.Rolling tt) nothing))
 
 late_can : (d : MasterData) (command : Command) → CanRefuse (late_refusal d command)
-late_can d command = pick _ (Some refusal.VersionsSpent) _ tt (unit_can d command (unit_now d command))
+late_can d command = pick _ (Some refusal.VersionsSpent) _ (may refusal.VersionsSpent tt)
+    (unit_can d command (unit_now d command))
 
 command_can : (d : MasterData) (command : Command) → CanRefuse (command_refusal d command)
 command_can d command = pick _ (late_refusal d command) (early_refusal d command) (late_can d command)
     (early_can d command)
 
 roll_can : (d : MasterData) → CanRefuse (roll_refusal d)
-roll_can d = pick _ (Some refusal.Halted) _ tt (pick _ (Some refusal.Rolling) _ tt
-    (pick _ (Some refusal.SegmentsSpent) _ tt (pick _ (Some refusal.Full) None tt tt)))
+roll_can d = pick _ (Some refusal.Halted) _ (may refusal.Halted tt) (pick _ (Some refusal.Rolling) _
+    (may refusal.Rolling tt) (pick _ (Some refusal.SegmentsSpent) _ (may refusal.SegmentsSpent tt)
+    (pick _ (Some refusal.Full) None (may refusal.Full tt) nothing)))
 
 -- without a roll
 no_roll : (r : Refusal) → RefusesRoll r → (r ≡ refusal.Rolling → ⊥) → RefusesCall r
@@ -71,7 +86,7 @@ no_roll (refusal.Lost b) h other = h
 pub command_refuses : (s t : World) (seat : ℕ) (command : Command) (r : Refusal) → Declines s (Apply seat command) r t
     → (command_refusal s.knows command ≡ Some refusal.Rolling → ⊥) → RefusesCall r
 command_refuses s t seat command r (same, inl e) waits =
-    no_roll r (subst CanRefuse e (command_can s.knows command)) (λ is. waits (e ∙ ap Some is))
+    no_roll r (refuses r (subst CanRefuse e (command_can s.knows command))) (λ is. waits (e ∙ ap Some is))
 command_refuses s t seat command r (same, inr e) waits = subst RefusesCall (sym e.1) tt
 
 -- the begin of a roll
@@ -80,7 +95,7 @@ pub roll_refuses : (s t : Held) (answer : Result StepAnswer Refusal) → Turns s
 roll_refuses s t (Ok a) h = tt
 roll_refuses s t (Err r) h = begins h.steps where
   declines : Declines s.world BeginRoll r t.world → RefusesRoll r
-  declines (same, inl e) = subst CanRefuse e (roll_can (knows s))
+  declines (same, inl e) = refuses r (subst CanRefuse e (roll_can (knows s)))
   declines (same, inr e) = subst RefusesRoll (sym e.1) tt
 
   begins : MakesTurn s.world turn.BeginRoll (Err r) t.world → RefusesRoll r
@@ -90,7 +105,7 @@ roll_refuses s t (Err r) h = begins h.steps where
 -- ---- a push
 
 -- what a push may be refused for
-Ends : Refusal → Type 0
+abbrev Ends : Refusal → Type 0
 Ends refusal.Nothing = Unit {0}
 Ends (refusal.Lost b) = Unit {0}
 Ends r = StopsPush r
@@ -145,7 +160,23 @@ stops (refusal.Pass fault) h idle lost = h
 stops refusal.SegmentsSpent h idle lost = h
 stops refusal.NoTablet h idle lost = h
 
--- a push that is refused for another reason
-pub push_stops : (s t : Held) (r : Refusal) → Turns s turn.Push (Err r) t → (r ≡ refusal.Nothing → ⊥)
-    → ((b : ℕ) → r ≡ refusal.Lost b → ⊥) → StopsPush r
-push_stops s t r h = stops r (turns_push s.world t.world r h.steps)
+module _ (s t : Held) (answer : Result StepAnswer Refusal) (r : Refusal) (h : Turns s turn.Push answer t) where
+  -- a push that is refused for another reason
+  pub refused_push : answer ≡ Err r → (r ≡ refusal.Nothing → ⊥) → ((b : ℕ) → r ≡ refusal.Lost b → ⊥)
+      → Turns s turn.Push (Err r) t × StopsPush r
+  refused_push is idle lost =
+      let turns = subst (λ (a : Result StepAnswer Refusal). Turns s turn.Push a t) is h in
+      (turns, stops r (turns_push s.world t.world r turns.steps) idle lost)
+
+  -- a push for which nothing waits
+  pub idle_push : answer ≡ Err r → r ≡ refusal.Nothing → PushesHeld s (Ok tt) t
+  idle_push is idle = (answer, h, subst GoesOn (sym (is ∙ ap Err idle)) tt)
+
+  -- a push that opens a failover
+  pub lost_push : (b : ℕ) → answer ≡ Err r → r ≡ refusal.Lost b → PushesHeld s (Ok tt) t
+  lost_push b is lost = (answer, h, subst GoesOn (sym (is ∙ ap Err lost)) tt)
+
+-- a push that was made
+pub made_push : (s t : Held) (answer : Result StepAnswer Refusal) (a : StepAnswer) → Turns s turn.Push answer t
+    → answer ≡ Ok a → PushesHeld s (Ok tt) t
+made_push s t answer a h is = (answer, h, subst GoesOn (sym is) tt)

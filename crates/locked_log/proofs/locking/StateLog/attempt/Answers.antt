@@ -1,4 +1,4 @@
-use Rattle.std.proofs.Common.{refl, ap, sym, ◌∙◌, subst, false, rules}
+use Rattle.std.proofs.Common.{refl, ap, sym, subst, rules}
 use Rattle.std.specs.Prelude.{IfSome, Result}
 use Rattle.std.specs.Result.{result_err}
 use Rattle.store_seat.specs.Stops.{RefusesRoll}
