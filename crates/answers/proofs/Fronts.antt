@@ -2,10 +2,16 @@
 use Rattle.std.proofs.Common.{[], ◌≡◌, ◌∙◌, ap, refl, sym, append_assoc, List, ◌++◌, take, drop, ℕ, subst, append-nil}
 use Rattle.std.proofs.Common.{Bool, true, false}
 use Rattle.std.proofs.KnownBytes.{Appends-nil, Appends-trans, Appends-kept, Keeps-refl, Keeps-trans}
-use Rattle.std.proofs.lemmas.List.{take-append-drop}
+use Rattle.std.proofs.Common.{◌∷◌, ◌+◌, ◌<◌, length, get_or}
+use Rattle.arrayvec.specs.ArrayString.{ArrayString}
+use Rattle.std.specs.Fmt.{WritesText, ◌++?◌}
+use Rattle.std.proofs.lemmas.Fmt.{contents_after_writes}
+use Rattle.std.proofs.lemmas.List.{flat_map_more, take-append-drop, take_more}
+use Rattle.std.proofs.lemmas.List.Concat.{flat_map-append}
+use Rattle.std.specs.List.{flat_map}
 use Rattle.std.specs.Io.KnownBytes.{Appends, Keeps}
-use Rattle.std.specs.Prelude.{Option}
-use Rattle.answers.specs.Errors.{AppendsFront, Errors, Writes, WritesUnless}
+use Rattle.std.specs.Prelude.{Option, None, Some, IfSome, codes, Result, Ok, Err, is_err, IsErr}
+use Rattle.answers.specs.Errors.{AppendsFront, Errors, IsHanded, Writes, WritesUnless}
 
 -- what was written of some bytes is written of more
 pub cut_there : (held holds : Option (List ℕ)) (bytes more : List ℕ) → AppendsFront held holds bytes
@@ -80,6 +86,82 @@ line_pieces before words more number after =
     ap (λ (l : List ℕ). before ++ l) (sym (append_assoc words more (number ++ after))
     ∙ sym (append_assoc (words ++ more) number after))
 
+-- ---- what was handed to a writer
+
+-- some bytes were written, and then more were handed over
+pub hands_on : {E : Type 0} (held mid holds : Option (List ℕ)) (bytes more : List ℕ) (r : Result (Unit {0}) E)
+    → Appends held mid bytes
+    → IsHanded mid holds more r → IsHanded held holds (bytes ++ more) r
+hands_on held mid holds bytes more (Ok done) all next = Appends-trans held mid holds bytes more all next
+hands_on held mid holds bytes more (Err e) all next = cut_later held mid holds bytes more all next
+
+-- the same, of the pieces of a text
+pub hands_as : {E : Type 0} (held mid holds : Option (List ℕ)) (bytes more whole : List ℕ) (r : Result (Unit {0}) E)
+    → Appends held mid bytes
+    → IsHanded mid holds more r → bytes ++ more ≡ whole → IsHanded held holds whole r
+hands_as held mid holds bytes more whole r all next is =
+    subst (λ (l : List ℕ). IsHanded held holds l r) is (hands_on held mid holds bytes more r all next)
+
+-- the bytes were handed over to the error output's writer
+pub handed_unless : {E : Type 0} (held holds : Option (List ℕ)) (bytes : List ℕ) (r : Result (Unit {0}) E)
+    → IsHanded held holds bytes r → WritesUnless false (is_err r) held holds bytes
+handed_unless held holds bytes (Ok done) h = h
+handed_unless held holds bytes (Err e) h = h
+
+-- the same bytes were handed over
+pub handed_as : {E : Type 0} (held holds : Option (List ℕ)) (bytes whole : List ℕ) (r : Result (Unit {0}) E)
+    → IsHanded held holds bytes r → bytes ≡ whole → IsHanded held holds whole r
+handed_as held holds bytes whole r handed is = subst (λ (l : List ℕ). IsHanded held holds l r) is handed
+
+-- the line of what was refused was handed over, if its text is known
+pub refused_handed : {E : Type 0} (output : Option (List ℕ)) (held holds : Option (List ℕ)) (line bytes : List ℕ)
+    (r : Result (Unit {0}) E)
+    → IfSome output (λ text. line ≡ codes "refused " ++ text ++ 10 ∷ []) → IsHanded held holds bytes r
+    → bytes ≡ line → IfSome output (λ text. IsHanded held holds (codes "refused " ++ text ++ 10 ∷ []) r)
+refused_handed None held holds line bytes r known handed is = tt
+refused_handed (Some text) held holds line bytes r known handed is =
+    handed_as held holds bytes (codes "refused " ++ text ++ 10 ∷ []) r handed (is ∙ known)
+
+-- what a line in an array holds, if the text of what was refused is known
+pub refused_held : (took : ArrayString → List ℕ → ArrayString → Type 0)
+    → ((line : ArrayString) (bytes : List ℕ) (next : ArrayString) → took line bytes next
+    → next.bytes ≡ line.bytes ++ bytes)
+    → (output : Option (List ℕ)) (old new : ArrayString) → old.bytes ≡ []
+    → WritesText took old (Some (codes "refused ") ++? output ++? Some (10 ∷ [])) new
+    → IfSome output (λ text. new.bytes ≡ codes "refused " ++ text ++ 10 ∷ [])
+refused_held took appends None old new none written = tt
+refused_held took appends (Some text) old new none written =
+    contents_after_writes took (λ (line : ArrayString). line.bytes) appends old
+    (codes "refused " ++ text ++ 10 ∷ []) new written
+    ∙ ap (λ (l : List ℕ). l ++ (codes "refused " ++ text ++ 10 ∷ [])) none
+
+-- nothing of it was written
+pub refused_not : (output : Option (List ℕ)) (held : Option (List ℕ))
+    → IfSome output (λ text. AppendsFront held held (codes "refused " ++ text ++ 10 ∷ []))
+refused_not None held = tt
+refused_not (Some text) held = ([], codes "refused " ++ text ++ 10 ∷ [], refl, Appends-nil held)
+
+-- a fault was handed on
+pub fails_out : {E : Type 0} (held holds : Option (List ℕ)) (whole : List ℕ)
+    (r : Result (Unit {0}) E) → IsErr r → AppendsFront held holds whole → IsHanded held holds whole r
+fails_out held holds whole (Ok done) failed front = absurd (cc)
+fails_out held holds whole (Err e) failed front = front
+
+-- the writer failed at the first piece of a text
+pub out_first : {E : Type 0} (held holds : Option (List ℕ)) (bytes after whole : List ℕ)
+    (r : Result (Unit {0}) E)
+    → IsErr r → AppendsFront held holds bytes → bytes ++ after ≡ whole → IsHanded held holds whole r
+out_first held holds bytes after whole r failed front is =
+    fails_out held holds whole r failed (subst (AppendsFront held holds) is (cut_there held holds bytes after front))
+
+-- the writer failed at a later piece
+pub out_later : {E : Type 0} (held mid holds : Option (List ℕ)) (bytes more after whole : List ℕ)
+    (r : Result (Unit {0}) E)
+    → IsErr r → Appends held mid bytes → AppendsFront mid holds more → (bytes ++ more) ++ after ≡ whole
+    → IsHanded held holds whole r
+out_later held mid holds bytes more after whole r failed all front is =
+    out_first held holds (bytes ++ more) after whole r failed (cut_later held mid holds bytes more all front) is
+
 -- the front of the bytes that was written so far, where `rest` is left
 abbrev pub Wrote : Option (List ℕ) → Option (List ℕ) → List ℕ → List ℕ → Type 0
 Wrote held holds bytes rest = (front : List ℕ) × (bytes ≡ front ++ rest) × Appends held holds front
@@ -107,3 +189,32 @@ wrote_all held holds bytes rest w none =
 pub wrote_front : (held holds : Option (List ℕ)) (bytes rest : List ℕ) → Wrote held holds bytes rest
     → AppendsFront held holds bytes
 wrote_front held holds bytes rest w = (w.0, rest, w.1, w.2)
+
+-- ---- lists
+
+-- the writer failed at one element of a list
+pub one_cut : {X : Type 0} (text : X → List ℕ) (xs : List X) (i : ℕ) (default : X)
+    (old mid new : Option (List ℕ)) → i < length xs
+    → Appends old mid (flat_map text (take i xs)) → AppendsFront mid new (text (get_or xs i default))
+    → AppendsFront old new (flat_map text xs)
+one_cut text xs i default old mid new below before front =
+    let grown = flat_map_more text [] (take i xs) (get_or xs i default)
+    ∙ ap (flat_map text) (sym (take_more xs i default below)) in
+    let so_far = subst (AppendsFront old new) grown
+    (cut_later old mid new (flat_map text (take i xs)) (text (get_or xs i default)) before front) in
+    subst (AppendsFront old new)
+    (sym (flat_map-append text (take (i + 1) xs) (drop (i + 1) xs))
+    ∙ ap (flat_map text) (take-append-drop (i + 1) xs))
+    (cut_there old new (flat_map text (take (i + 1) xs)) (flat_map text (drop (i + 1) xs)) so_far)
+
+-- the writer failed at the element that comes next
+pub next_of_cut : {X : Type 0} (text : X → List ℕ) (done : List X) (x : X) (left all : List X)
+    (old mid new : Option (List ℕ)) → done ++ (x ∷ left) ≡ all
+    → Appends old mid (flat_map text done) → AppendsFront mid new (text x) → AppendsFront old new (flat_map text all)
+next_of_cut text done x left all old mid new is before front =
+    let whole : (flat_map text done ++ text x) ++ flat_map text left ≡ flat_map text all =
+    append_assoc (flat_map text done) (text x) (flat_map text left)
+    ∙ sym (flat_map-append text done (x ∷ left)) ∙ ap (flat_map text) is in
+    subst (AppendsFront old new) whole
+    (cut_there old new (flat_map text done ++ text x) (flat_map text left)
+    (cut_later old mid new (flat_map text done) (text x) before front))

@@ -1,5 +1,5 @@
--- What is written to the error output.
-use Rattle.std.specs.Prelude.{◌≡◌, ℕ, List, ◌++◌, Bool, true, false, Option}
+-- What is written, and what is written to the error output.
+use Rattle.std.specs.Prelude.{◌≡◌, ℕ, List, ◌++◌, Bool, true, false, Option, Result, Ok, Err}
 use Rattle.std.specs.Io.KnownBytes.{Appends, Keeps}
 
 -- what an error output holds, whether writing to it has failed, and whether it is to explain faults
@@ -11,6 +11,11 @@ pub record Errors : Type 0 where
 -- a front of the bytes was written, and nothing else
 abbrev pub AppendsFront : Option (List ℕ) → Option (List ℕ) → List ℕ → Type 0
 AppendsFront held holds bytes = (front : List ℕ) × (rest : List ℕ) × (bytes ≡ front ++ rest) × Appends held holds front
+
+-- the bytes were handed to a writer: it took all of them or, if it failed, a front
+abbrev pub IsHanded : {E : Type 0} → Option (List ℕ) → Option (List ℕ) → List ℕ → Result (Unit {0}) E → Type 0
+IsHanded held holds bytes (Ok done) = Appends held holds bytes
+IsHanded held holds bytes (Err e) = AppendsFront held holds bytes
 
 -- what was written of the bytes if writing had failed before, or had not, and has failed now, or has not
 abbrev pub WritesUnless : Bool → Bool → Option (List ℕ) → Option (List ℕ) → List ℕ → Type 0

@@ -1,27 +1,31 @@
 //! What a line answers, and its text.
 
-ghost use Rattle.std.specs.Prelude.{◌≡◌, ◌+◌, ◌≤◌, ◌++◌, ◌∷◌, [], codes, length, OnOk};
-ghost use Rattle.std.specs.Fmt.{decimal};
-ghost use Rattle.std.specs.Io.KnownBytes.{Appends};
+ghost use Rattle.std.specs.Prelude.{◌≡◌, ◌<◌, ◌+◌, ◌≤◌, ◌++◌, ◌∷◌, [], codes, drop, length, false, IfSome};
+ghost use Rattle.std.specs.Fmt.{decimal, digit_glyph};
 ghost use Rattle.tablet_will.specs.Parts.{partitions_of};
 ghost use Rattle.answers.specs.Texts.{answer_text, hex_digits, hex_text, object_text, rebuilt_text, reply_text};
 ghost use Rattle.answers.specs.Texts.{part_text, place_text, will_text, take_fault_text};
 ghost use Rattle.recovery.specs.master.cleaner.Passes.{survivor_ids};
 ghost use Rattle.answers.specs.Texts.{asked_text, begun_text, cleaned_text, op_text, log_text, room_text, spaced_text};
-ghost use Rattle.answers.specs.Texts.{label_text};
+ghost use Rattle.answers.specs.Texts.{label_text, state_text};
+ghost use Rattle.answers.specs.Errors.{IsHanded};
+ghost use Rattle.lines.specs.Grammar.{fate_word};
 ghost use Rattle.std.specs.List.{flat_map};
 ghost use Rattle.entry.specs.View.{shown_object};
 ghost use Rattle.history.specs.View.{shown_reply};
 
+use crate::handing::{WriteFailed, hand};
 use crate::limits::Limits;
 use crate::short_line::ShortLine;
+use arrayvec::ArrayString;
 use entry::{ObjectRef, Row, Version};
 use history::{ReplyRef, view_reply};
 use itoa::write_digits;
 use recovery::master::{Refusal, Reply, Survivors};
 use recovery::{Rebuilt, RecoveryFault};
 use replica::{Label, Labels, TakeFault};
-use std::io::{self, Write};
+use std::fmt::{Display, Write as _};
+use std::io::Write;
 use tablet_will::Part;
 
 /// What a line of a script answers.
@@ -104,30 +108,29 @@ pub enum Answer {
     CellRefused,
 }
 
-// An `io::Result` is large. So each function that hands one on is inlined, up to the one that drops its error. Those of
-// long answers are not, since a reply would clear their results too.
+// What a reply needs is inlined. Functions of long answers are not, since a reply would clear their results too.
 
 /// Writes the lines of an answer, each with its line feed.
 #[inline(always)]
-pub fn write_answer<W: Write>(writer: &mut W, answer: &Answer) -> io::Result<()>
-    ensures { OnOk result (Appends (W.contents writer.old) (W.contents writer.new) (answer_text answer.now)) }
+pub fn write_answer<W: Write>(writer: &mut W, answer: &Answer) -> Result<(), WriteFailed>
+    ensures { IsHanded (W.contents writer.old) (W.contents writer.new) (answer_text answer.now) result }
 {
     match answer {
         Answer::Silent => Ok(()),
         Answer::Reply(reply) => write_reply(writer, &view_reply(reply)),
-        Answer::Refused(refusal) => writeln!(writer, "refused {refusal}"),
+        Answer::Refused(refusal) => write_refused(writer, refusal),
         Answer::Hex(bytes) => write_hex(writer, bytes.as_slice()),
         Answer::NotInLog(segment) => write_number(writer, b"refused NotInLog ", *segment, b'\n'),
         Answer::Stop(takes) => write_number(writer, b"stop ", *takes, b'\n'),
         Answer::Fault(takes, taken) => write_fault(writer, *takes, *taken),
-        Answer::Format => writer.write_all(b"format 2\n"),
-        Answer::Stopped => writer.write_all(b"stopped\n"),
-        Answer::Crashed => writer.write_all(b"crashed\n"),
+        Answer::Format => hand(writer, b"format 2\n"),
+        Answer::Stopped => hand(writer, b"stopped\n"),
+        Answer::Crashed => hand(writer, b"crashed\n"),
         Answer::Lost(backup) => write_number(writer, b"lost ", *backup, b'\n'),
         Answer::Recovered(rebuilt) => write_rebuilt(writer, rebuilt),
-        Answer::NotRecovered(fault) => writeln!(writer, "refused {fault}"),
+        Answer::NotRecovered(fault) => write_refused(writer, fault),
         Answer::NotRetired(fault) => write_take_fault(writer, *fault),
-        Answer::NumbersSpent => writer.write_all(b"refused NumbersSpent\n"),
+        Answer::NumbersSpent => hand(writer, b"refused NumbersSpent\n"),
         Answer::Head(id) => write_number(writer, b"head ", *id, b'\n'),
         Answer::Opening(id) => write_number(writer, b"opening ", *id, b'\n'),
         Answer::Compacted(segment, len) => write_op(writer, b"compacted ", *segment, *len),
@@ -137,9 +140,9 @@ pub fn write_answer<W: Write>(writer: &mut W, answer: &Answer) -> io::Result<()>
         Answer::Raised(id) => write_number(writer, b"raise ", *id, b'\n'),
         Answer::Repaired(backup, segment) => write_op(writer, b"repair ", *backup, *segment),
         Answer::Begun(survivors) => write_begun(writer, *survivors),
-        Answer::Moved => writer.write_all(b"moved\n"),
-        Answer::Carried => writer.write_all(b"carried\n"),
-        Answer::Dropped => writer.write_all(b"dropped\n"),
+        Answer::Moved => hand(writer, b"moved\n"),
+        Answer::Carried => hand(writer, b"carried\n"),
+        Answer::Dropped => hand(writer, b"dropped\n"),
         Answer::Sealed(backup) => write_number(writer, b"sealed ", *backup, b'\n'),
         Answer::Freed(segment, backup) => write_op(writer, b"freed ", *segment, *backup),
         Answer::Cleaned(survivors, head) => write_cleaned(writer, *survivors, *head),
@@ -149,72 +152,119 @@ pub fn write_answer<W: Write>(writer: &mut W, answer: &Answer) -> io::Result<()>
         Answer::Log(ids) => write_log(writer, ids.as_slice()),
         Answer::Room(used, free) => write_room(writer, *used, *free),
         Answer::Will(parts, _) => write_will(writer, parts.as_slice()),
-        Answer::BadLimits(_) => writer.write_all(b"refused BadLimits\n"),
+        Answer::BadLimits(_) => hand(writer, b"refused BadLimits\n"),
         Answer::Holdings(labels) => write_labels(writer, labels.as_slice()),
-        Answer::Down => writer.write_all(b"refused Down\n"),
-        Answer::Up => writer.write_all(b"refused Up\n"),
-        Answer::SeatUnknown => writer.write_all(b"refused SeatUnknown\n"),
-        Answer::CellRefused => writer.write_all(b"refused CellRefused\n"),
+        Answer::Down => hand(writer, b"refused Down\n"),
+        Answer::Up => hand(writer, b"refused Up\n"),
+        Answer::SeatUnknown => hand(writer, b"refused SeatUnknown\n"),
+        Answer::CellRefused => hand(writer, b"refused CellRefused\n"),
     }
 }
 
 /// Writes the line of a reply, whose value may lie anywhere.
 #[inline(always)]
-pub fn write_reply<W: Write>(writer: &mut W, reply: &ReplyRef<'_>) -> io::Result<()>
-    ensures { OnOk result (Appends (W.contents writer.old) (W.contents writer.new)
-        (reply_text (shown_reply reply.now))) }
+pub fn write_reply<W: Write>(writer: &mut W, reply: &ReplyRef<'_>) -> Result<(), WriteFailed>
+    ensures { IsHanded (W.contents writer.old) (W.contents writer.new)
+        (reply_text (shown_reply reply.now)) result }
 {
     match reply {
         ReplyRef::Found(version, value) => write_versioned(writer, *version, value.bytes),
-        ReplyRef::None => writer.write_all(b"none\n"),
+        ReplyRef::None => hand(writer, b"none\n"),
         ReplyRef::Ok(version) => write_number(writer, b"ok ", version.get(), b'\n'),
-        ReplyRef::Mismatch(None) => writer.write_all(b"mismatch none\n"),
+        ReplyRef::Mismatch(None) => hand(writer, b"mismatch none\n"),
         ReplyRef::Mismatch(Some(version)) => {
             write_number(writer, b"mismatch ", version.get(), b'\n')
         }
     }
 }
 
+/// The most bytes of the line of a refusal or of a recovery's fault.
+const REFUSED_LEN: usize = 96;
+
+/// Writes the line of what was refused, in one write. Each text that is written so has room.
+#[inline(never)]
+fn write_refused<W: Write, D: Display>(writer: &mut W, why: &D) -> Result<(), WriteFailed>
+    ensures { IfSome (D.output why.now) (λ text. IsHanded (W.contents writer.old) (W.contents writer.new)
+        (codes "refused " ++ text ++ 10 ∷ []) result) }
+{
+    match refused_line(why) {
+        Some(line) => hand(writer, line.as_bytes()),
+        None => Err(WriteFailed),
+    }
+}
+
+/// The line of what was refused, if it has room.
+fn refused_line<D: Display>(why: &D) -> Option<ArrayString<REFUSED_LEN>>
+    ensures { IfSome (D.output why.now) (λ text. IfSome result (λ line.
+        line.bytes ≡ codes "refused " ++ text ++ 10 ∷ [])) }
+{
+    let mut line = ArrayString::<REFUSED_LEN>::new();
+    match writeln!(line, "refused {why}") {
+        Ok(()) => Some(line),
+        Err(_) => None,
+    }
+}
+
 /// Writes the line of what a fault of a take comes to.
 #[inline(always)]
-fn write_take_fault<W: Write>(writer: &mut W, fault: TakeFault) -> io::Result<()>
-    ensures { OnOk result (Appends (W.contents writer.old) (W.contents writer.new)
-        (codes "refused " ++ take_fault_text fault ++ 10 ∷ [])) }
+fn write_take_fault<W: Write>(writer: &mut W, fault: TakeFault) -> Result<(), WriteFailed>
+    ensures { IsHanded (W.contents writer.old) (W.contents writer.new)
+        (codes "refused " ++ take_fault_text fault ++ 10 ∷ []) result }
 {
     match fault {
-        TakeFault::NoMemory => writer.write_all(b"refused NoMemory\n"),
-        TakeFault::Wrong => writer.write_all(b"refused Wrong\n"),
-        TakeFault::Fault => writer.write_all(b"refused Halted\n"),
-        TakeFault::Spent => writer.write_all(b"refused Spent\n"),
+        TakeFault::NoMemory => hand(writer, b"refused NoMemory\n"),
+        TakeFault::Wrong => hand(writer, b"refused Wrong\n"),
+        TakeFault::Fault => hand(writer, b"refused Halted\n"),
+        TakeFault::Spent => hand(writer, b"refused Spent\n"),
     }
 }
 
 /// Writes words, a number in decimal digits, and a last byte, in one write.
 #[inline(always)]
-fn write_number<W: Write>(writer: &mut W, words: &[u8], number: u64, last: u8) -> io::Result<()>
+fn write_number<W: Write>(
+    writer: &mut W,
+    words: &[u8],
+    number: u64,
+    last: u8,
+) -> Result<(), WriteFailed>
     requires { length words.now ≤ 20 }
-    ensures { OnOk result (Appends (W.contents writer.old) (W.contents writer.new)
-        (words.now ++ decimal number ++ last ∷ [])) }
+    ensures { IsHanded (W.contents writer.old) (W.contents writer.new)
+        (words.now ++ decimal number ++ last ∷ []) result }
 {
     let mut line = [last; 48];
-    let digits = write_digits(number, &mut line, 47);
+    let start = put_number_line(&mut line, words, number);
+    hand(writer, &line[start..])
+}
+
+/// Puts words and a number before the last byte of the line. Answers where they begin.
+#[inline(always)]
+fn put_number_line(line: &mut [u8; 48], words: &[u8], number: u64) -> usize
+    requires { length words.now ≤ 20 }
+    ensures line { drop result line.new ≡ words.now ++ decimal number ++ drop 47 line.old }
+    ensures start { result ≤ 47 }
+{
+    let digits = write_digits(number, line, 47);
     let start = digits - words.len();
     line[start..digits].copy_from_slice(words);
-    writer.write_all(&line[start..])
+    start
 }
 
 /// Writes the end of a line that shows a version and a value.
 #[inline(always)]
-fn write_versioned<W: Write>(writer: &mut W, version: Version, value: &[u8]) -> io::Result<()>
-    ensures { OnOk result (Appends (W.contents writer.old) (W.contents writer.new)
-        (decimal version ++ 32 ∷ value.now ++ 10 ∷ [])) }
+fn write_versioned<W: Write>(
+    writer: &mut W,
+    version: Version,
+    value: &[u8],
+) -> Result<(), WriteFailed>
+    ensures { IsHanded (W.contents writer.old) (W.contents writer.new)
+        (decimal version ++ 32 ∷ value.now ++ 10 ∷ []) result }
 {
     if value.len() <= SHORT_VALUE_LEN {
         return write_short(writer, version.get(), value);
     }
     write_number(writer, b"", version.get(), b' ')?;
-    writer.write_all(value)?;
-    writer.write_all(b"\n")
+    hand(writer, value)?;
+    hand(writer, b"\n")
 }
 
 /// The most bytes of a value that is written together with its version.
@@ -222,47 +272,68 @@ const SHORT_VALUE_LEN: usize = 128;
 
 /// Writes a number in decimal digits, a space, a short value and a line feed, in one write.
 #[inline(always)]
-fn write_short<W: Write>(writer: &mut W, number: u64, value: &[u8]) -> io::Result<()>
+fn write_short<W: Write>(writer: &mut W, number: u64, value: &[u8]) -> Result<(), WriteFailed>
     requires { length value.now ≤ 128 }
-    ensures { OnOk result (Appends (W.contents writer.old) (W.contents writer.new)
-        (decimal number ++ 32 ∷ value.now ++ 10 ∷ [])) }
+    ensures { IsHanded (W.contents writer.old) (W.contents writer.new)
+        (decimal number ++ 32 ∷ value.now ++ 10 ∷ []) result }
+{
+    hand(writer, versioned_line(number, value).as_slice())
+}
+
+/// The line itself.
+#[inline(always)]
+fn versioned_line(number: u64, value: &[u8]) -> ShortLine
+    requires { length value.now ≤ 128 }
+    ensures { result ≡ decimal number ++ 32 ∷ value.now ++ 10 ∷ [] }
 {
     let mut line = ShortLine::new();
     line.put(value);
     line.put_space();
     line.put_number(number);
-    writer.write_all(line.as_slice())
+    line
 }
 
 #[inline(never)]
-fn write_hex<W: Write>(writer: &mut W, bytes: &[u8]) -> io::Result<()>
-    ensures { OnOk result (Appends (W.contents writer.old) (W.contents writer.new) (hex_text bytes.now)) }
+fn write_hex<W: Write>(writer: &mut W, bytes: &[u8]) -> Result<(), WriteFailed>
+    ensures { IsHanded (W.contents writer.old) (W.contents writer.new) (hex_text bytes.now) result }
 {
     write_hex_bytes(writer, bytes)?;
-    writer.write_all(b"\n")
+    hand(writer, b"\n")
 }
 
 /// Writes two digits for each byte.
-fn write_hex_bytes<W: Write>(writer: &mut W, bytes: &[u8]) -> io::Result<()>
-    ensures { OnOk result (Appends (W.contents writer.old) (W.contents writer.new) (flat_map hex_digits bytes.now)) }
+fn write_hex_bytes<W: Write>(writer: &mut W, bytes: &[u8]) -> Result<(), WriteFailed>
+    ensures { IsHanded (W.contents writer.old) (W.contents writer.new) (flat_map hex_digits bytes.now) result }
 {
     for byte in bytes {
-        write!(writer, "{byte:02x}")?;
+        hand(writer, &[hex_digit(*byte / 16), hex_digit(*byte % 16)])?;
     }
     Ok(())
 }
 
+/// A lower case hexadecimal digit.
+fn hex_digit(digit: u8) -> u8
+    requires { digit < 16 }
+    ensures { result ≡ digit_glyph false digit }
+{
+    if digit < 10 {
+        b'0' + digit
+    } else {
+        b'a' - 10 + digit
+    }
+}
+
 /// Writes a place as 16 hexadecimal digits, and a space.
-fn write_place<W: Write>(writer: &mut W, place: u64) -> io::Result<()>
-    ensures { OnOk result (Appends (W.contents writer.old) (W.contents writer.new) (place_text place ++ 32 ∷ [])) }
+fn write_place<W: Write>(writer: &mut W, place: u64) -> Result<(), WriteFailed>
+    ensures { IsHanded (W.contents writer.old) (W.contents writer.new) (place_text place ++ 32 ∷ []) result }
 {
     write_hex_bytes(writer, &place.to_be_bytes())?;
-    writer.write_all(b" ")
+    hand(writer, b" ")
 }
 
 /// Writes the line of a part.
-fn write_part<W: Write>(writer: &mut W, part: &Part) -> io::Result<()>
-    ensures { OnOk result (Appends (W.contents writer.old) (W.contents writer.new) (part_text part.now)) }
+fn write_part<W: Write>(writer: &mut W, part: &Part) -> Result<(), WriteFailed>
+    ensures { IsHanded (W.contents writer.old) (W.contents writer.new) (part_text part.now) result }
 {
     write_number(writer, b"", part.table, b' ')?;
     write_place(writer, part.first)?;
@@ -272,8 +343,8 @@ fn write_part<W: Write>(writer: &mut W, part: &Part) -> io::Result<()>
 
 /// Writes a line for each part of a will, in order, and a line with the number of partitions.
 #[inline(never)]
-fn write_will<W: Write>(writer: &mut W, parts: &[Part]) -> io::Result<()>
-    ensures { OnOk result (Appends (W.contents writer.old) (W.contents writer.new) (will_text parts.now)) }
+fn write_will<W: Write>(writer: &mut W, parts: &[Part]) -> Result<(), WriteFailed>
+    ensures { IsHanded (W.contents writer.old) (W.contents writer.new) (will_text parts.now) result }
 {
     for part in parts {
         write_part(writer, part)?;
@@ -293,120 +364,215 @@ fn count_partitions(parts: &[Part]) -> u64
 
 /// Writes a line of words and two numbers: those of an op's backup and segment, for example.
 #[inline(never)]
-fn write_op<W: Write>(writer: &mut W, words: &[u8], first: u64, second: u64) -> io::Result<()>
+fn write_op<W: Write>(
+    writer: &mut W,
+    words: &[u8],
+    first: u64,
+    second: u64,
+) -> Result<(), WriteFailed>
     requires { length words.now ≤ 20 }
-    ensures { OnOk result (Appends (W.contents writer.old) (W.contents writer.new)
-        (op_text words.now first second)) }
+    ensures { IsHanded (W.contents writer.old) (W.contents writer.new)
+        (op_text words.now first second) result }
 {
-    write_number(writer, words, first, b' ')?;
-    write_number(writer, b"", second, b'\n')
+    hand(writer, op_line(words, first, second).as_slice())
+}
+
+/// The line itself.
+#[inline(always)]
+fn op_line(words: &[u8], first: u64, second: u64) -> ShortLine
+    requires { length words.now ≤ 20 }
+    ensures { result ≡ op_text words.now first second }
+{
+    let mut line = ShortLine::new();
+    line.put_number(second);
+    line.put_space();
+    line.put_number(first);
+    line.put(words);
+    line
 }
 
 /// Writes the line of a fault that was asked for.
 #[inline(never)]
-fn write_fault<W: Write>(writer: &mut W, takes: u64, taken: bool) -> io::Result<()>
-    ensures { OnOk result (Appends (W.contents writer.old) (W.contents writer.new) (asked_text takes taken)) }
+fn write_fault<W: Write>(writer: &mut W, takes: u64, taken: bool) -> Result<(), WriteFailed>
+    ensures { IsHanded (W.contents writer.old) (W.contents writer.new) (asked_text takes taken) result }
 {
-    write_number(writer, b"fault ", takes, b' ')?;
-    if taken {
-        writer.write_all(b"taken\n")
-    } else {
-        writer.write_all(b"lost\n")
-    }
+    hand(writer, fault_line(takes, taken).as_slice())
+}
+
+/// The line itself.
+#[inline(always)]
+fn fault_line(takes: u64, taken: bool) -> ShortLine
+    ensures { result ≡ asked_text takes taken }
+{
+    let mut line = ShortLine::new();
+    line.put(fate_of(taken));
+    line.put_space();
+    line.put_number(takes);
+    line.put(b"fault ");
+    line
+}
+
+/// The word that says whether an op is taken.
+fn fate_of(taken: bool) -> &'static [u8]
+    ensures word { result.now ≡ fate_word taken }
+    ensures short { length result.now ≤ 5 }
+{
+    if taken { b"taken" } else { b"lost" }
 }
 
 /// Writes the line of clients, the rounds of each, and the calls that were accepted.
 #[inline(never)]
-fn write_counted<W: Write>(writer: &mut W, clients: u64, rounds: u64, calls: u64) -> io::Result<()>
-    ensures { OnOk result (Appends (W.contents writer.old) (W.contents writer.new)
-        (codes "clients " ++ decimal clients ++ 32 ∷ op_text [] rounds calls)) }
+fn write_counted<W: Write>(
+    writer: &mut W,
+    clients: u64,
+    rounds: u64,
+    calls: u64,
+) -> Result<(), WriteFailed>
+    ensures { IsHanded (W.contents writer.old) (W.contents writer.new)
+        (codes "clients " ++ decimal clients ++ 32 ∷ op_text [] rounds calls) result }
 {
-    write_number(writer, b"clients ", clients, b' ')?;
-    write_op(writer, b"", rounds, calls)
+    hand(writer, counted_line(clients, rounds, calls).as_slice())
+}
+
+/// The line itself.
+#[inline(always)]
+fn counted_line(clients: u64, rounds: u64, calls: u64) -> ShortLine
+    ensures { result ≡ codes "clients " ++ decimal clients ++ 32 ∷ op_text [] rounds calls }
+{
+    let mut line = ShortLine::new();
+    line.put_number(calls);
+    line.put_space();
+    line.put_number(rounds);
+    line.put_space();
+    line.put_number(clients);
+    line.put(b"clients ");
+    line
 }
 
 /// Writes the line of the seglets that are counted, and free.
 #[inline(never)]
-fn write_room<W: Write>(writer: &mut W, used: u64, free: u64) -> io::Result<()>
-    ensures { OnOk result (Appends (W.contents writer.old) (W.contents writer.new) (room_text used free)) }
+fn write_room<W: Write>(writer: &mut W, used: u64, free: u64) -> Result<(), WriteFailed>
+    ensures { IsHanded (W.contents writer.old) (W.contents writer.new) (room_text used free) result }
 {
-    write_number(writer, b"used ", used, b' ')?;
-    write_number(writer, b"free ", free, b'\n')
+    hand(writer, room_line(used, free).as_slice())
+}
+
+/// The line itself.
+#[inline(always)]
+fn room_line(used: u64, free: u64) -> ShortLine
+    ensures { result ≡ room_text used free }
+{
+    let mut line = ShortLine::new();
+    line.put_number(free);
+    line.put(b" free ");
+    line.put_number(used);
+    line.put(b"used ");
+    line
 }
 
 /// Writes the line of the survivors of a pass that began.
 #[inline(never)]
-fn write_begun<W: Write>(writer: &mut W, survivors: Survivors) -> io::Result<()>
-    ensures { OnOk result (Appends (W.contents writer.old) (W.contents writer.new) (begun_text survivors)) }
+fn write_begun<W: Write>(writer: &mut W, survivors: Survivors) -> Result<(), WriteFailed>
+    ensures { IsHanded (W.contents writer.old) (W.contents writer.new) (begun_text survivors) result }
 {
-    writer.write_all(b"begun")?;
+    hand(writer, b"begun")?;
     write_survivors(writer, survivors)?;
-    writer.write_all(b"\n")
+    hand(writer, b"\n")
 }
 
 /// Writes the line of the survivors of a cleaning, and of the head that it ended with.
 #[inline(never)]
-fn write_cleaned<W: Write>(writer: &mut W, survivors: Survivors, head: u64) -> io::Result<()>
-    ensures { OnOk result (Appends (W.contents writer.old) (W.contents writer.new) (cleaned_text survivors head)) }
+fn write_cleaned<W: Write>(
+    writer: &mut W,
+    survivors: Survivors,
+    head: u64,
+) -> Result<(), WriteFailed>
+    ensures { IsHanded (W.contents writer.old) (W.contents writer.new) (cleaned_text survivors head) result }
 {
-    writer.write_all(b"cleaned")?;
+    hand(writer, b"cleaned")?;
     write_survivors(writer, survivors)?;
     write_number(writer, b" ", head, b'\n')
 }
 
 /// Writes the numbers of survivors, each after a space.
-fn write_survivors<W: Write>(writer: &mut W, survivors: Survivors) -> io::Result<()>
-    ensures { OnOk result (Appends (W.contents writer.old) (W.contents writer.new)
-        (flat_map spaced_text (survivor_ids survivors))) }
+fn write_survivors<W: Write>(writer: &mut W, survivors: Survivors) -> Result<(), WriteFailed>
+    ensures { IsHanded (W.contents writer.old) (W.contents writer.new)
+        (flat_map spaced_text (survivor_ids survivors)) result }
 {
     for place in 0..survivors.count {
         // Wide, so that no number is too great.
         let id = survivors.first as u128 + place as u128;
-        write!(writer, " {id}")?;
+        write_spaced(writer, id)?;
     }
     Ok(())
 }
 
 /// Writes the line of a digest.
 #[inline(never)]
-fn write_log<W: Write>(writer: &mut W, ids: &[u64]) -> io::Result<()>
-    ensures { OnOk result (Appends (W.contents writer.old) (W.contents writer.new) (log_text ids.now)) }
+fn write_log<W: Write>(writer: &mut W, ids: &[u64]) -> Result<(), WriteFailed>
+    ensures { IsHanded (W.contents writer.old) (W.contents writer.new) (log_text ids.now) result }
 {
-    writer.write_all(b"log")?;
+    hand(writer, b"log")?;
     write_ids(writer, ids)?;
-    writer.write_all(b"\n")
+    hand(writer, b"\n")
 }
 
 /// Writes numbers, each after a space.
-fn write_ids<W: Write>(writer: &mut W, ids: &[u64]) -> io::Result<()>
-    ensures { OnOk result (Appends (W.contents writer.old) (W.contents writer.new) (flat_map spaced_text ids.now)) }
+fn write_ids<W: Write>(writer: &mut W, ids: &[u64]) -> Result<(), WriteFailed>
+    ensures { IsHanded (W.contents writer.old) (W.contents writer.new) (flat_map spaced_text ids.now) result }
 {
     for id in ids {
-        write!(writer, " {id}")?;
+        write_spaced(writer, *id as u128)?;
     }
     Ok(())
 }
 
-/// Writes the line of a replica.
-fn write_label<W: Write>(writer: &mut W, label: &Label) -> io::Result<()>
-    ensures { OnOk result (Appends (W.contents writer.old) (W.contents writer.new) (label_text label.now)) }
+/// Writes a number after a space.
+fn write_spaced<W: Write>(writer: &mut W, number: u128) -> Result<(), WriteFailed>
+    ensures { IsHanded (W.contents writer.old) (W.contents writer.new) (spaced_text number) result }
 {
-    write_number(writer, b"", label.backup, b' ')?;
-    write_number(writer, b"", label.master, b' ')?;
-    write_number(writer, b"", label.segment, b' ')?;
-    let len = label.len;
-    if label.is_open {
-        writeln!(writer, "{len} open")
-    } else {
-        writeln!(writer, "{len} closed")
-    }
+    hand(writer, b" ")?;
+    hand(writer, itoa::Buffer::new().format(number).as_bytes())
+}
+
+/// Writes the line of a replica.
+fn write_label<W: Write>(writer: &mut W, label: &Label) -> Result<(), WriteFailed>
+    ensures { IsHanded (W.contents writer.old) (W.contents writer.new) (label_text label.now) result }
+{
+    hand(writer, label_line(label).as_slice())
+}
+
+/// The line itself.
+#[inline(always)]
+fn label_line(label: &Label) -> ShortLine
+    ensures { result ≡ label_text label.now }
+{
+    let mut line = ShortLine::new();
+    line.put(state_of(label.is_open));
+    line.put_space();
+    line.put_number(label.len as u64);
+    line.put_space();
+    line.put_number(label.segment);
+    line.put_space();
+    line.put_number(label.master);
+    line.put_space();
+    line.put_number(label.backup);
+    line
+}
+
+/// The word of a replica's state.
+fn state_of(is_open: bool) -> &'static [u8]
+    ensures word { state_text is_open ≡ 32 ∷ result.now ++ 10 ∷ [] }
+    ensures short { length result.now ≤ 6 }
+{
+    if is_open { b"open" } else { b"closed" }
 }
 
 /// Writes a line for each replica, in order.
 #[inline(never)]
-fn write_labels<W: Write>(writer: &mut W, labels: &[Label]) -> io::Result<()>
-    ensures { OnOk result (Appends (W.contents writer.old) (W.contents writer.new)
-        (flat_map label_text labels.now)) }
+fn write_labels<W: Write>(writer: &mut W, labels: &[Label]) -> Result<(), WriteFailed>
+    ensures { IsHanded (W.contents writer.old) (W.contents writer.new)
+        (flat_map label_text labels.now) result }
 {
     for label in labels {
         write_label(writer, label)?;
@@ -419,10 +585,19 @@ const SHORT_OBJECT_LEN: usize = 176;
 
 /// Writes the line of an object whose key and value are short, in one write.
 #[inline(always)]
-fn write_short_object<W: Write>(writer: &mut W, object: &ObjectRef<'_>) -> io::Result<()>
+fn write_short_object<W: Write>(writer: &mut W, object: &ObjectRef<'_>) -> Result<(), WriteFailed>
     requires { length object.now.key.bytes.now + length object.now.value.now ≤ 176 }
-    ensures { OnOk result (Appends (W.contents writer.old) (W.contents writer.new)
-        (object_text (shown_object object.now))) }
+    ensures { IsHanded (W.contents writer.old) (W.contents writer.new)
+        (object_text (shown_object object.now)) result }
+{
+    hand(writer, object_line(object).as_slice())
+}
+
+/// The line itself.
+#[inline(always)]
+fn object_line(object: &ObjectRef<'_>) -> ShortLine
+    requires { length object.now.key.bytes.now + length object.now.value.now ≤ 176 }
+    ensures { result ≡ object_text (shown_object object.now) }
 {
     let mut line = ShortLine::new();
     line.put(object.value);
@@ -432,24 +607,24 @@ fn write_short_object<W: Write>(writer: &mut W, object: &ObjectRef<'_>) -> io::R
     line.put(object.key.bytes);
     line.put_space();
     line.put_number(object.key.table);
-    writer.write_all(line.as_slice())
+    line
 }
 
 /// Writes the line of an object whose key and value may be long.
-fn write_long_object<W: Write>(writer: &mut W, object: &ObjectRef<'_>) -> io::Result<()>
-    ensures { OnOk result (Appends (W.contents writer.old) (W.contents writer.new)
-        (object_text (shown_object object.now))) }
+fn write_long_object<W: Write>(writer: &mut W, object: &ObjectRef<'_>) -> Result<(), WriteFailed>
+    ensures { IsHanded (W.contents writer.old) (W.contents writer.new)
+        (object_text (shown_object object.now)) result }
 {
     write_number(writer, b"", object.key.table, b' ')?;
-    writer.write_all(object.key.bytes)?;
-    writer.write_all(b" ")?;
+    hand(writer, object.key.bytes)?;
+    hand(writer, b" ")?;
     write_versioned(writer, object.version, object.value)
 }
 
 /// Writes the line of an object.
-fn write_object<W: Write>(writer: &mut W, object: &ObjectRef<'_>) -> io::Result<()>
-    ensures { OnOk result (Appends (W.contents writer.old) (W.contents writer.new)
-        (object_text (shown_object object.now))) }
+fn write_object<W: Write>(writer: &mut W, object: &ObjectRef<'_>) -> Result<(), WriteFailed>
+    ensures { IsHanded (W.contents writer.old) (W.contents writer.new)
+        (object_text (shown_object object.now)) result }
 {
     if object.key.bytes.len() + object.value.len() <= SHORT_OBJECT_LEN {
         write_short_object(writer, object)
@@ -460,8 +635,8 @@ fn write_object<W: Write>(writer: &mut W, object: &ObjectRef<'_>) -> io::Result<
 
 /// Writes a line for each object, in order, and a line with their number.
 #[inline(never)]
-fn write_rebuilt<W: Write>(writer: &mut W, rebuilt: &Rebuilt) -> io::Result<()>
-    ensures { OnOk result (Appends (W.contents writer.old) (W.contents writer.new) (rebuilt_text rebuilt.now)) }
+fn write_rebuilt<W: Write>(writer: &mut W, rebuilt: &Rebuilt) -> Result<(), WriteFailed>
+    ensures { IsHanded (W.contents writer.old) (W.contents writer.new) (rebuilt_text rebuilt.now) result }
 {
     for object in rebuilt.objects.iter() {
         write_object(writer, &object)?;

@@ -1,9 +1,10 @@
 //! The error output.
 
 ghost use Rattle.std.specs.Prelude.{◌≡◌, [], false};
-ghost use Rattle.answers.specs.Errors.{Errors, Writes, WritesUnless};
+ghost use Rattle.answers.specs.Errors.{Errors, Writes};
 
-use std::io::{ErrorKind, Write};
+use crate::handing::hand;
+use std::io::Write;
 use std::marker::Model;
 
 /// Where the lines about faults go. Once writing has failed, it writes no more.
@@ -55,7 +56,7 @@ impl<W: Write + Drop> ErrorOutput<W> {
         ensures { Writes self.old self.new bytes.now }
     {
         if !self.has_failed {
-            self.has_failed = fails_to_write(&mut self.writer, bytes);
+            self.has_failed = hand(&mut self.writer, bytes).is_err();
         }
     }
 
@@ -67,24 +68,4 @@ impl<W: Write + Drop> ErrorOutput<W> {
             self.has_failed = self.writer.flush().is_err();
         }
     }
-}
-
-/// Writes the bytes, as far as the writer takes them, and answers whether it failed to take all. It repeats a write
-/// that was interrupted.
-fn fails_to_write<W: Write>(writer: &mut W, bytes: &[u8]) -> bool
-    ensures { WritesUnless false result (W.contents writer.old) (W.contents writer.new) bytes.now }
-{
-    let mut rest = bytes;
-    for _ in 0..u64::MAX {
-        if rest.is_empty() {
-            return false;
-        }
-        match writer.write(rest) {
-            Ok(0) => return true,
-            Ok(taken) => rest = &rest[taken..],
-            Err(error) if error.kind() == ErrorKind::Interrupted => {}
-            Err(_) => return true,
-        }
-    }
-    true
 }

@@ -1,7 +1,7 @@
 //! What a script prints: the answers of its lines, and the lines that say how a run ended.
 //!
-//! `write_answer` promises that with Ok it wrote the text of its answer, and nothing else; `write_reply` does so for a
-//! reply that lies elsewhere. `report` and
+//! `write_answer` promises that it wrote the text of its answer, and nothing else. Only if the writer failed, it
+//! wrote a front of that text. `write_reply` promises the same for a reply that lies elsewhere. `report` and
 //! `report_config` promise the lines of a fault and the program's exit status, on an `ErrorOutput`, which writes no
 //! more once writing has failed. `specs/Texts.antt` is what each answer, refusal and fault is printed as. The crate
 //! does nothing with a master.
@@ -10,12 +10,14 @@
 mod answer;
 mod errors;
 mod fault;
+mod handing;
 mod limits;
 mod short_line;
 
 pub use answer::{Answer, write_answer, write_reply};
 pub use errors::ErrorOutput;
 pub use fault::{ScriptFault, report, report_config};
+pub use handing::WriteFailed;
 pub use limits::Limits;
 pub use recovery;
 pub use recovery::{driving, replay};

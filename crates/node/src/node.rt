@@ -1,10 +1,10 @@
 //! A fleet, and the master over it if there is one.
 
-ghost use Rattle.std.specs.Prelude.{◌≡◌, true, false, None, Some, Ok, OnOk};
-ghost use Rattle.std.specs.Io.KnownBytes.{Appends};
+ghost use Rattle.std.specs.Prelude.{◌≡◌, true, false, None, Some, Ok};
 ghost use Rattle.versioned_map.specs.declared.command.Reply.{Reply as ReplyValue};
 ghost use Rattle.std.specs.Option.{option_map};
 ghost use Rattle.history.specs.View.{shown_command, shown_reply};
+ghost use Rattle.answers.specs.Errors.{IsHanded};
 ghost use Rattle.answers.specs.Texts.{reply_text};
 ghost use Rattle.store_clients.specs.master.master_state.declared.config.Config.{Config};
 ghost use Rattle.node.specs.Served.{IsDropped, AsksFault, asked_of, fleet_of, is_up};
@@ -15,12 +15,12 @@ ghost use Rattle.node.specs.Waits.{MakesRoom, MakesOpen, TriesLine, IsReplyAt};
 
 use crate::tried::Tried;
 use answers::driving::{clean_all, roll_all, serve};
-use answers::{Answer, write_reply};
+use answers::{Answer, WriteFailed, write_reply};
 use backup::MemoryFleet;
 use entry::{NoMemory, Row};
 use replica::{Bench, Fleet, Labels};
 use std::alloc::Global;
-use std::io::{self, Write};
+use std::io::Write;
 use std::mem::replace;
 use store_clients::master::{CommandRef, Look, Master, Refusal, ReplyRef, Shown, Step, StepAnswer};
 
@@ -89,10 +89,10 @@ impl Node {
 
     /// Writes the line of the reply that the record at this place of the history has. The value is copied from there.
     #[inline(always)]
-    pub fn write_reply<W: Write>(&self, place: u64, writer: &mut W) -> io::Result<()>
+    pub fn write_reply<W: Write>(&self, place: u64, writer: &mut W) -> Result<(), WriteFailed>
         requires { (reply : ReplyValue) × IsReplyAt self.now place reply }
         ensures { (reply : ReplyValue) → IsReplyAt self.now place reply →
-            OnOk result (Appends (W.contents writer.old) (W.contents writer.new) (reply_text reply)) }
+            IsHanded (W.contents writer.old) (W.contents writer.new) (reply_text reply) result }
     {
         match self.lent_reply(place) {
             Some(reply) => write_reply(writer, &reply),

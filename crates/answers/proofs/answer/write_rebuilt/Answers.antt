@@ -1,6 +1,5 @@
 use Rattle.std.proofs.Common.{[], ◌≡◌, ◌∙◌, ◌++◌, ◌∷◌, List, ℕ, length, append_assoc, codes, sym, ap, subst}
 use Rattle.std.proofs.lemmas.List.{append-nil}
-use Rattle.std.proofs.lemmas.Result.{on_ok_weaker}
 use Rattle.std.specs.Fmt.{decimal}
 use Rattle.std.specs.Io.KnownBytes.{Appends}
 use Rattle.std.proofs.KnownBytes.{Appends-nil}
@@ -8,7 +7,9 @@ use Rattle.std.specs.List.{flat_map}
 use Rattle.entry.specs.declared.entry.Object.{Object}
 use Rattle.entry.specs.View.{shown_object}
 use Rattle.answers.specs.Texts.{object_text}
-use Rattle.answers.proofs.Printed.{last_printed, one_more_printed}
+use Rattle.answers.specs.Errors.{IsHanded}
+use Rattle.answers.proofs.Fronts.{fails_out, next_of_cut}
+use Rattle.answers.proofs.Printed.{last_cut, last_handed, one_more_printed}
 use Rattle.answers.proofs.answer.write_rebuilt.Goals as goal
 
 pub loop-object-preserved : goal.loop-object-preserved
@@ -34,10 +35,22 @@ returns g c =
     ∙ c.loop-object.invariant.1 in
     let lines : Appends old mid (flat_map object_text os) =
     subst (λ (ps : List Object). Appends old mid (flat_map object_text ps)) all c.loop-object.invariant.2 in
-    on_ok_weaker c.write_number.result
-    (λ count. last_printed (flat_map object_text os) (codes "recovered ") (decimal (length os)) old mid new lines
-    (subst (λ (n : ℕ). Appends mid new (codes "recovered " ++ decimal n ++ 10 ∷ [])) c.len.ensures count))
-    c.write_number.ensures
+    last_handed (flat_map object_text os) (codes "recovered ") (decimal (length os)) old mid new
+    c.write_number.result lines
+    (subst (λ (n : ℕ). IsHanded mid new (codes "recovered " ++ decimal n ++ 10 ∷ []) c.write_number.result)
+    c.len.ensures c.write_number.ensures)
+
+pub returns-in_err-write_object : goal.returns-in_err-write_object
+returns-in_err-write_object g c =
+    let done = c.loop-object.invariant.0 in
+    let o = shown_object c.in-Some.object in
+    let rest = c.next.new.self in
+    let os = c.args.rebuilt.now.objects in
+    let all : done ++ (o ∷ rest) ≡ os =
+    ap (λ (ps : List Object). done ++ ps) (sym c.in-Some.ensures.steps) ∙ c.loop-object.invariant.1 in
+    fails_out _ _ _ c.from_residual.result c.from_residual.ensures.0
+    (last_cut (flat_map object_text os) (codes "recovered ") (decimal (length os)) _ _
+    (next_of_cut object_text done o rest os _ _ _ all c.loop-object.invariant.2 c.in_err-write_object.ensures))
 
 pub loop-object-init : goal.loop-object-init
 loop-object-init g c = (

@@ -1,7 +1,7 @@
 use Rattle.std.proofs.lemmas.List.{take_rest}
 use Rattle.answers.proofs.Fronts.{Wrote, wrote_more, wrote_same}
-use Rattle.answers.proofs.errors.fails_to_write.Goals.{in-Ok, in-Err}
-use Rattle.answers.proofs.errors.fails_to_write.Goals as goal
+use Rattle.answers.proofs.handing.hand.Goals.{in-Ok, in-Err}
+use Rattle.answers.proofs.handing.hand.Goals as goal
 
 pub loop-preserved : goal.loop-preserved
 loop-preserved g c =
