@@ -9,6 +9,8 @@ use Rattle.lines.specs.Grammar.{shown_command, shown_line}
 use Rattle.next_master.specs.node.Told.{command_of}
 use Rattle.script.specs.Runs.{IsOfFleet}
 use Rattle.std.specs.Prelude.{ℕ}
+use Rattle.lines.specs.Grammar.{LineValue, Lose}
+use Rattle.lines.specs.Grammar as grammar
 
 pub has_command : (c : CommandLine) → command_of (shown_command c) ≡ None → ⊥
 has_command (command.Put table key value) is = absurd (cc)
@@ -49,3 +51,33 @@ command_of_fleet backups (command.New table key value) = tt
 command_of_fleet backups (command.Cas table key version value) = tt
 command_of_fleet backups (command.Get table key) = tt
 command_of_fleet backups (command.Del table key) = tt
+
+-- a line that isn't one of the fleet loses a backup
+pub loses_one : (backups : ℕ) (l : LineValue) → (IsOfFleet backups l → ⊥) → (backup : ℕ) × (l ≡ Lose backup)
+loses_one backups (Lose backup) other = (backup, refl)
+loses_one backups grammar.Idle other = absurd (other tt)
+loses_one backups (grammar.Put a b c) other = absurd (other tt)
+loses_one backups (grammar.New a b c) other = absurd (other tt)
+loses_one backups (grammar.Cas a b c d) other = absurd (other tt)
+loses_one backups (grammar.Get a b) other = absurd (other tt)
+loses_one backups (grammar.Del a b) other = absurd (other tt)
+loses_one backups (grammar.Compact a) other = absurd (other tt)
+loses_one backups grammar.Roll other = absurd (other tt)
+loses_one backups grammar.BeginRoll other = absurd (other tt)
+loses_one backups grammar.Push other = absurd (other tt)
+loses_one backups grammar.Log other = absurd (other tt)
+loses_one backups grammar.Room other = absurd (other tt)
+loses_one backups (grammar.Hex a) other = absurd (other tt)
+loses_one backups (grammar.Stop a) other = absurd (other tt)
+loses_one backups (grammar.Fault a b) other = absurd (other tt)
+loses_one backups grammar.Format other = absurd (other tt)
+loses_one backups grammar.Crash other = absurd (other tt)
+loses_one backups grammar.Will other = absurd (other tt)
+loses_one backups (grammar.Recover a) other = absurd (other tt)
+loses_one backups grammar.Holdings other = absurd (other tt)
+loses_one backups (grammar.Clean a) other = absurd (other tt)
+loses_one backups (grammar.Begin a) other = absurd (other tt)
+loses_one backups grammar.Copy other = absurd (other tt)
+loses_one backups grammar.Seal other = absurd (other tt)
+loses_one backups grammar.Free other = absurd (other tt)
+loses_one backups (grammar.Clients a b c) other = absurd (other tt)

@@ -23,7 +23,8 @@ use Rattle.next_master.specs.answers.declared.fault.ScriptFault.{ScriptFault}
 use Rattle.next_master.specs.answers.declared.fault.ScriptFault.TheVariants as fault
 use Rattle.script.specs.declared.session.Session.{Session}
 use Rattle.script.specs.Runs.{AreRunOn, IsOfFleet, IsScriptLine, texts_of, answers_of, AreLines, IsTakenLine}
-use Rattle.script.specs.Runs.{IsBadLine, IsReasonFor, EndsWith, Prints, RunsScript}
+use Rattle.script.specs.Runs.{IsBadLine, IsReasonFor, EndsWith, CutsLast, Prints, RunsScript}
+use Rattle.next_master.specs.answers.Errors.{AppendsFront}
 use Rattle.command_line.specs.declared.settings.Options.{Options}
 use Rattle.lines.specs.Grammar.{LineValue, Recover}
 use Rattle.next_master.specs.Configuration.{config_of}
@@ -49,7 +50,8 @@ pub answer_printed : (old new : Session) (text : List ℕ) (number : ℕ) (held 
     → RunsText old text new answer → IsPrinted held holds answer r → PrintsText old new text number held holds r
 answer_printed old new text number held holds answer (Ok done) runs printed = (answer, runs, printed)
 answer_printed old new text number held holds answer (Err e) runs failed =
-    subst (λ (f : ScriptFault). PrintsText old new text number held holds (Err f)) (sym failed) (answer, runs)
+    subst (λ (f : ScriptFault). PrintsText old new text number held holds (Err f)) (sym failed.0)
+    (answer, runs, failed.1)
 
 -- ---- what was taken for a line
 
@@ -80,7 +82,8 @@ flushed_first old new text number held wrote holds (Ok done) kept p =
 flushed_first old new text number held wrote holds (Err (fault.BadLine n why)) kept p =
     (p.0, p.1, Keeps-trans held wrote holds kept p.2, p.3)
 flushed_first old new text number held wrote holds (Err fault.ReadFailed) kept p = absurd p
-flushed_first old new text number held wrote holds (Err fault.WriteFailed) kept p = p
+flushed_first old new text number held wrote holds (Err fault.WriteFailed) kept p =
+    (p.0, p.1, p.2.0, p.2.1, p.2.2, kept_first held wrote holds p.2.0 kept p.2.3)
 flushed_first old new text number held wrote holds (Err fault.NoMemory) kept p = Keeps-trans held wrote holds kept p
 
 -- ---- a turn that failed
@@ -93,7 +96,7 @@ turn_fault old new number had left held holds text taken (fault.BadLine n why) w
     (p.0, taken, consumed, inr (text, whole, is, inr p.1), p.2, inl (text, is, p.3))
 turn_fault old new number had left held holds text taken fault.ReadFailed whole consumed is p = absurd p
 turn_fault old new number had left held holds text taken fault.WriteFailed whole consumed is p =
-    inl (text, taken, whole, consumed, is, p.0, p.1)
+    inl (text, taken, whole, consumed, is, p.0, p.1, p.2)
 turn_fault old new number had left held holds text taken fault.NoMemory whole consumed is p =
     let short = whole.short in
     let count : length taken ≤ 4097 = elim is [
@@ -377,9 +380,23 @@ module _ (options : Options) (old : Session) (had mid left held wrote holds : Op
     runs_last consumed end some printed = ends_here text (Ok tt) consumed (lines_are text (inr (refl, some, end)), end)
         (answers_on printed)
 
+    -- a front of the last answer was written
+    cut_on : AppendsFront wrote holds (answer_text a) → CutsLast held holds (r.told ++ next_told ∷ [])
+    cut_on (front, rest, is, some) = (
+      r.told,
+      next_told,
+      front,
+      rest,
+      refl,
+      is,
+      Appends-trans held wrote holds (answers_of r.told) front r.printed some,
+    )
+
     fails_to_write : (taken : List ℕ) → Consumes mid left taken → IsTakenLine text taken left
+        → AppendsFront wrote holds (answer_text a)
         → RunsScript options had left held holds (Err fault.WriteFailed)
-    fails_to_write taken consumed is = ends_here taken (Err fault.WriteFailed) consumed (inl (lines_are taken is)) tt
+    fails_to_write taken consumed is front =
+        ends_here taken (Err fault.WriteFailed) consumed (inl (lines_are taken is)) (inr (cut_on front))
 
   -- the lines were run, and no more
   closes : (taken : List ℕ) (result : Result (Unit {0}) ScriptFault) → Consumes mid left taken
@@ -424,8 +441,9 @@ module _ (options : Options) (old : Session) (had mid left held wrote holds : Op
         reason_here n t.1 why t.0 t.5,
       ) (kept_answers t.4)
   fails new fault.ReadFailed t = closes t.0 (Err fault.ReadFailed) t.1 (t.0, refl, t.2) (kept_answers t.3)
-  fails new fault.WriteFailed (inl t) = fails_to_write new t.0 t.5 t.6 t.2 t.1 t.3 t.4
-  fails new fault.WriteFailed (inr t) = closes t.0 (Err fault.WriteFailed) t.1 (inr (t.0, refl, t.2)) tt
+  fails new fault.WriteFailed (inl t) = fails_to_write new t.0 t.5 t.6 t.2 t.1 t.3 t.4 t.7
+  fails new fault.WriteFailed (inr t) =
+      closes t.0 (Err fault.WriteFailed) t.1 (inr (t.0, refl, t.2)) (inl (kept_answers t.3))
   fails new fault.NoMemory t = closes t.0 (Err fault.NoMemory) t.1 (t.0, refl, t.2) (kept_answers t.3)
 
   none_left : (new : Session) → TakesTurn old new number mid left wrote holds (Ok false)
@@ -489,7 +507,17 @@ module _ (options : Options) (had left held wrote holds : Option (List ℕ)) (ke
     flushed (Ok done) p = Appends-kept held wrote holds (answers_of r.told) p kept
     flushed (Err (fault.BadLine n why)) p = Appends-kept held wrote holds (answers_of r.told) p kept
     flushed (Err fault.ReadFailed) p = Appends-kept held wrote holds (answers_of r.told) p kept
-    flushed (Err fault.WriteFailed) p = tt
+    flushed (Err fault.WriteFailed) (inl p) = inl (Appends-kept held wrote holds (answers_of r.told) p kept)
+    flushed (Err fault.WriteFailed) (inr (before, last, front, rest, told, text, p)) =
+        inr (
+          before,
+          last,
+          front,
+          rest,
+          told,
+          text,
+          Appends-kept held wrote holds (answers_of before ++ front) p kept,
+        )
     flushed (Err fault.NoMemory) p = Appends-kept held wrote holds (answers_of r.told) p kept
 
   pub fails_to_flush : (done : Unit {0}) → RunsScript options had left held wrote (Ok done)
@@ -502,7 +530,7 @@ module _ (options : Options) (had left held wrote holds : Option (List ℕ)) (ke
     tells = r.tells;
     session = r.session;
     ends = inl r.ends.0;
-    prints = tt;
+    prints = inl (Appends-kept held wrote holds (answers_of r.told) r.prints kept);
   }
 
 -- nothing was begun

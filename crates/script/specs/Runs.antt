@@ -71,9 +71,10 @@ pub record AreRun (options : Options) (told : List Told) : Type 0 where
   pub begins : BeginsSession options first
   pub run : AreRunOn first told last
 
--- what is said of a bad text: why it says no line, or how many backups the fleet has
+-- what is said of a bad text: why it says no line or, if it loses a backup, how many backups the fleet has
 abbrev pub IsReasonOf : ℕ → List ℕ → Reason → Type 0
-IsReasonOf backups text why = HasReason text why ⊎ (why ≡ NoBackup backups)
+IsReasonOf backups text why =
+    HasReason text why ⊎ ((why ≡ NoBackup backups) × (backup : ℕ) × Says text (Lose backup))
 
 -- why a line is bad
 abbrev pub IsReasonFor : ℕ → ℕ → List ℕ → Option (List ℕ) → Reason → Type 0
@@ -100,9 +101,15 @@ EndsWith backups told taken left (Err WriteFailed) =
 EndsWith backups told taken left (Err NoMemory) =
     (part : List ℕ) × (taken ≡ texts_of told ++ part) × (length part ≤ 4097)
 
--- what was written: the answers and nothing else, unless the writer failed
+-- all answers were written but the last, and of that a front
+abbrev pub CutsLast : Option (List ℕ) → Option (List ℕ) → List Told → Type 0
+CutsLast old new told = (before : List Told) × (last : Told) × (front : List ℕ) × (rest : List ℕ)
+    × (told ≡ before ++ last ∷ []) × (answer_text last.answer ≡ front ++ rest)
+    × Appends old new (answers_of before ++ front)
+
+-- What was written: the answers and nothing else. Only if the writer failed, the end of the last may be missing.
 abbrev pub Prints : Option (List ℕ) → Option (List ℕ) → List Told → Result (Unit {0}) ScriptFault → Type 0
-Prints old new told (Err WriteFailed) = Unit {0}
+Prints old new told (Err WriteFailed) = Appends old new (answers_of told) ⊎ CutsLast old new told
 Prints old new told result = Appends old new (answers_of told)
 
 -- A run of a script under options: what the reader had and has left, what the writer held and holds, and how the run

@@ -14,6 +14,7 @@ use Rattle.script.specs.declared.session.Session.{Session}
 use Rattle.script.specs.Runs.{IsOfFleet, IsTakenLine, IsBadLine, IsReasonFor, IsReasonOf, RunResult}
 use Rattle.script.specs.Sessions.{RunsLine}
 use Rattle.next_master.specs.answers.Texts.{answer_text}
+use Rattle.next_master.specs.answers.Errors.{AppendsFront}
 
 -- what a reader has left or a writer holds, if that is known
 abbrev pub Known : Type 0
@@ -43,10 +44,10 @@ abbrev pub AnswersText : Session → List ℕ → Session → Known → Known �
 AnswersText old text new held holds =
     (answer : Answer) × RunsText old text new answer × Appends held holds (answer_text answer)
 
--- an answer was written, or the writer failed
+-- an answer was written, or the writer failed and took a front of it
 abbrev pub IsPrinted : Known → Known → Answer → RunResult → Type 0
 IsPrinted held holds answer (Ok done) = Appends held holds (answer_text answer)
-IsPrinted held holds answer (Err e) = e ≡ fault.WriteFailed
+IsPrinted held holds answer (Err e) = (e ≡ fault.WriteFailed) × AppendsFront held holds (answer_text answer)
 
 -- the line was run and its answer written; or the line is bad, or the writer failed, or memory ran out
 abbrev pub PrintsText : Session → Session → List ℕ → ℕ → Known → Known → RunResult → Type 0
@@ -55,11 +56,12 @@ PrintsText old new text number held holds (Err (fault.BadLine n why)) =
     (n ≡ number) × ((line : LineValue) → Says text line → IsOfFleet old.options.backups line → ⊥) × Keeps held holds
     × IsReasonOf old.options.backups text why
 PrintsText old new text number held holds (Err fault.ReadFailed) = ⊥
-PrintsText old new text number held holds (Err fault.WriteFailed) = (answer : Answer) × RunsText old text new answer
+PrintsText old new text number held holds (Err fault.WriteFailed) =
+    (answer : Answer) × RunsText old text new answer × AppendsFront held holds (answer_text answer)
 PrintsText old new text number held holds (Err fault.NoMemory) = Keeps held holds
 
 -- What came of the line with this number. It was run and more may come, it was the last, there was none, or a fault
--- came. If the writer failed, it either took no answer of the line, or was to be flushed before more was read.
+-- came. If the writer failed, it took a front of the line's answer, or was to be flushed before more was read.
 abbrev pub TakesTurn : Session → Session → ℕ → Known → Known → Known → Known → Result Bool ScriptFault → Type 0
 TakesTurn old new number had left held holds (Ok true) =
     (text : List ℕ) × IsLineText text × Consumes had left (text ++ 10 ∷ [])
@@ -76,8 +78,8 @@ TakesTurn old new number had left held holds (Err fault.ReadFailed) =
     (part : List ℕ) × Consumes had left part × IsLineText part × Keeps held holds
 TakesTurn old new number had left held holds (Err fault.WriteFailed) =
     ((text : List ℕ) × (taken : List ℕ) × IsLineText text × Consumes had left taken × IsTakenLine text taken left
-    × (answer : Answer) × RunsText old text new answer)
-    ⊎ ((part : List ℕ) × Consumes had left part × IsLineText part)
+    × (answer : Answer) × RunsText old text new answer × AppendsFront held holds (answer_text answer))
+    ⊎ ((part : List ℕ) × Consumes had left part × IsLineText part × Keeps held holds)
 TakesTurn old new number had left held holds (Err fault.NoMemory) =
     (part : List ℕ) × Consumes had left part × (length part ≤ 4097) × Keeps held holds
 
@@ -89,6 +91,7 @@ IsNoMore had left held holds (Err (fault.BadLine n why)) =
     × Keeps held holds × (why ≡ TooMany)
 IsNoMore had left held holds (Err fault.ReadFailed) =
     (part : List ℕ) × Consumes had left part × IsLineText part × Keeps held holds
-IsNoMore had left held holds (Err fault.WriteFailed) = (part : List ℕ) × Consumes had left part × IsLineText part
+IsNoMore had left held holds (Err fault.WriteFailed) =
+    (part : List ℕ) × Consumes had left part × IsLineText part × Keeps held holds
 IsNoMore had left held holds (Err fault.NoMemory) =
     (part : List ℕ) × Consumes had left part × (length part ≤ 4097) × Keeps held holds

@@ -1,12 +1,12 @@
 //! What a script drives: a fleet, and the master over it if there is one.
 
-ghost use Rattle.std.specs.Prelude.{◌≡◌, ◌≤◌, ℕ, List, length, None, Some, IfOk, IfErr, OnOk};
-ghost use Rattle.std.specs.Io.KnownBytes.{Appends};
+ghost use Rattle.std.specs.Prelude.{◌≡◌, ◌≤◌, ℕ, List, length, None, Some, IfOk, IfErr};
 ghost use Rattle.entry.specs.View.{shown_key};
 ghost use Rattle.history.specs.View.{shown_command as lent_command};
 ghost use Rattle.versioned_map.specs.declared.command.Command.TheVariants as asked;
 ghost use Rattle.versioned_map.specs.declared.command.Reply.{Reply as ReplyValue};
 ghost use Rattle.next_master.specs.answers.declared.answer.Answer.{Answer as AnswerValue};
+ghost use Rattle.next_master.specs.answers.Errors.{IsHanded};
 ghost use Rattle.next_master.specs.answers.Texts.{reply_text};
 ghost use Rattle.next_master.specs.node.Waits.{IsReplyAt};
 ghost use Rattle.lines.specs.Grammar.{Begin, Clean, Clients, Recover, IsLine, IsOrder, shown_command, shown_line};
@@ -28,7 +28,7 @@ use backup::MemoryFleet;
 use command_line::Options;
 use entry::{KeyRef, MAX_VALUE_LEN, NoMemory, Row};
 use lines::{CommandLine, KeyWord, Line, Numbers, ReplayOrder};
-use next_master::answers::{Answer, Limits};
+use next_master::answers::{Answer, Limits, WriteFailed};
 use next_master::driving::push_all;
 use next_master::master::{CommandRef, If, Master, Refusal, Step, ValueRef};
 use next_master::node::{Node, Served, Tried};
@@ -36,7 +36,7 @@ use next_master::recovery::{PlanFault, RecoveryFault};
 use next_master::store_clients::Workload;
 use next_master::{configuration, later_options, recover_node, whole_will};
 use std::alloc::Global;
-use std::io::{self, Write};
+use std::io::Write;
 use std::sync::Wait;
 use std::thread::Threads;
 use tablet_will::Will;
@@ -135,10 +135,10 @@ impl Session {
 
     /// Writes the line of the reply that the record at this place of the history has.
     #[inline(always)]
-    pub fn write_reply<W: Write>(&self, place: u64, writer: &mut W) -> io::Result<()>
+    pub fn write_reply<W: Write>(&self, place: u64, writer: &mut W) -> Result<(), WriteFailed>
         requires { (reply : ReplyValue) × IsReplyAt self.now.node place reply }
         ensures { (reply : ReplyValue) → IsReplyAt self.now.node place reply →
-            OnOk result (Appends (W.contents writer.old) (W.contents writer.new) (reply_text reply)) }
+            IsHanded (W.contents writer.old) (W.contents writer.new) (reply_text reply) result }
     {
         self.node.write_reply(place, writer)
     }

@@ -1,5 +1,6 @@
-use Rattle.std.proofs.Common.{subst}
+use Rattle.std.proofs.Common.{refl, subst}
 use Rattle.std.specs.Io.KnownBytes.{Appends}
+use Rattle.next_master.specs.answers.Errors.{AppendsFront}
 use Rattle.next_master.specs.answers.declared.answer.Answer.{Answer}
 use Rattle.next_master.specs.answers.Texts.{answer_text}
 use Rattle.script.specs.declared.outcome.Outcome.{Outcome}
@@ -29,3 +30,13 @@ returns-in-Ok g c = λ answer printed.
     let told : IsPrintedAs c.args.session.now (outcome.Replied c.in-Replied.place) answer =
     subst (λ (o : Outcome). IsPrintedAs c.args.session.now o answer) c.in-Replied.is printed in
     subst (λ (a : Answer). Appends held holds (answer_text a)) told.2 (c.in-Ok.ensures told.0 told.1)
+
+pub returns-in-Err : goal.returns-in-Err
+returns-in-Err g c = λ answer printed.
+    let held = g.W.Write.contents c.args.writer.now in
+    let holds = g.W.Write.contents c.write_reply.new.writer in
+    let told : IsPrintedAs c.args.session.now (outcome.Replied c.in-Replied.place) answer =
+    subst (λ (o : Outcome). IsPrintedAs c.args.session.now o answer) c.in-Replied.is printed in (
+      refl,
+      subst (λ (a : Answer). AppendsFront held holds (answer_text a)) told.2 (c.in-Err.ensures told.0 told.1),
+    )

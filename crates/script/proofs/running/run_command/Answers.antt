@@ -17,5 +17,5 @@ returns-in-Err g c =
     let t = c.in-Replied.ensures in (
       answers.Reply t.tries.0,
       replied_answers c.args.session.now c.serve.new.self (shown_command c.args.line) c.in-Replied.place t,
-      refl,
+      (refl, c.in-Err.ensures t.tries.0 t.tries.1),
     )

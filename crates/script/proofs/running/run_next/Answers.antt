@@ -59,7 +59,7 @@ returns-in-Err-ReadFailed g c =
 pub returns-in-Err-WriteFailed : goal.returns-in-Err-WriteFailed
 returns-in-Err-WriteFailed g c =
     let there = stopped_as _ _ _ _ WriteFailed c.in-Err-WriteFailed.field-0-is c.in-Err-WriteFailed.ensures.fault in
-    inr (c.next_line.new.self, there.0, there.1)
+    inr (c.next_line.new.self, there.0, there.1, c.next_line.ensures.flushed)
 
 pub returns-in-Err-NoMemory : goal.returns-in-Err-NoMemory
 returns-in-Err-NoMemory g c =
