@@ -34,6 +34,8 @@ valid_halted d f valid = record {
     shut = valid.placed.shut;
     closed = valid.placed.closed;
   };
+  whole = valid.whole;
+  survive = valid.survive;
   covered = valid.covered;
   durable = valid.durable;
   counted = valid.counted;
