@@ -83,7 +83,7 @@ flushed_first old new text number held wrote holds (Err (fault.BadLine n why)) k
     (p.0, p.1, Keeps-trans held wrote holds kept p.2, p.3)
 flushed_first old new text number held wrote holds (Err fault.ReadFailed) kept p = absurd p
 flushed_first old new text number held wrote holds (Err fault.WriteFailed) kept p =
-    (p.0, p.1, p.2.0, p.2.1, p.2.2, kept_first held wrote holds p.2.0 kept p.2.3)
+    (p.0, p.1, (p.2.0, p.2.1, p.2.2, kept_first held wrote holds p.2.0 kept p.2.3))
 flushed_first old new text number held wrote holds (Err fault.NoMemory) kept p = Keeps-trans held wrote holds kept p
 
 -- ---- a turn that failed
