@@ -392,6 +392,9 @@ class Follower:
         self.is_up, self.is_unlimited, self.is_halted = False, True, False
         if name == "recover":
             self.greatest += 1
+            # The new master may have gone on without a backup before it was stopped.
+            if self.is_due and self.format == 2:
+                self.failed += 1
 
     def may_command(self, line, row):
         kind = "put" if line[0] in ("put", "new", "cas") else line[0]
