@@ -25,7 +25,7 @@ use Rattle.claims.specs.Listed.{AreOrdered}
 use Rattle.partitions.specs.Parted.{Parceled, entries_in, entries_for, part_of, bag_in, IsParcel, AreGathered, IsListed}
 use Rattle.partitions.specs.declared.setback.Setback.{Setback}
 use Rattle.partitions.specs.declared.setback.Setback.TheVariants as setback
-use Rattle.partitions.specs.Setbacks.{IsSetback}
+use Rattle.partitions.specs.Setbacks.{IsOutside, IsSetback}
 use Rattle.claims.specs.Settled.{AreOf}
 use Rattle.claims.proofs.GatheringLemmas.{claims_of-append}
 use Rattle.claims.proofs.MeaningLemmas.{claims_within}
@@ -38,11 +38,21 @@ use Rattle.claims.proofs.Settled.{settled, bound_of_log}
 
 -- ---- setbacks
 
-pub setback_is : (segments : List (List Entry)) (f : Setback)
-    → (f ≡ setback.Clash → IsClean (among (segments_bag segments)) → ⊥) → IsSetback segments f
-setback_is segments setback.NoMemory h = tt
-setback_is segments setback.Clash h = h refl
-setback_is segments setback.NotWhole h = tt
+pub setback_is : (qs : List Part) (segments : List (List Entry)) (f : Setback)
+    → (f ≡ setback.Clash → IsClean (among (segments_bag segments)) → ⊥) → (f ≡ setback.Stray → ⊥)
+    → IsSetback qs segments f
+setback_is qs segments setback.NoMemory h covered = tt
+setback_is qs segments setback.Clash h covered = h refl
+setback_is qs segments setback.Stray h covered = absurd (covered refl)
+setback_is qs segments setback.NotWhole h covered = tt
+
+-- a cause outside of the log is one that it may have
+pub outside_setback : (qs : List Part) (segments : List (List Entry)) (f : Setback) → IsOutside f
+    → IsSetback qs segments f
+outside_setback qs segments setback.NoMemory h = tt
+outside_setback qs segments setback.Clash h = absurd h
+outside_setback qs segments setback.Stray h = absurd h
+outside_setback qs segments setback.NotWhole h = tt
 
 -- ---- the claims of parcels, one parcel after the other
 

@@ -15,4 +15,4 @@ mod share;
 pub use listing::{Joined, PartList};
 pub use parcel::{Division, Parcel};
 pub use setback::Setback;
-pub use share::{Share, are_whole};
+pub use share::Share;

@@ -8,6 +8,7 @@ ghost use Rattle.claims.specs.Bags.{segments_bag};
 ghost use Rattle.claims.specs.Listed.{AreOrdered};
 ghost use Rattle.partitions.specs.Parted.{IsListed, bag_in};
 ghost use Rattle.claims.specs.Rebuilt.{IsRebuilt};
+ghost use Rattle.partitions.specs.Setbacks.{IsOutside};
 
 use crate::parcel::Division;
 use crate::setback::Setback;
@@ -122,7 +123,7 @@ impl<D: Division> Joined<D> {
     pub fn add(&mut self, list: PartList<D>) -> Result<(), Setback>
         ensures ok { OnOk result (self.new ≡ self.old + 1) }
         ensures err { OnErr result (self.new ≡ self.old) }
-        ensures setback { IfErr result (λ s. s ≡ Setback.Clash → ⊥) }
+        ensures setback { IfErr result IsOutside }
     {
         if list.partition != self.count || self.count == u32::MAX {
             return Err(Setback::NotWhole);

@@ -13,6 +13,8 @@ pub enum Setback {
     NoMemory,
     /// Two objects of one key and version have different values.
     Clash,
+    /// A key is in no partition.
+    Stray,
     /// A group did not come, or came twice, or to another partition; or a worker was not started; or the lists come in
     /// another order than their partitions or their keys.
     NotWhole,

@@ -5,7 +5,7 @@ ghost use Rattle.std.specs.List.{list_all};
 ghost use Rattle.entry.specs.Format.{IsObject};
 ghost use Rattle.claims.specs.Claims.{claimed, claims_of, has_clash, objects_in, tops};
 ghost use Rattle.partitions.specs.Parted.{entries_in};
-ghost use Rattle.partitions.specs.Setbacks.{IsSetback};
+ghost use Rattle.partitions.specs.Setbacks.{IsOutside, IsSetback};
 
 use crate::listing::PartList;
 use crate::parcel::{Division, Parcel};
@@ -39,7 +39,7 @@ impl<'a, D: Division> Model for Share<'a, D> {
 }
 
 /// Whether all are marked.
-pub fn are_whole(marks: &[bool]) -> bool
+fn are_whole(marks: &[bool]) -> bool
     ensures test { result ≡ list_all (λ (mark : Bool). mark) marks.now }
     ensures each { result ≡ true → All (λ mark. mark ≡ true) marks.now }
 {
@@ -91,6 +91,7 @@ fn listed(alloc: Global, claims: &[Claim<'_>]) -> Result<Objects, Setback>
     ensures valid { IfOk result (λ objects. All IsObject objects) }
     ensures clean { OnOk result (has_clash (map claimed claims.now) ≡ false) }
     ensures setback { IfErr result (λ s. s ≡ Setback.Clash → has_clash (map claimed claims.now) ≡ true) }
+    ensures covered { IfErr result (λ s. s ≡ Setback.Stray → ⊥) }
 {
     match winners(alloc, claims) {
         Ok(objects) => Ok(objects),
@@ -116,7 +117,7 @@ impl<'a, D: Division> Share<'a, D> {
     /// nothing changes. It takes one step, whatever the group has.
     pub fn take(&mut self, parcel: Parcel<'a, D>) -> Result<(), Setback>
         ensures same { self.new ≡ self.old }
-        ensures setback { IfErr result (λ s. s ≡ Setback.Clash → ⊥) }
+        ensures setback { IfErr result IsOutside }
     {
         if parcel.partition() != self.partition {
             return Err(Setback::NotWhole);
@@ -137,7 +138,7 @@ impl<'a, D: Division> Share<'a, D> {
     /// takes n log n steps, and memory for their claims, which it gives back at its end.
     pub fn finish(self, alloc: Global, recorded: SafeVersion) -> Result<PartList<D>, Setback>
         requires { recorded ≡ D.safe }
-        ensures { IfErr result (IsSetback D.segments) }
+        ensures { IfErr result (IsSetback D.parts D.segments) }
     {
         if !are_whole(self.marks.as_slice()) {
             return Err(Setback::NotWhole);

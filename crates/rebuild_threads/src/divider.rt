@@ -1,13 +1,13 @@
 //! A log that is divided segment by segment, as its groups are asked for.
 
-ghost use Rattle.std.specs.Prelude.{◌≡◌, ◌<◌, ℕ, Bool, map, length, IfOk, IfErr, OnOk, IsTrue, slice_index_or, []};
-ghost use Rattle.std.specs.List.{list_all};
+ghost use Rattle.std.specs.Prelude.{◌≡◌, ◌<◌, ◌/◌, map, length, IfErr, OnOk, slice_index_or, [], true, false};
 ghost use Rattle.division.specs.Division.{AreCovered, IsDivision};
 ghost use Rattle.division.specs.Groups.{grouped};
-ghost use Rattle.claims.specs.Bags.{segments_bag};
+ghost use Rattle.tablet_will.specs.Parts.{partitions_of};
+ghost use Rattle.rebuild_threads.specs.Divided.{IsDivideSetback};
 
 use division::{DivideFault, Group, divide};
-use partitions::{Division, Parcel, Setback, are_whole};
+use partitions::{Division, Parcel, Setback};
 use segment::SegmentRef;
 use std::alloc::{AllocError, Global};
 use std::marker::{Model, PhantomData};
@@ -34,7 +34,8 @@ impl<'s, 'a, D: Division> Model for Divider<'s, 'a, D> {
 
     ghost view = { λ d. d.divided.items };
 
-    ghost invariant = { λ d. AreDivided D.parts D.segments d.segments.now d.will.now d.divided.items };
+    ghost invariant = { λ d.
+        AreDivided D.parts D.segments d.segments.now d.will.now d.partitions d.divided.items };
 }
 
 /// Groups of the segment at this place, on their way.
@@ -91,15 +92,16 @@ impl<'s, 'a, D: Division> Divider<'s, 'a, D> {
     /// Divides the segment at this place.
     fn divide(&mut self, alloc: Global, at: usize) -> Result<(), Setback>
         requires { at < length self.old }
-        ensures { IfErr result (λ s. s ≡ Setback.Clash → ⊥) }
+        ensures ok { OnOk result (slice_index_or self.new at false ≡ true) }
+        ensures setback { IfErr result (IsDivideSetback D.parts D.segments) }
     {
         let Some(segment) = self.segments.get(at) else {
-            return Err(Setback::NotWhole);
+            unreachable!();
         };
         let groups = match divide(alloc, segment, self.will) {
             Ok(groups) => groups,
             Err(DivideFault::NoMemory) => return Err(Setback::NoMemory),
-            Err(DivideFault::Stray(_)) => return Err(Setback::NotWhole),
+            Err(DivideFault::Stray(_)) => return Err(Setback::Stray),
         };
         let first = at.saturating_mul(self.partitions);
         add_parcels(self.parcels.as_mut_slice(), at, first, groups);
@@ -107,11 +109,13 @@ impl<'s, 'a, D: Division> Divider<'s, 'a, D> {
         Ok(())
     }
 
-    /// The group with this number, unless it was asked for before.
+    /// The group with this number, unless it was asked for before. With Ok each key of its segment has a partition.
     pub fn take(&mut self, alloc: Global, n: usize) -> Result<Option<Parcel<'a, D>>, Setback>
-        ensures { IfErr result (λ s. s ≡ Setback.Clash → ⊥) }
+        ensures covered { OnOk result (n / partitions_of D.parts < length D.segments →
+            AreCovered D.parts (slice_index_or D.segments (n / partitions_of D.parts) [])) }
+        ensures setback { IfErr result (IsDivideSetback D.parts D.segments) }
     {
-        let at = n / self.partitions.max(1);
+        let at = n / self.partitions;
         if at >= self.divided.len() {
             return Ok(None);
         }
@@ -122,13 +126,5 @@ impl<'s, 'a, D: Division> Divider<'s, 'a, D> {
             return Ok(None);
         }
         Ok(self.parcels[n].take())
-    }
-
-    /// Whether all segments are divided. Then each key has a partition.
-    pub fn is_whole(&self) -> bool
-        ensures test { result ≡ list_all (λ (mark : Bool). mark) self.now }
-        ensures covered { IsTrue result → AreCovered D.parts (segments_bag D.segments) }
-    {
-        are_whole(self.divided.as_slice())
     }
 }

@@ -8,7 +8,6 @@
 //! calling thread answers by `rebuild`.
 #![tactic(auto)]
 
-mod checks;
 mod divider;
 mod lists;
 mod threads;

@@ -52,7 +52,7 @@ pub fn join_all<D: Division>(
     requires covered { AreCovered D.parts (segments_bag D.segments) }
     ensures ok { IfOk result (IsRebuilt D.segments D.safe) }
     ensures clean { OnOk result (IsClean (among (segments_bag D.segments))) }
-    ensures setback { IfErr result (IsSetback D.segments) }
+    ensures setback { IfErr result (IsSetback D.parts D.segments) }
 {
     let mut joined = Joined::new(alloc, recorded);
     for n in 0..places.len() {

@@ -5,11 +5,12 @@ ghost use Rattle.entry.specs.Meaning.{IsClean, among};
 ghost use Rattle.division.specs.Division.{AreCovered};
 ghost use Rattle.claims.specs.Bags.{segments_bag};
 ghost use Rattle.claims.specs.Rebuilt.{IsRebuilt};
-ghost use Rattle.rebuilding.specs.Rebuilds.{IsRebuildFault, CanBeRebuilt, NamesEach, count_of};
+ghost use Rattle.rebuilding.specs.Rebuilds.{AreApart, IsRebuildFault, CanBeRebuilt, NamesEach, count_of, ids_of};
 ghost use Rattle.rebuilding.specs.Turns.{replayed};
 ghost use Rattle.partitions.specs.Setbacks.{IsSetback};
+ghost use Rattle.rebuild_threads.specs.Divided.{IsDivideSetback};
+ghost use Rattle.tablet_will.specs.Parts.{partitions_of};
 
-use crate::checks::{test_ids, test_order};
 use crate::divider::Divider;
 use crate::lists::{empty_places, join_all, place_all};
 use crate::worker::{Work, run};
@@ -18,7 +19,7 @@ use crossbeam_channel::{Sender, bounded};
 use entry::SafeVersion;
 use gate::Gate;
 use partitions::{Division, Parcel, PartList, Setback};
-use rebuilding::rebuild;
+use rebuilding::{check_order, rebuild};
 use recovery_plan::Plan;
 use std::alloc::Global;
 use std::marker::{Brand, PhantomData};
@@ -46,11 +47,11 @@ impl<D: Division> Promise<Result<Vec<PartList<D>>, Setback>> for Honest<D> {
     ghost use Rattle.std.specs.Prelude.{IfErr};
     ghost use Rattle.partitions.specs.Setbacks.{IsSetback};
 
-    ghost kept_by = { λ p r. IfErr r (IsSetback D.segments) };
+    ghost kept_by = { λ p r. IfErr r (IsSetback D.parts D.segments) };
 }
 
 /// Divides the log, and sends its groups in the order in which they are named, each to the worker of its partition. A
-/// worker that is gone gets none.
+/// worker that is gone gets none. Each segment is divided then, since the order names each group.
 fn send_all<'a, D: Division, R: Wait>(
     rt: &R,
     alloc: Global,
@@ -58,8 +59,11 @@ fn send_all<'a, D: Division, R: Wait>(
     order: &[usize],
     ends: &[Sender<Parcel<'a, D>>],
 ) -> Result<(), Setback>
-    requires { 0 < length ends.now }
-    ensures { IfErr result (λ s. s ≡ Setback.Clash → ⊥) }
+    requires ends { 0 < length ends.now }
+    requires parts { 0 < partitions_of D.parts }
+    requires order { NamesEach (count_of D.segments D.parts) order.now }
+    ensures covered { OnOk result (AreCovered D.parts (segments_bag D.segments)) }
+    ensures setback { IfErr result (IsDivideSetback D.parts D.segments) }
 {
     for n in order {
         if let Some(parcel) = divider.take(alloc, *n)? {
@@ -78,7 +82,7 @@ fn lists_from<D: Division, R: Threads>(
     partitions: u32,
 ) -> Result<Vec<Option<PartList<D>>>, Setback>
     ensures long { IfOk result (λ places. length places.items ≡ partitions) }
-    ensures setback { IfErr result (IsSetback D.segments) }
+    ensures setback { IfErr result (IsSetback D.parts D.segments) }
 {
     let mut places = empty_places(alloc, partitions)?;
     for worker in workers {
@@ -101,8 +105,11 @@ fn lists_of<'a, D: Division + Send + Sync + 'static, R: Threads + Wait + Sync, G
     requires workers { 0 < work.workers }
     requires segments { work.segments ≡ length D.segments }
     requires recorded { recorded ≡ D.safe }
+    requires parts { 0 < partitions_of D.parts }
+    requires order { NamesEach (count_of D.segments D.parts) order.now }
     ensures long { IfOk result (λ places. length places.items ≡ work.partitions) }
-    ensures setback { IfErr result (IsSetback D.segments) }
+    ensures covered { OnOk result (AreCovered D.parts (segments_bag D.segments)) }
+    ensures setback { IfErr result (IsSetback D.parts D.segments) }
 {
     thread::scope(
         thread::scope_env(),
@@ -111,8 +118,11 @@ fn lists_of<'a, D: Division + Send + Sync + 'static, R: Threads + Wait + Sync, G
             requires workers { 0 < work.workers }
             requires segments { work.segments ≡ length D.segments }
             requires recorded { recorded ≡ D.safe }
+            requires parts { 0 < partitions_of D.parts }
+            requires order { NamesEach (count_of D.segments D.parts) order.now }
             ensures long { IfOk result (λ places. length places.items ≡ work.partitions) }
-            ensures setback { IfErr result (IsSetback D.segments) }
+            ensures covered { OnOk result (AreCovered D.parts (segments_bag D.segments)) }
+            ensures setback { IfErr result (IsSetback D.parts D.segments) }
         {
             let partitions = work.partitions;
             let mut ends = Vec::new(alloc);
@@ -123,7 +133,7 @@ fn lists_of<'a, D: Division + Send + Sync + 'static, R: Threads + Wait + Sync, G
                 let job = move || -> Result<Vec<PartList<D>>, Setback>
                     requires segments { work.segments ≡ length D.segments }
                     requires recorded { recorded ≡ D.safe }
-                    ensures { IfErr result (IsSetback D.segments) }
+                    ensures { IfErr result (IsSetback D.parts D.segments) }
                 { run(rt, alloc, from, recorded, work, worker, gate) };
                 match scope.spawn_with(Honest::<D>::new(), job) {
                     Ok(handle) => handles.push(handle)?,
@@ -137,12 +147,13 @@ fn lists_of<'a, D: Division + Send + Sync + 'static, R: Threads + Wait + Sync, G
     )
 }
 
-/// What the log of the division stands for, by workers.
+/// What the log of the division stands for, by workers. It has so many groups.
 fn by_workers<'a, D: Division + Send + Sync + 'static, R: Threads + Wait + Sync, G: Gate + Sync>(
     rt: &R,
     alloc: Global,
     plan: &'a Plan<'_>,
     will: &'a Will,
+    count: usize,
     order: &[usize],
     workers: usize,
     gate: &G,
@@ -151,13 +162,13 @@ fn by_workers<'a, D: Division + Send + Sync + 'static, R: Threads + Wait + Sync,
     requires segments { D.segments ≡ plan.now.segments }
     requires parts { D.parts ≡ will.now }
     requires safe { D.safe ≡ plan.now.safe }
+    requires order { NamesEach (count_of plan.now.segments will.now) order.now }
     ensures ok { IfOk result (IsRebuilt plan.entry.now.segments plan.entry.now.safe) }
     ensures turns { IfOk result (IsRebuilt
         (replayed plan.entry.now.segments will.entry.now order.now) plan.entry.now.safe) }
     ensures clean { OnOk result (IsClean (among (segments_bag plan.entry.now.segments))) }
     ensures covered { OnOk result (AreCovered will.entry.now (segments_bag plan.entry.now.segments)) }
-    ensures order { OnOk result (NamesEach (count_of plan.entry.now.segments will.entry.now) order.now) }
-    ensures setback { IfErr result (IsSetback plan.entry.now.segments) }
+    ensures setback { IfErr result (IsSetback will.entry.now plan.entry.now.segments) }
 {
     let segments = plan.segments.as_slice();
     let recorded = plan.safe;
@@ -166,16 +177,8 @@ fn by_workers<'a, D: Division + Send + Sync + 'static, R: Threads + Wait + Sync,
         partitions: will.partitions(),
         segments: segments.len(),
     };
-    let Some(count) = segments.len().checked_mul(will.partitions() as usize) else {
-        return Err(Setback::NotWhole);
-    };
-    test_order(alloc, count, order)?;
-    test_ids(alloc, segments)?;
     let mut divider = Divider::<D>::new(alloc, segments, will, count)?;
     let mut places = lists_of(rt, alloc, &mut divider, order, recorded, work, gate)?;
-    if !divider.is_whole() {
-        return Err(Setback::NotWhole);
-    }
     join_all(alloc, places.as_mut_slice(), recorded)
 }
 
@@ -199,14 +202,17 @@ fn rebuild_on<'a, D: Division + Send + Sync + 'static, R: Threads + Wait + Sync,
     ensures clean { OnOk result (IsClean (among (segments_bag plan.entry.now.segments))) }
     ensures covered { OnOk result (AreCovered will.entry.now (segments_bag plan.entry.now.segments)) }
     ensures order { OnOk result (NamesEach (count_of plan.entry.now.segments will.entry.now) order.now) }
+    ensures ids { OnOk result (AreApart (ids_of plan.entry.now.segments)) }
     ensures fault { IfErr result (IsRebuildFault plan.entry.now.segments will.entry.now order.now) }
     ensures whole { IfErr result (λ fault.
         CanBeRebuilt plan.entry.now.segments will.entry.now order.now → fault ≡ ReplayFault.NoMemory) }
 {
-    match by_workers::<D, R, G>(rt, alloc, plan, will, order, workers, gate) {
+    let count = check_order(alloc, plan.segments.as_slice(), will, order)?;
+    match by_workers::<D, R, G>(rt, alloc, plan, will, count, order, workers, gate) {
         Ok(rebuilt) => Ok(rebuilt),
         Err(Setback::NoMemory) => Err(ReplayFault::NoMemory),
         Err(Setback::Clash) => Err(ReplayFault::Clash),
+        Err(Setback::Stray) => rebuild(alloc, plan, will, order),
         Err(Setback::NotWhole) => rebuild(alloc, plan, will, order),
     }
 }
@@ -216,8 +222,9 @@ fn rebuild_on<'a, D: Division + Send + Sync + 'static, R: Threads + Wait + Sync,
 /// workers, which has at most four groups waiting. The gate is told when each worker begins and ends. A worker without
 /// a partition begins and ends.
 ///
-/// With Ok the result is that of `rebuild`, and it is refused for the same reasons. If a worker can't be started, or if
-/// a group did not come to its worker once, the calling thread answers by `rebuild`.
+/// With Ok the result is that of `rebuild`, and it is refused for the same reasons. Order and ids are tested before a
+/// worker is started. If a key has no partition, if a worker can't be started, or if a group did not come to its worker
+/// once, the calling thread answers by `rebuild`.
 ///
 /// The calling thread takes about n + s p steps for n entries in s segments and p partitions, and each worker n log n
 /// for its own.
@@ -236,6 +243,7 @@ pub fn rebuild_threads<R: Threads + Wait + Sync, G: Gate + Sync>(
     ensures clean { OnOk result (IsClean (among (segments_bag plan.now.segments))) }
     ensures covered { OnOk result (AreCovered will.now (segments_bag plan.now.segments)) }
     ensures order { OnOk result (NamesEach (count_of plan.now.segments will.now) order.now) }
+    ensures ids { OnOk result (AreApart (ids_of plan.now.segments)) }
     ensures fault { IfErr result (IsRebuildFault plan.now.segments will.now order.now) }
     ensures whole { IfErr result (λ fault.
         CanBeRebuilt plan.now.segments will.now order.now → fault ≡ ReplayFault.NoMemory) }

@@ -47,7 +47,7 @@ fn put<'a, D: Division>(
     parcel: Parcel<'a, D>,
     workers: usize,
 ) -> Result<(), Setback>
-    ensures { IfErr result (IsSetback D.segments) }
+    ensures { IfErr result (IsSetback D.parts D.segments) }
 {
     let place = parcel.partition() as usize / workers.max(1);
     if place >= shares.len() {
@@ -63,7 +63,7 @@ fn finish<'a, D: Division>(
     recorded: SafeVersion,
 ) -> Result<Vec<PartList<D>>, Setback>
     requires { recorded ≡ D.safe }
-    ensures { IfErr result (IsSetback D.segments) }
+    ensures { IfErr result (IsSetback D.parts D.segments) }
 {
     let mut lists = Vec::with_capacity(alloc, shares.len())?;
     for share in shares {
@@ -84,7 +84,7 @@ fn replay<'a, D: Division, R: Wait>(
 ) -> Result<Vec<PartList<D>>, Setback>
     requires segments { work.segments ≡ length D.segments }
     requires recorded { recorded ≡ D.safe }
-    ensures { IfErr result (IsSetback D.segments) }
+    ensures { IfErr result (IsSetback D.parts D.segments) }
 {
     let workers = work.workers;
     let mut shares = Vec::new(alloc);
@@ -113,7 +113,7 @@ pub fn run<'a, D: Division, R: Wait, G: Gate>(
 ) -> Result<Vec<PartList<D>>, Setback>
     requires segments { work.segments ≡ length D.segments }
     requires recorded { recorded ≡ D.safe }
-    ensures { IfErr result (IsSetback D.segments) }
+    ensures { IfErr result (IsSetback D.parts D.segments) }
 {
     gate.enter(worker);
     let lists = replay(rt, alloc, from, recorded, work, worker);

@@ -1,15 +1,13 @@
 -- The groups of a whole log.
-use Rattle.std.proofs.Common.{◌≡◌, ℕ, ◌+◌, ◌*◌, ◌/◌, ◌%◌, ◌<◌, ◌≤◌, true, List, [], ◌∷◌, ◌++◌, length}
+use Rattle.std.proofs.Common.{◌≡◌, ℕ, ◌+◌, ◌*◌, ◌<◌, true, List, [], ◌∷◌, ◌++◌, length}
 use Rattle.std.proofs.Common.{get_or, take, Some, None, refl, sym, ap, subst, ◌∙◌, inl, inr, arith}
-use Rattle.std.specs.Prelude.{slice_index, Option, is_some, IfSome}
+use Rattle.std.specs.Prelude.{Option, is_some, IfSome}
 use Rattle.std.specs.List.{range_with_len}
 use Rattle.std.proofs.lemmas.Bool.Decides.{Decides-eqb}
-use Rattle.std.proofs.lemmas.List.{append-nil, take_more, length-take-le}
+use Rattle.std.proofs.lemmas.List.{append-nil, take_more}
 use Rattle.std.proofs.Common.{length-append}
-use Rattle.std.proofs.lemmas.List.Concat.{get_or-flat_map}
-use Rattle.std.proofs.lemmas.List.FromFn.{length-map-range_with_len, get_or-map-range_with_len}
+use Rattle.std.proofs.lemmas.List.FromFn.{length-map-range_with_len}
 use Rattle.std.proofs.lemmas.Grind.{flat_map-append}
-use Rattle.std.proofs.lemmas.Nat.{mod_below, div_below, div-add-mod'}
 use Rattle.entry.specs.declared.key.Key.{Key}
 use Rattle.entry.specs.declared.entry.Entry.{Entry}
 use Rattle.entry.specs.declared.entry.Entry.TheVariants as entry
@@ -23,20 +21,20 @@ use Rattle.tablet_will.specs.declared.part.Part.{Part}
 use Rattle.tablet_will.specs.Parts.{AreParts, partition_of_key, partitions_of}
 use Rattle.division.specs.declared.fault.DivideFault.{DivideFault}
 use Rattle.division.specs.declared.fault.DivideFault.TheVariants as divide_fault
-use Rattle.division.specs.Groups.{Grouped, bag_of, segments_of}
-use Rattle.division.specs.Division.{is_number, goes_to, group_in, groups_of, numbers_of, AreCovered, IsDivision}
+use Rattle.division.specs.Groups.{Grouped, bag_of}
+use Rattle.division.specs.Division.{is_number, goes_to, group_in, groups_of, AreCovered, IsDivision}
 use Rattle.division.specs.Division.{IsDivideFault}
 use Rattle.claims.specs.Bags.{segments_bag}
 use Rattle.claims.specs.Claims.{Claimed}
 use Rattle.claims.specs.declared.fault.ReplayFault.{ReplayFault}
 use Rattle.claims.specs.declared.fault.ReplayFault.TheVariants as fault
-use Rattle.rebuilding.specs.Rebuilds.{header_id, id_of, ids_of, count_of, IsDouble, IsRebuildFault, NamesEach}
-use Rattle.rebuilding.specs.Turns.{all_groups, AreAllCovered, IsGroupsFault, IsSecond, IsOrderFault, IsPassedOn}
+use Rattle.rebuilding.specs.Rebuilds.{header_id, id_of, ids_of, count_of, AreApart, IsRebuildFault, NamesEach}
+use Rattle.rebuilding.specs.Turns.{all_groups, AreAllCovered, IsGroupsFault, IsPassedOn}
 use Rattle.claims.specs.Settled.{AreOf}
-use Rattle.claims.proofs.Members.{flat_among, among_flat, among_filter, filter_among, range_among, map_at}
+use Rattle.claims.proofs.Members.{flat_among, among_flat, among_filter, filter_among, range_among}
 use Rattle.claims.proofs.MeaningLemmas.{claims_within}
 use Rattle.division.proofs.Divisions.{goes_data}
-use Rattle.rebuilding.proofs.Carried.{segment-at, number-at}
+use Rattle.rebuilding.proofs.Twins.{short_named}
 
 pub data_of_key : (k : Key) (e : Entry) → IsOfKey k e → is_data e ≡ true
 data_of_key k (entry.Header h) at = absurd at
@@ -154,104 +152,15 @@ module _ (qs : List Part) where
       let rest = all_long segments in
       length-append (groups_of qs (id_of es) es) (all_groups qs segments) ∙ omega (arith, first, rest)
 
-  module _ (segments : List (List Entry)) (n : ℕ) (some : 0 < partitions_of qs)
-      (lt : n < length segments * partitions_of qs) where
-    abbrev count : ℕ
-    count = partitions_of qs
-
-    abbrev here : List Entry
-    here = get_or segments (n / count) []
-
-    abbrev named_group : Grouped
-    named_group = group_in qs (id_of here) here (n % count)
-
-    segment_inside : n / count < length segments
-    segment_inside = div_below n count (length segments) some lt
-
-    before_here : length (all_groups qs (take (n / count) segments)) + n % count ≡ n
-    before_here =
-        let long : length (take (n / count) segments) ≡ n / count =
-        length-take-le (n / count) segments (let low = segment_inside in omega (arith, low)) in
-        let rows = all_long (take (n / count) segments) ∙ ap (λ m. m * count) long in
-        let whole = div-add-mod' n count in
-        omega (arith, rows, whole)
-
-    group_is : named_group ≡ get_or (all_groups qs segments) n named_group
-    group_is =
-        let low = mod_below n count some in
-        let inside : n % count < length (groups_of qs (id_of here) here) =
-        subst (λ m. n % count < m) (sym (row_long here)) low in
-        sym (ap (λ m. get_or (all_groups qs segments) m named_group) (sym before_here)
-        ∙ get_or-flat_map (λ (es : List Entry). groups_of qs (id_of es) es) segments (n / count) (n % count) []
-        named_group segment_inside inside
-        ∙ get_or-map-range_with_len (group_in qs (id_of here) here) 0 count (n % count) (n % count) named_group low
-        (omega arith))
-
-    n_inside : n < length (all_groups qs segments)
-    n_inside = subst (λ m. n < m) (sym (all_long segments)) lt
-
-    pub segment_is : slice_index (segments_of (all_groups qs segments)) n
-        ≡ slice_index (ids_of segments) (n / partitions_of qs)
-    segment_is =
-        sym (segment-at (all_groups qs segments) n named_group n_inside group_is)
-        ∙ sym (map_at id_of segments (n / count) [])
-
-    pub number_is : slice_index (numbers_of (all_groups qs segments)) n ≡ n % partitions_of qs
-    number_is = sym (number-at (all_groups qs segments) n named_group n_inside group_is)
-
   -- ---- faults
 
-  module _ (segments : List (List Entry)) (order : List ℕ) (some : 0 < partitions_of qs) where
-    below_count : (n : ℕ) → n < length (all_groups qs segments) → n < count_of segments qs
-    below_count n lt = subst (λ m. n < m) (all_long segments) lt
-
-    double : (id : ℕ) → IsSecond (all_groups qs segments) order id → IsDouble segments qs order id
-    double id h =
-        let one = slice_index order h.first in
-        let other = slice_index order h.second in
-        let one_below = below_count one h.one_below in
-        let other_below = below_count other h.other_below in
-        record {
-          first = h.first;
-          second = h.second;
-          partition = one % partitions_of qs;
-          apart = h.apart;
-          within = h.within;
-          one = record {
-            below = one_below;
-            has_id = sym (segment_is segments one some one_below) ∙ h.one;
-            has_partition = refl;
-          };
-          other = record {
-            below = other_below;
-            has_id = sym (segment_is segments other some other_below) ∙ h.other;
-            has_partition = sym (number_is segments other some other_below) ∙ sym h.partition
-                ∙ number_is segments one some one_below;
-          };
-        }
-
-    pub order_fault : (f : ReplayFault) → IsOrderFault (all_groups qs segments) order f
-        → IsRebuildFault segments qs order f
-    order_fault (fault.Double id) h = double id h
-    order_fault fault.Stranger h = (h.0, h.1, subst (λ m. m ≤ h.0) (all_long segments) h.2)
-    order_fault (fault.MissingGroup id) h =
-        let low = below_count h.number h.below in
-        record {
-          number = h.number;
-          below = low;
-          segment = sym (segment_is segments h.number some low) ∙ h.segment;
-          missing = h.missing;
-          lowest = h.lowest;
-        }
-    order_fault fault.NoMemory h = tt
-    order_fault fault.Clash h = absurd h
-    order_fault (fault.Stray k) h = absurd h
-
+  module _ (segments : List (List Entry)) (order : List ℕ) (names : NamesEach (count_of segments qs) order)
+      (apart : AreApart (ids_of segments)) where
     pub groups_fault : (f : ReplayFault) → IsGroupsFault qs segments f → IsRebuildFault segments qs order f
     groups_fault (fault.Double id) h = absurd h
     groups_fault fault.Stranger h = absurd h
     groups_fault (fault.MissingGroup id) h = absurd h
-    groups_fault fault.NoMemory h = tt
+    groups_fault fault.NoMemory h = short_named segments qs order names apart
     groups_fault fault.Clash h = absurd h
     groups_fault (fault.Stray k) h = h
 
@@ -264,6 +173,6 @@ module _ (qs : List Part) where
     λ m. (of c).1 (claims_within _ _ (from_log segments parts covered) c m),
   )
 
-  pub names_log : (segments : List (List Entry)) (order : List ℕ) (n : ℕ)
-      → n ≡ length (all_groups qs segments) → NamesEach n order → NamesEach (count_of segments qs) order
-  names_log segments order n is h = subst (λ m. NamesEach m order) (is ∙ all_long segments) h
+  pub names_groups : (segments : List (List Entry)) (order : List ℕ) (n : ℕ)
+      → n ≡ length (all_groups qs segments) → NamesEach (count_of segments qs) order → NamesEach n order
+  names_groups segments order n is h = subst (λ m. NamesEach m order) (sym (is ∙ all_long segments)) h

@@ -1,12 +1,10 @@
--- What calls promised, carried on, and numbers of groups.
-use Rattle.std.proofs.Common.{◌≡◌, ℕ, zero, suc, ◌<◌, List, [], ◌∷◌, length, get_or, ap, subst, sym, arith}
+-- What calls promised, carried on, and numbers in an order.
+use Rattle.std.proofs.Common.{◌≡◌, ℕ, ◌<◌, List, length, subst, sym}
 use Rattle.std.specs.Prelude.{slice_index, Result, Ok, Err, IfOk, IfErr, OnOk}
 use Rattle.std.proofs.lemmas.List.{get_or_default}
 use Rattle.entry.specs.declared.entry.Entry.{Entry}
 use Rattle.entry.specs.Bag.{IsAmong}
 use Rattle.entry.proofs.BagLemmas.{among_at}
-use Rattle.division.specs.Groups.{Grouped, segments_of}
-use Rattle.division.specs.Division.{numbers_of}
 use Rattle.claims.specs.Claims.{Claimed, claims_of}
 use Rattle.rebuilding.specs.Rebuilds.{NamesEach}
 use Rattle.claims.specs.Settled.{AreOf}
@@ -35,20 +33,6 @@ module _ {T E : Type 0} where
 
 pub claims-of : (es : List Entry) (cs : List Claimed) → cs ≡ claims_of es → AreOf es cs
 claims-of es cs is c = (subst (IsAmong c) is, subst (IsAmong c) (sym is))
-
--- ---- numbers of groups
-
-pub segment-at : (gs : List Grouped) (n : ℕ) (g : Grouped) → n < length gs → g ≡ get_or gs n g
-    → g.segment ≡ slice_index (segments_of gs) n
-segment-at [] n g lt is = absurd (omega (arith, lt))
-segment-at (f ∷ gs) zero g lt is = ap (λ (x : Grouped). x.segment) is
-segment-at (f ∷ gs) (suc n) g lt is = segment-at gs n g (omega (arith, lt)) is
-
-pub number-at : (gs : List Grouped) (n : ℕ) (g : Grouped) → n < length gs → g ≡ get_or gs n g
-    → g.partition ≡ slice_index (numbers_of gs) n
-number-at [] n g lt is = absurd (omega (arith, lt))
-number-at (f ∷ gs) zero g lt is = ap (λ (x : Grouped). x.partition) is
-number-at (f ∷ gs) (suc n) g lt is = number-at gs n g (omega (arith, lt)) is
 
 -- ---- numbers in an order
 

@@ -5,3 +5,4 @@ pub mod Ordered
 pub mod Twins
 pub mod Wholes
 pub mod Turned
+pub mod Scans

@@ -1,25 +1,14 @@
 -- Orders: which numbers are marked.
-use Rattle.std.proofs.Common.{◌≡◌, ◌≢◌, ℕ, zero, suc, ◌+◌, ◌<◌, Bool, true, false, List, [], ◌∷◌, map, length, get_or}
+use Rattle.std.proofs.Common.{◌≡◌, ◌≢◌, ℕ, zero, suc, ◌+◌, ◌<◌, Bool, true, false, List, [], ◌∷◌, length, get_or}
 use Rattle.std.proofs.Common.{set}
 use Rattle.std.proofs.Common.{refl, sym, ap, subst, ◌∙◌, arith, below_more, get_or-set_same, get_or-set_other}
 use Rattle.std.specs.Prelude.{slice_index}
-use Rattle.std.proofs.lemmas.List.{length-map, get_or_default}
+use Rattle.std.proofs.lemmas.List.{get_or_default}
 use Rattle.entry.specs.Bag.{IsAmong}
 use Rattle.entry.proofs.BagLemmas.{among_at, among_place}
-use Rattle.division.specs.declared.group.Group.{Group}
-use Rattle.division.specs.Groups.{grouped, segments_of}
-use Rattle.division.specs.Division.{numbers_of}
 use Rattle.claims.proofs.Members.{same_or_not}
 use Rattle.rebuilding.specs.Rebuilds.{NamesEach}
-use Rattle.rebuilding.specs.Turns.{AreMarked, IsTwice, IsOmitted, IsSecond, IsUnnamed}
-
--- ---- numbers of groups in memory
-
-pub segment_at : (gs : List Group) (n : ℕ) (g : Group) → n < length gs → g ≡ get_or gs n g
-    → slice_index (segments_of (map grouped gs)) n ≡ g.segment
-segment_at [] n g lt is = absurd (omega arith)
-segment_at (h ∷ gs) zero g lt is = ap (λ (x : Group). x.segment) (sym is)
-segment_at (h ∷ gs) (suc n) g lt is = segment_at gs n g (omega arith) is
+use Rattle.rebuilding.specs.Turns.{AreMarked, IsTwice, IsOmitted}
 
 -- ---- marks
 
@@ -103,34 +92,4 @@ module _ (order : List ℕ) (named : List Bool) (h : AreMarked order (length ord
         below = lt;
         missing = λ m. (let on : get_or named n false ≡ true = marked_among n m in cc);
         lowest = λ m low. among_marked m (before m low);
-      }
-
--- ---- groups with these numbers
-
-module _ (order : List ℕ) (gs : List Group) (n : ℕ) (g : Group) (at : g ≡ get_or gs n g) where
-  pub second_group : IsTwice (length gs) order n → IsSecond (map grouped gs) order g.segment
-  second_group twice =
-      let same : slice_index order twice.first ≡ slice_index order twice.second = twice.one ∙ sym twice.other in
-      let lt : n < length (map grouped gs) = rw length-map twice.below in
-      let segment = segment_at gs n g twice.below at in
-      record {
-        first = twice.first;
-        second = twice.second;
-        apart = twice.apart;
-        within = twice.within;
-        one_below = subst (λ m. m < length (map grouped gs)) (sym twice.one) lt;
-        other_below = subst (λ m. m < length (map grouped gs)) (sym twice.other) lt;
-        one = ap (slice_index (segments_of (map grouped gs))) twice.one ∙ segment;
-        other = ap (slice_index (segments_of (map grouped gs))) twice.other ∙ segment;
-        partition = ap (slice_index (numbers_of (map grouped gs))) same;
-      }
-
-  pub unnamed_group : IsOmitted (length gs) order n → IsUnnamed (map grouped gs) order g.segment
-  unnamed_group omitted =
-      record {
-        number = n;
-        below = rw length-map omitted.below;
-        segment = segment_at gs n g omitted.below at;
-        missing = omitted.missing;
-        lowest = omitted.lowest;
       }

@@ -1,20 +1,23 @@
 -- Segments with one id.
-use Rattle.std.proofs.Common.{◌≡◌, ◌≢◌, ℕ, ◌+◌, ◌*◌, ◌/◌, ◌<◌, ◌≤◌, List, length, take, refl, sym, ap, subst}
-use Rattle.std.proofs.Common.{◌∙◌, inl, inr, arith}
-use Rattle.std.specs.Prelude.{◌==◌, Bool, true, false, slice_index}
-use Rattle.std.specs.List.{list_any}
-use Rattle.std.proofs.lemmas.List.{length-map, length-take-le, get_or-take, get_or_default}
+use Rattle.std.proofs.Common.{◌≡◌, ◌≢◌, ℕ, ◌+◌, ◌*◌, ◌/◌, ◌%◌, ◌<◌, ◌≤◌, List, [], length, get_or, Some, reverse}
+use Rattle.std.proofs.Common.{refl, sym, ap, subst, ◌∙◌, inl, inr, arith}
+use Rattle.std.specs.Prelude.{slice_index}
+use Rattle.std.specs.List.{range_with_len}
+use Rattle.std.proofs.lemmas.List.{length-map, get_or_default}
+use Rattle.std.proofs.lemmas.List.Sorted.{IsPermutation-reverse, IsPermutation-sym}
+use Rattle.std.proofs.lemmas.Nat.{div_below}
 use Rattle.std.proofs.Math.Nat.{mul-div_cancel, mul-mod_left}
 use Rattle.entry.specs.declared.entry.Entry.{Entry}
-use Rattle.entry.proofs.BagLemmas.{among_at, among_place}
+use Rattle.entry.specs.declared.entry.Header.{Header}
+use Rattle.entry.specs.Bag.{IsAmong}
+use Rattle.entry.specs.Text.{header_of}
+use Rattle.entry.proofs.BagLemmas.{among_place, among_permutation}
 use Rattle.tablet_will.specs.declared.part.Part.{Part}
 use Rattle.tablet_will.specs.Parts.{partitions_of}
-use Rattle.claims.specs.declared.fault.ReplayFault.{ReplayFault}
-use Rattle.claims.specs.declared.fault.ReplayFault.TheVariants as fault
-use Rattle.rebuilding.specs.Rebuilds.{id_of, ids_of, count_of, IsDouble, IsGroup, IsRebuildFault, NamesEach}
-use Rattle.rebuilding.specs.Turns.{AreApart, IsIdsFault, IsTwin}
-use Rattle.claims.proofs.Members.{same_or_not}
-use Rattle.claims.proofs.Members.{id_no, id_yes}
+use Rattle.rebuilding.specs.Rebuilds.{header_id, id_of, ids_of, count_of, AreApart, IsDouble, IsGroup, IsLeftOut}
+use Rattle.rebuilding.specs.Rebuilds.{IsShortOfMemory, NamesEach}
+use Rattle.rebuilding.specs.Turns.{AreTwins, IsOmitted, IsTwice, NamesAll}
+use Rattle.claims.proofs.Members.{same_or_not, among_range, range_among, map_at}
 use Rattle.rebuilding.proofs.Wholes.{apart_ways, row_inside}
 
 -- ---- looking through the ids
@@ -32,35 +35,6 @@ looked_first ids greatest = record {
 
 pub looked_all : (ids : List ℕ) (at greatest : ℕ) → length ids ≤ at → IsLooking ids at greatest → AreApart ids
 looked_all ids at greatest end h i j low below = h.once i j low (omega (arith, end, below))
-
--- the id at this place is one of those before it
-abbrev is_before : List ℕ → ℕ → Bool
-is_before ids at = list_any (λ (id : ℕ). id == slice_index ids at) (take at ids)
-
-pub not_before : (ids : List ℕ) (at : ℕ) → is_before ids at ≡ false → at < length ids → (i : ℕ) → i < at
-    → slice_index ids i ≢ slice_index ids at
-not_before ids at off lt i low same =
-    id_no (take at ids) (slice_index ids at) off
-    (among_at (take at ids) i (slice_index ids at) (let long = length-take-le at ids (omega (arith, lt)) in
-    omega (arith, long, low))
-    (sym same ∙ get_or_default ids i 0 (slice_index ids at) (omega (arith, lt, low))
-    ∙ sym (get_or-take at ids i (slice_index ids at) low)))
-
-pub twin_at : (ids : List ℕ) (at : ℕ) → is_before ids at ≡ true → at < length ids → IsTwin ids (slice_index ids at)
-twin_at ids at on lt =
-    let place = among_place (slice_index ids at) (take at ids) (id_yes (take at ids) (slice_index ids at) on) in
-    let long = length-take-le at ids (omega (arith, lt)) in
-    let inside = place.1 in
-    let low : place.0 < at = omega (arith, inside, long) in
-    record {
-      first = place.0;
-      second = at;
-      apart = low;
-      within = lt;
-      one = get_or_default ids place.0 0 (slice_index ids at) (omega (arith, low, lt))
-          ∙ sym (get_or-take at ids place.0 (slice_index ids at) low) ∙ place.2;
-      other = refl;
-    }
 
 module _ (ids : List ℕ) (at greatest : ℕ) (h : IsLooking ids at greatest) where
   -- an id that differs from those before it
@@ -93,67 +67,159 @@ module _ (ids : List ℕ) (at greatest : ℕ) (h : IsLooking ids at greatest) wh
 
 -- ---- twins
 
-module _ (segments : List (List Entry)) (qs : List Part) (order : List ℕ) (some : 0 < partitions_of qs)
-    (names : NamesEach (count_of segments qs) order) where
-  -- the first group of a segment is named
-  named : (i : ℕ) → i < length segments
-      → (k : ℕ) × (k < length order) × (slice_index order k ≡ i * partitions_of qs)
-  named i lt =
-      let at = among_place (i * partitions_of qs) order
-      (names.each (i * partitions_of qs) (row_inside i (length segments) (partitions_of qs) some lt)) in
-      (at.0, at.1, get_or_default order at.0 0 (i * partitions_of qs) at.1 ∙ at.2)
+pub twins_here : (ids : List ℕ) (first second id : ℕ) → first < second → second < length ids
+    → slice_index ids first ≡ id → slice_index ids second ≡ id → AreTwins ids first second
+twins_here ids first second id apart within one other =
+    record { apart = apart; within = within; same = one ∙ sym other }
 
-  group_of : (i id n : ℕ) → i < length segments → slice_index (ids_of segments) i ≡ id → n ≡ i * partitions_of qs
-      → IsGroup segments qs n id 0
-  group_of i id n lt has is = subst (λ m. IsGroup segments qs m id 0) (sym is) (record {
-    below = row_inside i (length segments) (partitions_of qs) some lt;
-    has_id = ap (λ m. slice_index (ids_of segments) m) (mul-div_cancel i some) ∙ has;
-    has_partition = mul-mod_left i (partitions_of qs);
-  })
+-- the id of the segment at this place is that in its header
+pub id_here : (segments : List (List Entry)) (at : ℕ) (es : List Entry) (h : Header) → at < length segments
+    → es ≡ get_or segments at es → header_of es ≡ Some h → h.segment ≡ slice_index (ids_of segments) at
+id_here segments at es h lt is has =
+    sym (map_at id_of segments at [] ∙ ap id_of (get_or_default segments at [] es lt ∙ sym is) ∙ ap header_id has)
 
-  twin_double : (id : ℕ) → IsTwin (ids_of segments) id → IsDouble segments qs order id
-  twin_double id h =
-      let p = partitions_of qs in
-      let long : length (ids_of segments) ≡ length segments = length-map segments id_of in
-      let within = h.within in
-      let apart = h.apart in
-      let low : h.first < length segments = omega (arith, long, within, apart) in
-      let high : h.second < length segments = omega (arith, long, within) in
-      let one = named h.first low in
-      let other = named h.second high in
-      let differ : one.0 ≢ other.0 =
-      λ e. let same : h.first * p ≡ h.second * p =
-      sym one.2 ∙ ap (λ k. slice_index order k) e ∙ other.2 in
-      let numbers : h.first ≡ h.second =
-      sym (mul-div_cancel h.first some) ∙ ap (λ n. n / p) same ∙ mul-div_cancel h.second some in
-      omega (arith, numbers, apart) in
-      let a = group_of h.first id (slice_index order one.0) low h.one one.2 in
-      let b = group_of h.second id (slice_index order other.0) high h.other other.2 in
-      elim (apart_ways one.0 other.0 differ) [
-        | inl before ↦ record {
-          first = one.0;
-          second = other.0;
-          partition = 0;
-          apart = before;
-          within = other.1;
-          one = a;
-          other = b;
-        }
-        | inr after ↦ record {
-          first = other.0;
-          second = one.0;
-          partition = 0;
-          apart = after;
-          within = one.1;
-          one = b;
-          other = a;
-        }
-      ]
+module _ (segments : List (List Entry)) (qs : List Part) (order : List ℕ) where
+  pub twice_double : (n : ℕ) → IsTwice (count_of segments qs) order n
+      → IsDouble segments qs order (slice_index (ids_of segments) (n / partitions_of qs))
+  twice_double n h =
+      let id = slice_index (ids_of segments) (n / partitions_of qs) in
+      let part = n % partitions_of qs in
+      let here : IsGroup segments qs n id part = record { below = h.below; has_id = refl; has_partition = refl } in
+      record {
+        first = h.first;
+        second = h.second;
+        partition = part;
+        apart = h.apart;
+        within = h.within;
+        one = subst (λ m. IsGroup segments qs m id part) (sym h.one) here;
+        other = subst (λ m. IsGroup segments qs m id part) (sym h.other) here;
+      }
 
-  pub ids_fault : (f : ReplayFault) → IsIdsFault (ids_of segments) f → IsRebuildFault segments qs order f
-  ids_fault (fault.Double id) h = twin_double id h
-  ids_fault fault.Stranger h = absurd h
-  ids_fault (fault.MissingGroup id) h = absurd h
-  ids_fault fault.NoMemory h = absurd h
-  ids_fault fault.Clash h = absurd h
-  ids_fault (fault.Stray k) h = absurd h
+  pub omitted_left : (n : ℕ) → IsOmitted (count_of segments qs) order n
+      → IsLeftOut segments qs order (slice_index (ids_of segments) (n / partitions_of qs))
+  omitted_left n h =
+      record { number = n; below = h.below; segment = refl; missing = h.missing; lowest = h.lowest }
+
+  -- the group with this number is missing
+  pub segment_low : (n : ℕ) → 0 < partitions_of qs → n < count_of segments qs
+      → n / partitions_of qs < length segments
+  segment_low n some lt = div_below n (partitions_of qs) (length segments) some lt
+
+  module _ (some : 0 < partitions_of qs) where
+    -- the first group of a segment is named
+    named : (i : ℕ) → IsAmong (i * partitions_of qs) order
+        → (k : ℕ) × (k < length order) × (slice_index order k ≡ i * partitions_of qs)
+    named i among =
+        let at = among_place (i * partitions_of qs) order among in
+        (at.0, at.1, get_or_default order at.0 0 (i * partitions_of qs) at.1 ∙ at.2)
+
+    group_of : (i id n : ℕ) → i < length segments → slice_index (ids_of segments) i ≡ id
+        → n ≡ i * partitions_of qs → IsGroup segments qs n id 0
+    group_of i id n lt has is = subst (λ m. IsGroup segments qs m id 0) (sym is) (record {
+      below = row_inside i (length segments) (partitions_of qs) some lt;
+      has_id = ap (λ m. slice_index (ids_of segments) m) (mul-div_cancel i some) ∙ has;
+      has_partition = mul-mod_left i (partitions_of qs);
+    })
+
+    module _ (first second : ℕ) (h : AreTwins (ids_of segments) first second) where
+      abbrev low : Type 0
+      low = (first < length segments) × (second < length segments)
+
+      pub twins_low : low
+      twins_low =
+          let long : length (ids_of segments) ≡ length segments = length-map segments id_of in
+          let within = h.within in
+          let apart = h.apart in
+          (omega (arith, long, within, apart), omega (arith, long, within))
+
+      pub twin_double : IsAmong (first * partitions_of qs) order → IsAmong (second * partitions_of qs) order
+          → IsDouble segments qs order (slice_index (ids_of segments) first)
+      twin_double has_first has_second =
+          let p = partitions_of qs in
+          let id = slice_index (ids_of segments) first in
+          let apart = h.apart in
+          let one = named first has_first in
+          let other = named second has_second in
+          let differ : one.0 ≢ other.0 =
+          λ e. let same : first * p ≡ second * p =
+          sym one.2 ∙ ap (λ k. slice_index order k) e ∙ other.2 in
+          let numbers : first ≡ second =
+          sym (mul-div_cancel first some) ∙ ap (λ n. n / p) same ∙ mul-div_cancel second some in
+          omega (arith, numbers, apart) in
+          let a = group_of first id (slice_index order one.0) twins_low.0 refl one.2 in
+          let b = group_of second id (slice_index order other.0) twins_low.1 (sym h.same) other.2 in
+          elim (apart_ways one.0 other.0 differ) [
+            | inl before ↦ record {
+              first = one.0;
+              second = other.0;
+              partition = 0;
+              apart = before;
+              within = other.1;
+              one = a;
+              other = b;
+            }
+            | inr after ↦ record {
+              first = other.0;
+              second = one.0;
+              partition = 0;
+              apart = after;
+              within = one.1;
+              one = b;
+              other = a;
+            }
+          ]
+
+      pub all_double : NamesAll (count_of segments qs) order
+          → IsDouble segments qs order (slice_index (ids_of segments) first)
+      all_double names = twin_double
+          (names.each (first * partitions_of qs) (row_inside first (length segments) (partitions_of qs) some
+          twins_low.0))
+          (names.each (second * partitions_of qs) (row_inside second (length segments) (partitions_of qs) some
+          twins_low.1))
+
+  -- ---- want of memory
+
+  pub short_all : NamesAll (count_of segments qs) order → AreApart (ids_of segments)
+      → IsShortOfMemory segments qs order
+  short_all names apart = record { below = names.below; apart = λ each. apart }
+
+  pub short_named : NamesEach (count_of segments qs) order → AreApart (ids_of segments)
+      → IsShortOfMemory segments qs order
+  short_named names apart = record { below = names.below; apart = λ each. apart }
+
+  pub short_apart : ((n : ℕ) → IsAmong n order → n < count_of segments qs) → AreApart (ids_of segments)
+      → IsShortOfMemory segments qs order
+  short_apart below apart = record { below = below; apart = λ each. apart }
+
+  -- the order leaves out the first group of a segment
+  pub short_without : (at : ℕ) → 0 < partitions_of qs → at < length segments
+      → ((n : ℕ) → IsAmong n order → n < count_of segments qs) → ¬ IsAmong (at * partitions_of qs) order
+      → IsShortOfMemory segments qs order
+  short_without at some lt below missing = record {
+    below = below;
+    apart = λ names. absurd (missing (names.each (at * partitions_of qs)
+        (row_inside at (length segments) (partitions_of qs) some lt)));
+  }
+
+pub all_of : (count : ℕ) (order : List ℕ) → NamesEach count order → NamesAll count order
+all_of count order names = record { below = names.below; each = names.each }
+
+-- ---- orders that name each group
+
+pub names_forward : (count : ℕ) → NamesAll count (range_with_len 0 count)
+names_forward count = record {
+  below = λ n m. let low = among_range 0 count n m in omega (arith, low);
+  each = λ n lt. range_among 0 count n n lt (omega arith);
+}
+
+pub names_reverse : (count : ℕ) → NamesAll count (reverse (range_with_len 0 count))
+names_reverse count =
+    let numbers = range_with_len 0 count in
+    let turned = IsPermutation-reverse numbers in record {
+      below = λ n m.
+          let low = among_range 0 count n
+          (among_permutation n (reverse numbers) numbers (IsPermutation-sym _ (reverse numbers) turned) m) in
+          omega (arith, low);
+      each = λ n lt. among_permutation n numbers (reverse numbers) turned
+          (range_among 0 count n n lt (omega arith));
+    }

@@ -7,7 +7,7 @@ use Rattle.std.proofs.lemmas.Bool.Decides.{Decides-eqb}
 use Rattle.std.proofs.lemmas.List.{length-map}
 use Rattle.std.proofs.lemmas.List.Sorted.{IsPermutation-sym}
 use Rattle.std.proofs.lemmas.Map.Keys.{IsDistinct-IsPermutation, apart_from_distinct}
-use Rattle.std.proofs.lemmas.Nat.{div_below, div-add-mod'}
+use Rattle.std.proofs.lemmas.Nat.{div_below, div-add-mod', mod_below}
 use Rattle.entry.specs.declared.entry.Entry.{Entry}
 use Rattle.entry.specs.Bag.{IsAmong}
 use Rattle.entry.proofs.BagLemmas.{among_permutation}
@@ -18,6 +18,7 @@ use Rattle.claims.specs.declared.fault.ReplayFault.{ReplayFault}
 use Rattle.claims.specs.declared.fault.ReplayFault.TheVariants as fault
 use Rattle.claims.specs.Rebuilt.{IsRefusal}
 use Rattle.rebuilding.specs.Rebuilds.{id_of, ids_of, count_of, IsDouble, IsRebuildFault, CanBeRebuilt}
+use Rattle.rebuilding.specs.Rebuilds.{IsShortOfMemory}
 use Rattle.claims.proofs.Members.{same_or_not}
 use Rattle.claims.proofs.Members.{among_range, range_among}
 
@@ -85,6 +86,26 @@ row_inside zero (suc m) (suc p) some lt = omega arith
 row_inside (suc i) (suc m) (suc p) some lt =
     let less = row_inside i m (suc p) some (omega (arith, lt)) in omega (arith, less)
 
+-- rows that are no more than others have no more
+pub row_most : (i m p : ℕ) → i ≤ m → i * p ≤ m * p
+row_most zero m p le = omega arith
+row_most (suc i) zero p le = absurd (omega (arith, le))
+row_most (suc i) (suc m) p le = let less = row_most i m p (omega (arith, le)) in omega (arith, less)
+
+-- a number whose row is one of these is in them
+pub row_below : (n m p : ℕ) → 0 < p → n / p < m → n < m * p
+row_below n m p some lt =
+    let rest = mod_below n p some in
+    let whole = div-add-mod' n p in
+    let next : (n / p + 1) * p ≡ n / p * p + p = omega arith in
+    let most = row_most (n / p + 1) m p (omega (arith, lt)) in omega (arith, rest, whole, next, most)
+
+-- a number whose row is none of these is behind them
+pub row_behind : (n m p : ℕ) → m ≤ n / p → m * p ≤ n
+row_behind n m p le =
+    let whole = div-add-mod' n p in
+    let most = row_most m (n / p) p le in omega (arith, whole, most)
+
 positive : (n m p : ℕ) → n < m * p → 0 < p
 positive n m zero lt = absurd (omega (arith, lt))
 positive n m (suc p) lt = omega arith
@@ -124,11 +145,11 @@ module _ (segments : List (List Entry)) (qs : List Part) (order : List ℕ) (can
       let off : is_some (partition_of_key qs k) ≡ false = ap (λ (o : Option ℕ). is_some o) h.2.1 in
       absurd (cc)
 
-pub refusal_fault : (segments : List (List Entry)) (qs : List Part) (order : List ℕ) (f : ReplayFault)
-    → IsRefusal segments f → IsRebuildFault segments qs order f
-refusal_fault segments qs order (fault.Double id) h = absurd h
-refusal_fault segments qs order fault.Stranger h = absurd h
-refusal_fault segments qs order (fault.MissingGroup id) h = absurd h
-refusal_fault segments qs order fault.NoMemory h = tt
-refusal_fault segments qs order fault.Clash h = h
-refusal_fault segments qs order (fault.Stray k) h = absurd h
+pub refusal_fault : (segments : List (List Entry)) (qs : List Part) (order : List ℕ)
+    → IsShortOfMemory segments qs order → (f : ReplayFault) → IsRefusal segments f → IsRebuildFault segments qs order f
+refusal_fault segments qs order short (fault.Double id) h = absurd h
+refusal_fault segments qs order short fault.Stranger h = absurd h
+refusal_fault segments qs order short (fault.MissingGroup id) h = absurd h
+refusal_fault segments qs order short fault.NoMemory h = short
+refusal_fault segments qs order short fault.Clash h = h
+refusal_fault segments qs order short (fault.Stray k) h = absurd h

@@ -1,6 +1,6 @@
 -- A log rebuilt from its groups, which are taken in some order. Groups are counted from 0: segment by segment, and of
 -- one segment by partition.
-use Rattle.std.specs.Prelude.{◌≡◌, ◌≢◌, ℕ, ◌*◌, ◌/◌, ◌%◌, ◌<◌, ◌≤◌, ◌==◌, ⊤, List, length, map, slice_index}
+use Rattle.std.specs.Prelude.{◌≡◌, ◌≢◌, ℕ, ◌*◌, ◌/◌, ◌%◌, ◌<◌, ◌≤◌, ◌==◌, List, length, map, slice_index}
 use Rattle.std.specs.Prelude.{Option, Some, None}
 use Rattle.std.specs.List.{IsDistinct, range_with_len}
 use Rattle.std.specs.List.Sorted.{IsPermutation}
@@ -28,6 +28,10 @@ id_of es = header_id (header_of es)
 
 abbrev pub ids_of : List (List Entry) → List ℕ
 ids_of segments = map id_of segments
+
+-- no two segments have one id
+abbrev pub AreApart : List ℕ → Type 0
+AreApart ids = (i j : ℕ) → i < j → j < length ids → slice_index ids i ≢ slice_index ids j
 
 -- how many groups there are
 abbrev pub count_of : List (List Entry) → List Part → ℕ
@@ -71,12 +75,17 @@ pub record IsLeftOut (segments : List (List Entry)) (qs : List Part) (order : Li
   pub missing : ¬ IsAmong number order
   pub lowest : (n : ℕ) → n < number → IsAmong n order
 
+-- Memory ran out. Each number of the order is that of a group, and if the order names each group once, the ids differ.
+pub record IsShortOfMemory (segments : List (List Entry)) (qs : List Part) (order : List ℕ) : Type 0 where
+  pub below : (n : ℕ) → IsAmong n order → n < count_of segments qs
+  pub apart : NamesEach (count_of segments qs) order → AreApart (ids_of segments)
+
 -- why the segments are not rebuilt by this will in this order
 abbrev pub IsRebuildFault : List (List Entry) → List Part → List ℕ → ReplayFault → Type 0
 IsRebuildFault segments qs order (fault.Double id) = IsDouble segments qs order id
 IsRebuildFault segments qs order fault.Stranger = (n : ℕ) × IsAmong n order × (count_of segments qs ≤ n)
 IsRebuildFault segments qs order (fault.MissingGroup id) = IsLeftOut segments qs order id
-IsRebuildFault segments qs order fault.NoMemory = ⊤
+IsRebuildFault segments qs order fault.NoMemory = IsShortOfMemory segments qs order
 IsRebuildFault segments qs order fault.Clash = ¬ IsClean (among (segments_bag segments))
 IsRebuildFault segments qs order (fault.Stray k) =
     (e : Entry) × IsAmong e (segments_bag segments) × IsStray qs e k

@@ -8,8 +8,8 @@ use Rattle.tablet_will.specs.declared.part.Part.{Part}
 use Rattle.entry.specs.View.{shown_key}
 use Rattle.division.specs.declared.fault.DivideFault.{DivideFault}
 use Rattle.division.specs.declared.fault.DivideFault.TheVariants as divide_fault
-use Rattle.division.specs.Groups.{Grouped, segments_of}
-use Rattle.division.specs.Division.{groups_of, numbers_of, AreCovered, IsStray}
+use Rattle.division.specs.Groups.{Grouped}
+use Rattle.division.specs.Division.{groups_of, AreCovered, IsStray}
 use Rattle.claims.specs.Bags.{segments_bag}
 use Rattle.rebuilding.specs.Rebuilds.{id_of}
 use Rattle.rebuilding.specs.declared.naming.Misnamed.{Misnamed}
@@ -50,6 +50,11 @@ IsPassedOn _ _ = ⊥
 
 -- ---- orders
 
+-- the order names each number below the count, and no other
+pub record NamesAll (count : ℕ) (order : List ℕ) : Type 0 where
+  pub below : (n : ℕ) → IsAmong n order → n < count
+  pub each : (n : ℕ) → n < count → IsAmong n order
+
 -- two places of the order have this number
 pub record IsTwice (count : ℕ) (order : List ℕ) (n : ℕ) : Type 0 where
   pub first : ℕ
@@ -66,41 +71,12 @@ pub record IsOmitted (count : ℕ) (order : List ℕ) (n : ℕ) : Type 0 where
   pub missing : ¬ IsAmong n order
   pub lowest : (m : ℕ) → m < n → IsAmong m order
 
--- why the order does not name each number below the count, once
+-- why the order does not name each number below the count, once; if memory ran out, each of its numbers is below
 abbrev pub IsMisnamed : ℕ → List ℕ → Misnamed → Type 0
-IsMisnamed count order misnamed.NoMemory = ⊤
+IsMisnamed count order misnamed.NoMemory = (n : ℕ) → IsAmong n order → n < count
 IsMisnamed count order misnamed.Stranger = (n : ℕ) × IsAmong n order × (count ≤ n)
 IsMisnamed count order (misnamed.Twice n) = IsTwice count order n
 IsMisnamed count order (misnamed.LeftOut n) = IsOmitted count order n
-
--- two places of the order name groups of this segment and of one partition
-pub record IsSecond (groups : List Grouped) (order : List ℕ) (id : ℕ) : Type 0 where
-  pub first : ℕ
-  pub second : ℕ
-  pub apart : first < second
-  pub within : second < length order
-  pub one_below : slice_index order first < length groups
-  pub other_below : slice_index order second < length groups
-  pub one : slice_index (segments_of groups) (slice_index order first) ≡ id
-  pub other : slice_index (segments_of groups) (slice_index order second) ≡ id
-  pub partition : slice_index (numbers_of groups) (slice_index order first)
-      ≡ slice_index (numbers_of groups) (slice_index order second)
-
--- a group of this segment is not named, and each group before it is
-pub record IsUnnamed (groups : List Grouped) (order : List ℕ) (id : ℕ) : Type 0 where
-  pub number : ℕ
-  pub below : number < length groups
-  pub segment : slice_index (segments_of groups) number ≡ id
-  pub missing : ¬ IsAmong number order
-  pub lowest : (n : ℕ) → n < number → IsAmong n order
-
--- why the order is refused
-abbrev pub IsOrderFault : List Grouped → List ℕ → ReplayFault → Type 0
-IsOrderFault groups order (fault.Double id) = IsSecond groups order id
-IsOrderFault groups order fault.Stranger = (n : ℕ) × IsAmong n order × (length groups ≤ n)
-IsOrderFault groups order (fault.MissingGroup id) = IsUnnamed groups order id
-IsOrderFault groups order fault.NoMemory = ⊤
-IsOrderFault groups order _ = ⊥
 
 -- the numbers at the first places of the order are marked, no others are, and they differ
 pub record AreMarked (order : List ℕ) (places : ℕ) (named : List Bool) : Type 0 where
@@ -110,20 +86,8 @@ pub record AreMarked (order : List ℕ) (places : ℕ) (named : List Bool) : Typ
 
 -- ---- ids
 
--- no two segments have one id
-abbrev pub AreApart : List ℕ → Type 0
-AreApart ids = (i j : ℕ) → i < j → j < length ids → slice_index ids i ≢ slice_index ids j
-
--- two of the segments have this id
-pub record IsTwin (ids : List ℕ) (id : ℕ) : Type 0 where
-  pub first : ℕ
-  pub second : ℕ
+-- these two segments have one id
+pub record AreTwins (ids : List ℕ) (first second : ℕ) : Type 0 where
   pub apart : first < second
   pub within : second < length ids
-  pub one : slice_index ids first ≡ id
-  pub other : slice_index ids second ≡ id
-
--- why the ids are refused
-abbrev pub IsIdsFault : List ℕ → ReplayFault → Type 0
-IsIdsFault ids (fault.Double id) = IsTwin ids id
-IsIdsFault ids _ = ⊥
+  pub same : slice_index ids first ≡ slice_index ids second

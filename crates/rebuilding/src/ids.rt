@@ -1,48 +1,47 @@
 //! The ids of a log's segments.
 
-ghost use Rattle.std.specs.Prelude.{◌≡◌, ◌==◌, ◌<◌, ℕ, length, slice_index, take, IfOk, IfErr, OnOk};
-ghost use Rattle.std.specs.List.{list_any};
-ghost use Rattle.rebuilding.specs.Rebuilds.{ids_of};
-ghost use Rattle.rebuilding.specs.Turns.{AreApart, IsIdsFault};
+ghost use Rattle.std.specs.Prelude.{◌≡◌, ◌≢◌, ◌<◌, ◌≤◌, ℕ, length, slice_index, IfNone, IfSome};
+ghost use Rattle.rebuilding.specs.Rebuilds.{AreApart, ids_of};
+ghost use Rattle.rebuilding.specs.Turns.{AreTwins};
 
-use claims::ReplayFault;
-use entry::NoMemory;
 use segment::SegmentRef;
-use std::alloc::Global;
 
-/// The ids of the segments.
-pub fn ids_in(alloc: Global, segments: &[SegmentRef<'_>]) -> Result<Vec<u64>, NoMemory>
-    ensures { IfOk result (λ ids. ids.items ≡ ids_of segments.now) }
+/// The id of the segment at this place.
+pub fn id_at(segments: &[SegmentRef<'_>], at: usize) -> u64
+    requires { at < length segments.now }
+    ensures { result ≡ slice_index (ids_of segments.now) at }
 {
-    let mut ids = Vec::with_capacity(alloc, segments.len())?;
-    for segment in segments {
-        ids.push(segment.header().segment)?;
-    }
-    Ok(ids)
+    segments[at].header().segment
 }
 
-/// Whether the id at this place is one of those before it.
-fn is_repeated(ids: &[u64], at: usize) -> bool
-    requires { at < length ids.now }
-    ensures { result ≡ list_any (λ (id : ℕ). id == slice_index ids.now at) (take at ids.now) }
+/// The first of so many segments that has this id.
+fn place_of(segments: &[SegmentRef<'_>], count: usize, id: u64) -> Option<usize>
+    requires { count ≤ length segments.now }
+    ensures some { IfSome result (λ place. (place < count) × (slice_index (ids_of segments.now) place ≡ id)) }
+    ensures none { IfNone result ((i : ℕ) → i < count → slice_index (ids_of segments.now) i ≢ id) }
 {
-    let (before, _) = ids.split_at(at);
-    before.contains(&ids[at])
-}
-
-/// Tests that no two segments have one id. It looks back only from an id that is not the greatest so far.
-pub fn check_ids(ids: &[u64]) -> Result<(), ReplayFault>
-    ensures ok { OnOk result (AreApart ids.now) }
-    ensures fault { IfErr result (IsIdsFault ids.now) }
-{
-    let mut greatest = 0;
-    for at in 0..ids.len() {
-        let id = ids[at];
-        if id > greatest {
-            greatest = id;
-        } else if is_repeated(ids, at) {
-            return Err(ReplayFault::Double(id));
+    for place in 0..count {
+        if id_at(segments, place) == id {
+            return Some(place);
         }
     }
-    Ok(())
+    None
+}
+
+/// The places of two segments that have one id. It takes no memory, and looks back only from an id that is not the
+/// greatest so far.
+pub fn twins(segments: &[SegmentRef<'_>]) -> Option<(usize, usize)>
+    ensures some { IfSome result (λ places. AreTwins (ids_of segments.now) places.0 places.1) }
+    ensures none { IfNone result (AreApart (ids_of segments.now)) }
+{
+    let mut greatest = 0;
+    for at in 0..segments.len() {
+        let id = id_at(segments, at);
+        if id > greatest {
+            greatest = id;
+        } else if let Some(first) = place_of(segments, at, id) {
+            return Some((first, at));
+        }
+    }
+    None
 }

@@ -5,14 +5,15 @@
 //! follows from the segments alone.
 #![tactic(auto)]
 
+mod checking;
 mod ids;
 mod naming;
 mod order;
 mod plain;
 mod rebuilding;
+mod want;
 
-pub use ids::{check_ids, ids_in};
-pub use naming::{Misnamed, check_naming};
+pub use checking::check_order;
 pub use order::{GroupOrder, numbers, numbers_for};
 pub use plain::rebuild_plain;
 pub use rebuilding::rebuild;

@@ -3,13 +3,13 @@
 ghost use Rattle.std.specs.Prelude.{◌≡◌, length, IfOk, IfErr, OnOk};
 ghost use Rattle.rebuilding.specs.Rebuilds.{NamesEach};
 ghost use Rattle.rebuilding.specs.Turns.{AreMarked, IsMisnamed};
-ghost use Rattle.rebuilding.specs.declared.naming.Misnamed.TheVariants as misnamed;
 
-use std::alloc::{AllocError, Global};
+use std::alloc::Global;
 
 /// Why an order does not name each number below a count, once.
 #[derive(Clone, Copy, PartialEq, Eq)]
 pub enum Misnamed {
+    /// Memory ran out. Each number of the order is below the count.
     NoMemory,
     /// A number of the order is not below the count.
     Stranger,
@@ -19,12 +19,16 @@ pub enum Misnamed {
     LeftOut(usize),
 }
 
-impl From<AllocError> for Misnamed {
-    ghost from_gives = { λ _ e. e ≡ misnamed.NoMemory };
-
-    fn from(_error: AllocError) -> Misnamed {
-        Misnamed::NoMemory
+/// What shows of the order without memory.
+fn unmarked(count: usize, order: &[usize]) -> Misnamed
+    ensures { IsMisnamed count order.now result }
+{
+    for n in order {
+        if *n >= count {
+            return Misnamed::Stranger;
+        }
     }
+    Misnamed::NoMemory
 }
 
 /// A mark for each number below the count that the order names. No number is named twice.
@@ -33,7 +37,9 @@ fn marks(alloc: Global, count: usize, order: &[usize]) -> Result<Vec<bool>, Misn
     ensures ok { IfOk result (λ named. AreMarked order.now (length order.now) named.items) }
     ensures fault { IfErr result (IsMisnamed count order.now) }
 {
-    let mut named = vec![in alloc; false; count]?;
+    let Ok(mut named) = vec![in alloc; false; count] else {
+        return Err(unmarked(count, order));
+    };
     for n in order {
         if *n >= count {
             return Err(Misnamed::Stranger);

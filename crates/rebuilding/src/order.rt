@@ -1,11 +1,15 @@
 //! The order in which the groups of a log are replayed.
 
-ghost use Rattle.std.specs.Prelude.{◌≡◌, IfOk};
+ghost use Rattle.std.specs.Prelude.{◌≡◌, IfErr, IfOk};
 ghost use Rattle.std.specs.List.{range_with_len};
 ghost use Rattle.rebuilding.specs.Orders.{order_for, order_of};
+ghost use Rattle.rebuilding.specs.Rebuilds.{CanBeRebuilt, IsRebuildFault, count_of};
 
+use crate::want::{want_of_memory, want_of_whole};
+use claims::ReplayFault;
 use entry::{NoMemory, Row};
 use recovery_plan::Plan;
+use segment::SegmentRef;
 use std::alloc::Global;
 use tablet_will::Will;
 
@@ -43,19 +47,38 @@ pub fn numbers(alloc: Global, order: &GroupOrder, count: usize) -> Result<Vec<us
     }
 }
 
+/// Why an order is not written out: two segments have one id, or memory ran out. With Given it is what shows of the
+/// numbers without memory.
+fn unwritten(segments: &[SegmentRef<'_>], will: &Will, order: &GroupOrder) -> ReplayFault
+    ensures { IsRebuildFault segments.now will.now (order_of order.now (count_of segments.now will.now)) result }
+{
+    match order {
+        GroupOrder::Given(given) => want_of_memory(segments, will, given.as_slice()),
+        GroupOrder::Forward => want_of_whole(segments, will),
+        GroupOrder::Reverse => want_of_whole(segments, will),
+    }
+}
+
 /// The numbers of the groups of a plan that is divided by the will, in this order. More groups than a `usize` counts
-/// are NoMemory.
+/// are taken as want of memory. A fault of the order or of the ids that shows without memory goes first.
 pub fn numbers_for(
     alloc: Global,
     plan: &Plan<'_>,
     will: &Will,
     order: &GroupOrder,
-) -> Result<Vec<usize>, NoMemory>
-    ensures { IfOk result (λ numbers. numbers.items ≡ order_for plan.now will.now order.now) }
+) -> Result<Vec<usize>, ReplayFault>
+    ensures ok { IfOk result (λ numbers. numbers.items ≡ order_for plan.now will.now order.now) }
+    ensures fault { IfErr result (IsRebuildFault plan.now.segments will.now (order_for plan.now will.now order.now)) }
+    ensures whole { IfErr result (λ fault.
+        CanBeRebuilt plan.now.segments will.now (order_for plan.now will.now order.now) →
+        fault ≡ ReplayFault.NoMemory) }
 {
-    let segments = plan.segments.as_slice().len();
-    let Some(count) = segments.checked_mul(will.partitions() as usize) else {
-        return Err(NoMemory);
+    let segments = plan.segments.as_slice();
+    let Some(count) = segments.len().checked_mul(will.partitions() as usize) else {
+        return Err(unwritten(segments, will, order));
     };
-    numbers(alloc, order, count)
+    match numbers(alloc, order, count) {
+        Ok(numbers) => Ok(numbers),
+        Err(_) => Err(unwritten(segments, will, order)),
+    }
 }

@@ -6,14 +6,13 @@ ghost use Rattle.division.specs.Division.{AreCovered};
 ghost use Rattle.division.specs.Groups.{grouped, bag_of};
 ghost use Rattle.claims.specs.Bags.{segments_bag};
 ghost use Rattle.claims.specs.Claims.{claimed, claims_of};
-ghost use Rattle.rebuilding.specs.Rebuilds.{IsRebuildFault, CanBeRebuilt, NamesEach, count_of};
+ghost use Rattle.rebuilding.specs.Rebuilds.{AreApart, IsRebuildFault, CanBeRebuilt, NamesEach, count_of, ids_of};
 ghost use Rattle.claims.specs.Rebuilt.{IsRebuilt};
 ghost use Rattle.rebuilding.specs.Turns.{all_groups, entries_in_turn, replayed, AreAllCovered};
 ghost use Rattle.claims.specs.Settled.{AreOf};
-ghost use Rattle.rebuilding.specs.Turns.{IsGroupsFault, IsOrderFault, IsPassedOn};
+ghost use Rattle.rebuilding.specs.Turns.{IsGroupsFault, IsPassedOn};
 
-use crate::ids::{check_ids, ids_in};
-use crate::naming::{Misnamed, check_naming};
+use crate::checking::check_order;
 use claims::{Claim, Rebuilt, ReplayFault, add_claims, rebuilt_from};
 use division::{DivideFault, Group, divide};
 use entry::NoMemory;
@@ -69,22 +68,6 @@ fn groups_in<'a>(
     Ok(all)
 }
 
-/// Tests whether the order names each group, once.
-fn check_order(alloc: Global, groups: &[Group<'_>], order: &[usize]) -> Result<(), ReplayFault>
-    ensures ok { OnOk result (NamesEach (length groups.now) order.now) }
-    ensures fault { IfErr result (IsOrderFault (map grouped groups.now) order.now) }
-{
-    match check_naming(alloc, groups.len(), order) {
-        Ok(()) => Ok(()),
-        Err(misnamed) => match misnamed {
-            Misnamed::NoMemory => Err(ReplayFault::NoMemory),
-            Misnamed::Stranger => Err(ReplayFault::Stranger),
-            Misnamed::Twice(n) => Err(ReplayFault::Double(groups[n].segment)),
-            Misnamed::LeftOut(n) => Err(ReplayFault::MissingGroup(groups[n].segment)),
-        },
-    }
-}
-
 /// How many entries the groups have, for room.
 fn count_entries(groups: &[Group<'_>]) -> usize {
     let mut count: usize = 0;
@@ -124,13 +107,11 @@ fn claims_divided<'a>(
         claims_of (segments_bag (replayed segments.entry.now will.now order.now))) }
     ensures covered { OnOk result (AreCovered will.now (segments_bag segments.entry.now)) }
     ensures order { OnOk result (NamesEach (count_of segments.entry.now will.now) order.now) }
+    ensures ids { OnOk result (AreApart (ids_of segments.entry.now)) }
     ensures fault { IfErr result (IsRebuildFault segments.entry.now will.now order.now) }
 {
-    let count = will.partitions();
-    let groups = groups_in(alloc, segments, will, count)?;
-    check_order(alloc, groups.as_slice(), order)?;
-    let ids = ids_in(alloc, segments)?;
-    check_ids(ids.as_slice())?;
+    check_order(alloc, segments, will, order)?;
+    let groups = groups_in(alloc, segments, will, will.partitions())?;
     Ok(claims_in_order(alloc, groups.as_slice(), order)?)
 }
 
@@ -142,8 +123,9 @@ fn claims_divided<'a>(
 /// A Double names the segment of two groups of one partition that the order names: one group twice, or groups of two
 /// segments that have one id. A Stranger is a number of the order that is not below the count of groups. MissingGroup
 /// names the segment of the first group that the order leaves out. A Stray is the key of an entry, and in no partition.
-/// Two values of one key and version are a Clash, even if a later version covers them. If the segments' ids differ and
-/// the order names each group once, a clean log whose keys all have partitions fails for memory alone.
+/// Two values of one key and version are a Clash, even if a later version covers them. NoMemory says that each number of
+/// the order is below the count of groups, and that the segments' ids differ if the order names each group once. If both
+/// hold, a clean log whose keys all have partitions fails for memory alone.
 ///
 /// For n entries in s segments and p partitions it takes about n log n + s p steps, and at most s s more if the
 /// segments' ids don't rise.
@@ -158,6 +140,7 @@ pub fn rebuild(
     ensures clean { OnOk result (IsClean (among (segments_bag plan.now.segments))) }
     ensures covered { OnOk result (AreCovered will.now (segments_bag plan.now.segments)) }
     ensures order { OnOk result (NamesEach (count_of plan.now.segments will.now) order.now) }
+    ensures ids { OnOk result (AreApart (ids_of plan.now.segments)) }
     ensures fault { IfErr result (IsRebuildFault plan.now.segments will.now order.now) }
     ensures whole { IfErr result (λ fault.
         CanBeRebuilt plan.now.segments will.now order.now → fault ≡ ReplayFault.NoMemory) }

@@ -40,7 +40,8 @@ impl fmt::Display for RecoveryFault {
     }
 }
 
-/// Rebuilds the plan by the will, group by group in this order. More groups than a `usize` counts are NoMemory.
+/// Rebuilds the plan by the will, group by group in this order. More groups than a `usize` counts are taken as want of
+/// memory.
 fn rebuild_in(
     alloc: Global,
     plan: &Plan<'_>,
@@ -58,10 +59,10 @@ fn rebuild_in(
         CanBeRebuilt plan.now.segments will.now (order_for plan.now will.now order.now) →
         fault ≡ ReplayFault.NoMemory) }
 {
-    let Ok(numbers) = numbers_for(alloc, plan, will, order) else {
-        return Err(ReplayFault::NoMemory);
-    };
-    rebuild(alloc, plan, will, numbers.as_slice())
+    match numbers_for(alloc, plan, will, order) {
+        Ok(numbers) => rebuild(alloc, plan, will, numbers.as_slice()),
+        Err(fault) => Err(fault),
+    }
 }
 
 /// The objects of a master, and a safe version for what follows, from what some backups hold, if this is the least head

@@ -43,10 +43,10 @@ fn rebuild_in_threads<R: Threads + Wait + Sync, G: Gate + Sync>(
         CanBeRebuilt plan.now.segments will.now (order_for plan.now will.now order.now) →
         fault ≡ ReplayFault.NoMemory) }
 {
-    let Ok(numbers) = numbers_for(alloc, plan, will, order) else {
-        return Err(ReplayFault::NoMemory);
-    };
-    rebuild_threads(rt, alloc, plan, will, numbers.as_slice(), workers, gate)
+    match numbers_for(alloc, plan, will, order) {
+        Ok(numbers) => rebuild_threads(rt, alloc, plan, will, numbers.as_slice(), workers, gate),
+        Err(fault) => Err(fault),
+    }
 }
 
 /// What `recover` gives, by so many workers, each in a thread of its own: 1 to 64. Each tells the gate when it begins

@@ -9,10 +9,10 @@ use Rattle.rebuilding.proofs.naming.marks.Goals as goal
 
 pub loop-n-init : goal.loop-n-init
 loop-n-init c =
-    let is = c.in_ok-named.ensures.items_if_clones_equal (λ y h. h) in
+    let is = c.in-Ok.ensures.items_if_clones_equal (λ y h. h) in
     record {
       long = ap length is ∙ length-unmarked c.args.count;
-      marks = marked_first c.args.order.now c.in_ok-named.named.items
+      marks = marked_first c.args.order.now c.in-Ok.named.items
           (λ n. ap (λ (named : List Bool). get_or named n false) is ∙ unmarked c.args.count n);
     }
 

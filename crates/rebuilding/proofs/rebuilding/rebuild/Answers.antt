@@ -6,11 +6,12 @@ use Rattle.claims.specs.declared.fault.ReplayFault.TheVariants as fault
 use Rattle.claims.specs.Bags.{segments_bag}
 use Rattle.claims.specs.Claims.{claimed, claims_of}
 use Rattle.claims.specs.Rebuilt.{IsRebuilt}
-use Rattle.rebuilding.specs.Rebuilds.{IsRebuildFault, CanBeRebuilt}
+use Rattle.rebuilding.specs.Rebuilds.{IsRebuildFault, IsShortOfMemory, CanBeRebuilt}
 use Rattle.rebuilding.specs.Turns.{replayed}
 use Rattle.claims.specs.Settled.{AreOf, AreRebuilt, AreCleanClaims, AreRefused}
 use Rattle.rebuilding.proofs.Carried.{if_ok, if_err, on_ok}
 use Rattle.rebuilding.proofs.Ordered.{are_claims}
+use Rattle.rebuilding.proofs.Twins.{short_named}
 use Rattle.rebuilding.proofs.Wholes.{only_memory, refusal_fault}
 use Rattle.rebuilding.proofs.rebuilding.rebuild.Goals.{After-from_residual, After-rebuilt_from}
 use Rattle.rebuilding.proofs.rebuilding.rebuild.Goals as goal
@@ -43,6 +44,14 @@ found c =
     subst (λ (ss : List (List Entry)). AreOf (segments_bag ss) (map claimed c.in_ok-claims.claims.items))
     c.as_slice.ensures c.in_ok-claims.ensures.ok
 
+-- what is known of the order and the ids
+short : (c : After-rebuilt_from)
+    → IsShortOfMemory c.args.plan.now.segments c.args.will.now c.args.order.now
+short c =
+    subst (λ (ss : List (List Entry)). IsShortOfMemory ss c.args.will.now c.args.order.now) c.as_slice.ensures
+    (short_named c.as_slice.result.now c.args.will.now c.args.order.now c.in_ok-claims.ensures.order
+    c.in_ok-claims.ensures.ids)
+
 refused_late : (c : After-rebuilt_from)
     → IfErr c.rebuilt_from.result (IsRebuildFault c.args.plan.now.segments c.args.will.now c.args.order.now)
 refused_late c =
@@ -50,7 +59,7 @@ refused_late c =
     let qs = c.args.will.now in
     let order = c.args.order.now in
     if_err (AreRefused (map claimed c.in_ok-claims.claims.items)) (IsRebuildFault segments qs order) _
-    (λ f h. refusal_fault segments qs order f (h.each segments (found c))) c.rebuilt_from.ensures.err
+    (λ f h. refusal_fault segments qs order (short c) f (h.each segments (found c))) c.rebuilt_from.ensures.err
 
 pub returns-clause-ok : goal.returns-clause-ok
 returns-clause-ok c =

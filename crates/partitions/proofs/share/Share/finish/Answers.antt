@@ -27,12 +27,12 @@ pub returns-in_err-objects : goal.returns-in_err-objects
 returns-in_err-objects g c =
     let segments = g.D.Division.segments in
     let all = (goal.at.returns-in_err-objects g c).After-as_slice-4 in
-    let why : IsSetback segments c.in_err-objects.field-0.0 =
-    setback_is segments c.in_err-objects.field-0.0
+    let why : IsSetback g.D.Division.parts segments c.in_err-objects.field-0.0 =
+    setback_is g.D.Division.parts segments c.in_err-objects.field-0.0
     (λ is. clash_of g.D.Division.parts segments c.self.inside.partition c.in_ok-claims.claims.items
     c.sort_unstable.new.self.items (gathered g all) c.sort_unstable.ensures.permutation c.sort_unstable.ensures.sorted
     (subst (λ (cs : List Claim). has_clash (map claimed cs) ≡ true) c.as_slice-4.ensures.value
-    (c.in_err-objects.ensures.setback is))) in
+    (c.in_err-objects.ensures.setback is))) c.in_err-objects.ensures.covered in
     search (rules, why)
 
 pub new-requires : goal.new-requires

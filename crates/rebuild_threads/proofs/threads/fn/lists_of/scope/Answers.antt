@@ -7,4 +7,4 @@ send_all-requires g c =
     let same = ap length c.as_slice.ensures.value in
     let some = c.requires.workers in
     let all = c.loop-worker-test.false in
-    omega (arith, long, same, some, all)
+    record { ends = omega (arith, long, same, some, all); parts = c.requires.parts; order = c.requires.order }
