@@ -13,7 +13,7 @@ use Rattle.master.specs.log_head.Head.{HeadValue, digest_of, is_open}
 use Rattle.master.specs.log_head.Steps.{fresh_roll, in_force, with_closed_replica, with_new_replica}
 use Rattle.master.specs.log_model.Ids.{all_inserted, without}
 use Rattle.versioned_map.specs.declared.command.Record.{Record}
-use Rattle.master.specs.master_space.Ends.{pass_left}
+use Rattle.master.specs.master_rolls.Ends.{pass_left}
 use Rattle.master.specs.master_state.declared.config.Config.{Config}
 use Rattle.master.specs.master_state.declared.failover.Failover.{Failover}
 use Rattle.master.specs.master_state.declared.step.Step.{Step}

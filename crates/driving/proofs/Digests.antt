@@ -25,7 +25,7 @@ use Rattle.master.specs.master_mending.declared.mending.Mend.{Mend}
 use Rattle.master.specs.master_mending.declared.mending.Mend.TheVariants as mend
 use Rattle.master.specs.master_mending.Mending.{IsInPart, IsNextMend, closed_more, mended_data, opening, turn_roll}
 use Rattle.master.specs.master_mending.Mending.{was_headless}
-use Rattle.master.specs.master_space.Ends.{pass_left}
+use Rattle.master.specs.master_rolls.Ends.{pass_left}
 use Rattle.master.specs.master_state.declared.failover.Failover.{Failover}
 use Rattle.master.specs.master_state.declared.failover.Part.{Part}
 use Rattle.master.specs.master_state.declared.failover.Part.TheVariants as part

@@ -28,7 +28,7 @@ use Rattle.master.specs.master_state.Log.{home}
 use Rattle.master.specs.master_state.Steps.{closed_data, ledger_after, pass_ended, pushed_data, roll_ended, sealed_data}
 use Rattle.master.specs.master_state.Steps.{taken_data}
 use Rattle.master.specs.master_state.Waits.{next_seal}
-use Rattle.master.specs.master_space.Ends.{pass_left}
+use Rattle.master.specs.master_rolls.Ends.{pass_left}
 
 pub record Outline : Type 0 where
   pub head : HeadValue

@@ -19,7 +19,7 @@ use Rattle.master.specs.master_mending.declared.mending.Mend.{Mend}
 use Rattle.master.specs.master_mending.declared.mending.Mend.TheVariants as mend
 use Rattle.master.specs.master_mending.Mending.{closed_more, mended_data, was_headless}
 use Rattle.master.specs.master_space.Choosing.{pass_step, pending_step, pending_without}
-use Rattle.master.specs.master_space.Ends.{pass_left}
+use Rattle.master.specs.master_rolls.Ends.{pass_left}
 use Rattle.versioned_map.specs.declared.command.Record.{Record}
 use Rattle.replica.specs.Picture.{FleetState}
 use Rattle.master.specs.master_state.declared.config.Config.{Config}

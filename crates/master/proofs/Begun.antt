@@ -53,7 +53,7 @@ use Rattle.master_core.proofs.master_state.Finding.{each_of}
 use Rattle.master_core.proofs.master_state.Imaging.{ids_in, other_id, none_above}
 use Rattle.master_core.proofs.master_state.Indexing.{Grow}
 use Rattle.master_core.proofs.master_state.Refusals.{passes}
-use Rattle.master_core.proofs.master_space.Calm.{passes_first, calm_parts}
+use Rattle.master_core.proofs.master_state.Calm.{passes_first, calm_parts}
 use Rattle.master.specs.Invariant.{IsWellKept}
 use Rattle.master.specs.Placed.{IsPlaced}
 use Rattle.master.proofs.Agreeing.{Agree, agreeing_holds}

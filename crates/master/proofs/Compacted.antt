@@ -27,7 +27,7 @@ use Rattle.master_core.specs.master_state.Data.{MasterData}
 use Rattle.master_core.specs.master_state.Invariant.{IsCore}
 use Rattle.master_core.specs.master_state.Log.{log_of, images_of, find, entry_place, memory_of, log_set_ids}
 use Rattle.master_core.specs.master_state.Steps.{kept_now, compacted_data, Compacts}
-use Rattle.master_core.proofs.master_space.Calm.{calm_parts}
+use Rattle.master_core.proofs.master_state.Calm.{calm_parts}
 use Rattle.master_core.proofs.master_space.CompactedCore.{IsAdmitted, admitted, in_digest, images_then}
 use Rattle.master_core.proofs.master_space.CompactedIndex.{found_elsewhere}
 use Rattle.master_core.proofs.master_state.Imaging.{other_id}

@@ -45,7 +45,7 @@ use Rattle.master_core.specs.master_state.Log.{log_of, memory_of, images_of, log
 use Rattle.master_core.specs.master_state.Steps.{Copies}
 use Rattle.master_core.proofs.master_state.Finding.{each_of}
 use Rattle.master_core.proofs.master_state.Indexing.{Grow, key_seen}
-use Rattle.master_core.proofs.master_space.Calm.{passes_first, calm_parts}
+use Rattle.master_core.proofs.master_state.Calm.{passes_first, calm_parts}
 use Rattle.master.specs.Invariant.{IsWellKept}
 use Rattle.master.specs.Placed.{IsPlaced}
 use Rattle.master.proofs.Agreeing.{Agree, agreeing_holds}

@@ -35,11 +35,11 @@ use Rattle.master_core.specs.master_state.Ledger.{took_in}
 use Rattle.master_core.specs.master_state.Log.{image_of, images_of, find, entry_place, home, placed, spots_from, spots_in}
 use Rattle.master_core.specs.master_state.Log.{memory_of}
 use Rattle.master_core.specs.master_state.Steps.{pass_ended}
-use Rattle.master_core.proofs.master_space.Committed.{image_gone, image_stays}
+use Rattle.master_core.proofs.master_rolls.Committed.{image_gone, image_stays}
 use Rattle.master_core.proofs.master_state.Imaging.{ids_in}
 use Rattle.master_core.proofs.master_state.LogIds.{open_of, closed_rise, no_head}
 use Rattle.master_core.proofs.master_state.Rising.{Rise, has_not, rise_put}
-use Rattle.master_core.proofs.master_space.RollEnds.{added_ids, closed_images}
+use Rattle.master_core.proofs.master_rolls.RollEnds.{added_ids, closed_images}
 use Rattle.master.specs.Placed.{holders, IsPlaced}
 use Rattle.master.proofs.Models.{among_map, map_among, IsModel, LeavesPass, rest_stays, is_model}
 use Rattle.master.proofs.NextOps.{roll_of}

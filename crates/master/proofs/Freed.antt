@@ -33,7 +33,7 @@ use Rattle.master_core.specs.master_state.Invariant.{AreApart, IsCore}
 use Rattle.master_core.specs.master_state.Log.{log_of, memory_of, home, spots_from, spots_in}
 use Rattle.master_core.specs.master_state.Steps.{freed_one, freed_data, refusal_of, failed_data}
 use Rattle.master_core.specs.master_state.Waits.{next_free}
-use Rattle.master_core.proofs.master_space.Calm.{passes_first, calm_parts}
+use Rattle.master_core.proofs.master_state.Calm.{passes_first, calm_parts}
 use Rattle.master.specs.Invariant.{IsWellKept}
 use Rattle.master.specs.Passes.{IsFreeOp, Frees}
 use Rattle.master.specs.Placed.{IsPlaced}

@@ -31,7 +31,7 @@ use Rattle.master_core.specs.master_state.Steps.{appended, closed_data, halted, 
 use Rattle.master_core.specs.master_state.Steps.{sealed_data, taken_data, Applies}
 use Rattle.master_core.specs.master_state.Waits.{next_seal}
 use Rattle.master_core.proofs.master_state.Refusals.{may_begin, unit_working, working_parts}
-use Rattle.master_core.proofs.master_space.Calm.{calm_parts, passes_first}
+use Rattle.master_core.proofs.master_state.Calm.{calm_parts, passes_first}
 use Rattle.master_core.specs.master_mending.Left.{left_in, left_now}
 use Rattle.master_core.proofs.master_mending.LeftSteps.{mend_lowers, turn_lowers}
 use Rattle.master.specs.Invariant.{IsWellKept}

@@ -56,7 +56,7 @@ use Rattle.master_core.specs.master_state.Waits.{next_seal}
 use Rattle.master_core.proofs.master_state.Imaging.{other_id}
 use Rattle.master_core.proofs.master_state.Refusals.{is_admitted, passed_early, unit_working, working_parts, may_begin}
 use Rattle.master_core.proofs.master_commands.HeadsInForce.{open_calm}
-use Rattle.master_core.proofs.master_space.Calm.{passes_first, calm_parts}
+use Rattle.master_core.proofs.master_state.Calm.{passes_first, calm_parts}
 use Rattle.master_core.proofs.master_space.SealedCore.{seals_next}
 use Rattle.master.specs.Invariant.{IsWellKept}
 use Rattle.master.specs.Keeps.{Keeps}

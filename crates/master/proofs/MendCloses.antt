@@ -19,7 +19,7 @@ use Rattle.master_core.specs.failover_model.Data.{Calm, Rolls, Repairs, FailData
 use Rattle.master_core.specs.failover_model.Steps.{ended, mended, EndsRoll}
 use Rattle.master_core.specs.master_mending.declared.mending.Mend.TheVariants as mend
 use Rattle.master_core.specs.master_mending.Mending.{mended_data, first_lost, repaired_data, with_part}
-use Rattle.master_core.proofs.master_space.RollEnds.{closed_images}
+use Rattle.master_core.proofs.master_rolls.RollEnds.{closed_images}
 use Rattle.master_core.specs.master_state.declared.failover.Failover.{Failover}
 use Rattle.master_core.specs.master_state.declared.failover.Part.TheVariants as part
 use Rattle.master_core.specs.master_state.declared.ledger.Posting.TheVariants as posting

@@ -31,7 +31,7 @@ use Rattle.master_core.specs.failover_clean.Steps.{rolled}
 use Rattle.master_core.specs.master_mending.declared.mending.Mend.TheVariants as mend
 use Rattle.master_core.specs.master_mending.Mending.{IsNextMend, turned_data, turn_roll}
 use Rattle.master_core.proofs.master_mending.Changed.{own}
-use Rattle.master_core.proofs.master_space.RollLaws.{next_is, next_id, is_commit}
+use Rattle.master_core.proofs.master_rolls.RollLaws.{next_is, next_id, is_commit}
 use Rattle.master_core.specs.master_state.declared.failover.Failover.{Failover}
 use Rattle.master_core.specs.master_state.declared.failover.Part.TheVariants as part
 use Rattle.master_core.specs.master_state.declared.ledger.Posting.TheVariants as posting

@@ -39,7 +39,7 @@ use Rattle.master_core.specs.master_state.Log.{is_opened, log_of, state_now, ima
 use Rattle.master_core.specs.master_state.Steps.{listed_in, start_now, rolling_data, next_now, BeginsRoll, MayRollNow}
 use Rattle.master_core.proofs.master_commands.HeadsInForce.{open_opened, open_calm}
 use Rattle.master_core.proofs.master_commands.LoadedCore.{rolling_bare}
-use Rattle.master_core.proofs.master_space.RollLaws.{next_is}
+use Rattle.master_core.proofs.master_rolls.RollLaws.{next_is}
 use Rattle.master_core.proofs.master_state.Finding.{each_of, index_of}
 use Rattle.master_core.proofs.master_state.Imaging.{same_id, rolled_own, rolled_other, rolled_grow}
 use Rattle.master_core.proofs.master_state.Indexing.{Grow, found_grown}

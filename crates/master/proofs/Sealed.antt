@@ -51,7 +51,7 @@ use Rattle.master_core.proofs.master_state.Imaging.{same_id, other_id}
 use Rattle.master_core.proofs.master_state.LogIds.{apart, closed_rise}
 use Rattle.master_core.proofs.master_state.Recounts.{one_more, segment_recounted}
 use Rattle.master_core.proofs.master_state.Refusals.{sizes_of}
-use Rattle.master_core.proofs.master_space.Calm.{passes_first, calm_parts}
+use Rattle.master_core.proofs.master_state.Calm.{passes_first, calm_parts}
 use Rattle.master_core.proofs.master_space.SealedCore.{SealsNext, seals_next}
 use Rattle.master.specs.Invariant.{IsWellKept}
 use Rattle.master.specs.Passes.{IsSealOp, Seals}

@@ -19,6 +19,7 @@ pub use Rattle.master_core.specs.failover_bytes
 pub use Rattle.master_core.specs.failover_clean
 pub use Rattle.log_head.specs as log_head
 pub use Rattle.master_core.specs.master_state
+pub use Rattle.master_core.specs.master_rolls
 pub use Rattle.master_core.specs.master_space
 pub use Rattle.master_core.specs.master_mending
 pub use Rattle.master_core.specs as master_core

@@ -23,10 +23,10 @@ use Rattle.master_state.proofs.Imaging.{same_id, other_id}
 use Rattle.master_state.proofs.LogIds.{absent, no_head, open_of}
 use Rattle.master_state.proofs.Passing.{has_among}
 use Rattle.master_state.proofs.Rising.{has_more}
-use Rattle.master_space.specs.Ends.{closed_left}
-use Rattle.master_space.proofs.Leaving.{stays_found}
-use Rattle.master_space.proofs.RollEnds.{rolls_of}
-use Rattle.master_space.proofs.Trimming.{trimmed_replicas}
+use Rattle.master_rolls.specs.Ends.{closed_left}
+use Rattle.master_rolls.proofs.Leaving.{stays_found}
+use Rattle.master_rolls.proofs.RollEnds.{rolls_of}
+use Rattle.master_rolls.proofs.Trimming.{trimmed_replicas}
 use Rattle.master_mending.specs.Left.{lost_of}
 use Rattle.master_mending.proofs.LostCounts.{lost_at, none_lost, few_lost, lost_fewer}
 

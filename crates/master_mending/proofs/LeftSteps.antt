@@ -34,9 +34,9 @@ use Rattle.master_state.specs.Log.{home}
 use Rattle.master_state.specs.Steps.{start_now, closed_data}
 use Rattle.master_state.proofs.Beginning.{lone_has}
 use Rattle.master_state.proofs.Imaging.{same_id, other_id}
-use Rattle.master_space.specs.Ends.{pass_left, closed_left, waiting_left}
-use Rattle.master_space.proofs.Closing.{ended_is}
-use Rattle.master_space.proofs.RollEnds.{head_then}
+use Rattle.master_rolls.specs.Ends.{pass_left, closed_left, waiting_left}
+use Rattle.master_rolls.proofs.Closing.{ended_is}
+use Rattle.master_rolls.proofs.RollEnds.{head_then}
 use Rattle.master_mending.specs.declared.mending.Mend.TheVariants as mend
 use Rattle.master_mending.specs.Mending.{IsInPart, IsNextMend, was_headless, opened_now, first_lost}
 use Rattle.master_mending.specs.Mending.{opening, with_part, turned_data, mended_data, opened_more, raised_data}
@@ -49,7 +49,7 @@ use Rattle.master_mending.proofs.LeftBounds.{left_is}
 use Rattle.master_mending.proofs.LeftEnds.{lost_then}
 use Rattle.master_mending.proofs.LostCounts.{lost_at, few_lost, lost_less, lost_push, lost_all, lost_without}
 use Rattle.master_mending.proofs.Sought.{is_other, held, fewer, older, has_image, no_roll}
-use Rattle.master_space.proofs.NextIds.{next_ids, start_has, start_others}
+use Rattle.master_rolls.proofs.NextIds.{next_ids, start_has, start_others}
 use Rattle.master_mending.proofs.TurnedCore.{turned_if, turned_next}
 
 -- ---- counts of replicas that lack some unit

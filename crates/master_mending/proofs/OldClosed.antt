@@ -15,8 +15,8 @@ use Rattle.master_state.specs.Data.{MasterData}
 use Rattle.master_state.specs.Invariant.{IsCore}
 use Rattle.master_state.specs.Log.{home}
 use Rattle.master_state.specs.Steps.{closed_data}
-use Rattle.master_space.proofs.Closing.{last, core_ended, ended_taken, ended_repairs, more_left, early_head}
-use Rattle.master_space.proofs.Closing.{early_taken}
+use Rattle.master_rolls.proofs.Closing.{last, core_ended, ended_taken, ended_repairs, more_left, early_head}
+use Rattle.master_rolls.proofs.Closing.{early_taken}
 use Rattle.master_mending.specs.declared.mending.Mend.TheVariants as mend
 use Rattle.master_mending.specs.Mending.{IsNextMend, with_part, repaired_data, closed_more}
 use Rattle.master_mending.proofs.Rolled.{old_closed_core}

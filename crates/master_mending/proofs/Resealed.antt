@@ -11,8 +11,8 @@ use Rattle.master_state.specs.cleaner.declared.pass.Pass.{Pass}
 use Rattle.master_state.specs.cleaner.Passes.{images_in, survivor_ids}
 use Rattle.master_state.proofs.cleaner.Ends.{pass_agrees}
 use Rattle.master_state.proofs.clean_model.KeptEntries.{has_is}
-use Rattle.master_space.specs.compactor.Kept.{kept}
-use Rattle.master_space.specs.compactor.Places.{keys_in}
+use Rattle.master_state.specs.compactor.Kept.{kept}
+use Rattle.master_state.specs.compactor.Places.{keys_in}
 use Rattle.entry.specs.declared.entry.Entry.{Entry}
 use Rattle.entry.specs.Bag.{IsAmong}
 use Rattle.entry.specs.Text.{IsSegment}

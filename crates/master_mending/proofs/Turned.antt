@@ -12,7 +12,7 @@ use Rattle.master_state.specs.Budget.{most_segments, is_ready, may_turn, turn_li
 use Rattle.master_state.specs.Data.{MasterData}
 use Rattle.master_state.specs.Invariant.{IsOpenPass, IsCore}
 use Rattle.master_state.proofs.Refusals.{sizes_of}
-use Rattle.master_space.proofs.NextIds.{next_ids, count_none, count_commit}
+use Rattle.master_rolls.proofs.NextIds.{next_ids, count_none, count_commit}
 
 module _ (d : MasterData) (core : IsCore d) where
   few_of : (o : Option Pass) → IfSome o (IsOpenPass d) → (t : Bool)

@@ -46,9 +46,9 @@ use Rattle.master_mending.specs.declared.turning.NewHead.TheVariants as new_head
 use Rattle.master_mending.specs.Mending.{IsNextMend, IsNewHead, was_headless, turn_roll, closed_before, put_data}
 use Rattle.master_mending.specs.Mending.{opening, turned_data}
 use Rattle.master_mending.proofs.Changed.{own, was_is, headless_is}
-use Rattle.master_space.proofs.NewRolls.{rolls_to, pass_then, roll_core}
-use Rattle.master_space.proofs.NextIds.{next_listed, start_id, start_has, start_others}
-use Rattle.master_space.proofs.RollStarts.{pass_now, pass_marked, survivors_same}
+use Rattle.master_rolls.proofs.NewRolls.{rolls_to, pass_then, roll_core}
+use Rattle.master_rolls.proofs.NextIds.{next_listed, start_id, start_has, start_others}
+use Rattle.master_rolls.proofs.RollStarts.{pass_now, pass_marked, survivors_same}
 use Rattle.master_mending.proofs.Turned.{turned_few, turned_free}
 
 -- the head counts whole while no roll is under way, and its length too where an image is abandoned

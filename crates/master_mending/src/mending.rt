@@ -18,7 +18,7 @@ ghost use Rattle.master_mending.specs.Mending.{sealed_anew, op_now, open_op, seg
 use crate::left::left;
 use crate::lost::first_lost;
 use log_head::Next;
-use master_space::end_pass;
+use master_rolls::end_pass;
 use master_state::{Abandoned, Core, Failover, Ledger, Part, Posting, image_of};
 use replica::{Act, Op};
 

@@ -10,7 +10,7 @@ ghost use Rattle.master_mending.specs.declared.mending.Mend.TheVariants as mend;
 use crate::turning::NewHead;
 use entry::NoMemory;
 use log_head::{Head, Leaving};
-use master_space::{entering, leaving_victims};
+use master_rolls::{entering, leaving_victims};
 use master_state::{Core, Failover, Ledger, Part, Posting};
 
 /// The new head. Its digest lists the log, or what the commit of a pass that is ready leaves of it. Nothing changes.

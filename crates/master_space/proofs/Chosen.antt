@@ -27,9 +27,9 @@ use Rattle.master_state.specs.Log.{log_set_ids, images_of}
 use Rattle.master_state.proofs.Imaging.{same_id, other_id}
 use Rattle.master_state.proofs.LogIds.{apart}
 use Rattle.master_state.proofs.Rising.{has_all}
-use Rattle.master_space.proofs.FreeVictims.{has_id_is}
+use Rattle.master_state.proofs.FreeVictims.{has_id_is}
 use Rattle.master_space.proofs.Ordering.{best_placed}
-use Rattle.master_space.proofs.PassIds.{IsNotNew, closed_only, others, others_below}
+use Rattle.master_state.proofs.PassIds.{IsNotNew, closed_only, others, others_below}
 
 -- ---- the walk
 

@@ -42,7 +42,7 @@ use Rattle.master_state.proofs.Passing.{has_among, lacking_same}
 use Rattle.master_state.proofs.Rising.{has_more, has_all}
 use Rattle.compactor.proofs.KeptEntries.{kept_length, kept_segment}
 use Rattle.master_state.proofs.Refusals.{passes, sizes_of}
-use Rattle.master_space.proofs.Calm.{calm_parts, no_failover, passes_first}
+use Rattle.master_state.proofs.Calm.{calm_parts, no_failover, passes_first}
 use Rattle.master_space.proofs.Replacing.{same_ids, changed_there, changed_here, changed_each, changed_count, each_one}
 use Rattle.master_space.proofs.Replacing.{closed_each}
 

@@ -40,13 +40,13 @@ use Rattle.master_state.specs.Images.{images_among, new_image_or}
 use Rattle.master_state.specs.Invariant.{IsCore, IsIndex, IsRollOf, IsSurvivor, IsOpenPass, NameBelow}
 use Rattle.master_state.specs.Invariant.{listed_with}
 use Rattle.master_state.specs.Log.{log_set_ids, images_of, find, state_now}
-use Rattle.master_space.proofs.Calm.{no_failover}
+use Rattle.master_state.proofs.Calm.{no_failover}
 use Rattle.master_space.proofs.CopiedImages.{tail_of, ids_same, segments_then, replicas_then, count_same, own_then}
 use Rattle.master_space.proofs.CopiedPlaces.{index_treated, found_treated}
 use Rattle.master_state.proofs.Finding.{each_of, each_among, index_of}
 use Rattle.master_state.proofs.Imaging.{same_id, other_id}
 use Rattle.master_state.proofs.Indexing.{Grow}
-use Rattle.master_space.proofs.PassIds.{IsNotNew, closed_only}
+use Rattle.master_state.proofs.PassIds.{IsNotNew, closed_only}
 use Rattle.master_state.proofs.Passing.{victim_below, lacking_same}
 use Rattle.master_space.proofs.PlaceRows.{lies_among}
 

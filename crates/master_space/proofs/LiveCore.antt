@@ -34,7 +34,7 @@ use Rattle.master_space.proofs.LiveObjects.{live_apart, walk_live, walk_once, Ar
 use Rattle.master_state.proofs.LogIds.{closed_rise, not_closed, no_head, none_above}
 use Rattle.master_space.proofs.PlaceRows.{lies_among}
 use Rattle.master_state.proofs.Rising.{Rise, has_not}
-use Rattle.master_space.proofs.SurvivorLens.{survivor_of}
+use Rattle.master_state.proofs.SurvivorLens.{survivor_of}
 
 -- ---- a new head has no object
 

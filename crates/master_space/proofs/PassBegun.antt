@@ -44,10 +44,10 @@ use Rattle.master_state.proofs.Imaging.{other_id}
 use Rattle.master_state.proofs.Indexing.{Grow, stands_at}
 use Rattle.master_state.proofs.Passing.{has_among}
 use Rattle.master_state.proofs.Refusals.{sizes_of}
-use Rattle.master_space.proofs.FreeVictims.{IsOlder, MayBegin}
+use Rattle.master_state.proofs.FreeVictims.{IsOlder, MayBegin}
 use Rattle.master_space.proofs.NewImages.{found_behind, found_before, new_found, new_other, new_ids}
-use Rattle.master_space.proofs.PassIds.{others, others_below, images_below, closed_only, head_parts, not_opening_later}
-use Rattle.master_space.proofs.PassIds.{not_head_later, victims_listed, victims_there}
+use Rattle.master_state.proofs.PassIds.{others, others_below, images_below, closed_only, head_parts, not_opening_later}
+use Rattle.master_state.proofs.PassIds.{not_head_later, victims_listed, victims_there}
 use Rattle.master_space.proofs.PlaceRows.{places_lie, lies_among}
 use Rattle.master_space.proofs.Replacing.{closed_each}
 

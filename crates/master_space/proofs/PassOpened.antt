@@ -51,14 +51,14 @@ use Rattle.master_state.proofs.Finding.{index_again}
 use Rattle.master_state.proofs.Indexing.{found_lies}
 use Rattle.master_state.proofs.Refusals.{sizes_of}
 use Rattle.master_state.proofs.Passing.{lacking_same}
-use Rattle.master_space.proofs.Calm.{calm_parts, no_failover}
-use Rattle.master_space.proofs.FreeVictims.{MayBegin}
+use Rattle.master_state.proofs.Calm.{calm_parts, no_failover}
+use Rattle.master_state.proofs.FreeVictims.{MayBegin}
 use Rattle.master_space.proofs.NewImages.{new_ids, new_count}
 use Rattle.master_space.proofs.PassBegun.{count, ids, id_within, new_or_not, in_new, images_other, images_new, grow}
 use Rattle.master_space.proofs.PassBegun.{victim_out, victim_images, closed_then, pass, e, rest_then, rest_before}
 use Rattle.master_space.proofs.PassBegun.{is_pass, rooms, image_new, image_other}
-use Rattle.master_space.proofs.PassIds.{others, closed_ids, start_below, others_below, all_below, not_has}
-use Rattle.master_space.proofs.PassIds.{not_opening_later, victims_listed}
+use Rattle.master_state.proofs.PassIds.{others, closed_ids, start_below, others_below, all_below, not_has}
+use Rattle.master_state.proofs.PassIds.{not_opening_later, victims_listed}
 use Rattle.master_space.proofs.PlaceRows.{lying_place}
 
 -- one more id that is above the first and below the others comes between them

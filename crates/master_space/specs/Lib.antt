@@ -1,3 +1,1 @@
 pub mod Choosing
-pub mod Ends
-pub use Rattle.compactor.specs as compactor

@@ -14,6 +14,10 @@ pub mod LogIds
 pub mod Recounts
 pub mod LostCore
 pub mod LostWaits
+pub mod Calm
+pub mod FreeVictims
+pub mod PassIds
+pub mod SurvivorLens
 pub use Rattle.cleaner.proofs as cleaner
 pub use Rattle.failover_clean.proofs.clean_model
 pub use Rattle.failover_clean.proofs.failover_model

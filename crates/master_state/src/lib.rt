@@ -5,8 +5,8 @@
 //! which log a master's data are, `specs/Causes.antt` why a step is refused, and `specs/Steps.antt` what an accepted
 //! one makes.
 //!
-//! The steps themselves are in two crates above, which don't know each other: `master_commands` and `master_space`.
-//! Here is what both use: how much memory is counted, and when a roll may begin.
+//! The steps themselves are in three crates above, which don't know each other: `master_commands`, `master_rolls` and
+//! `master_space`. Here is what they share: how much memory is counted, and when a roll may begin.
 #![tactic(auto)]
 
 mod budget;

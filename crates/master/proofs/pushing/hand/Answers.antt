@@ -18,7 +18,7 @@ use Rattle.master_core.specs.master_state.Invariant.{IsCore}
 use Rattle.master_core.specs.master_state.Log.{home}
 use Rattle.master_core.specs.master_state.Steps.{taken_data, backup_of, ledger_after, pushed_data, refusal_of, failed_data}
 use Rattle.master_core.proofs.master_state.Posted.{posted_core}
-use Rattle.master_core.proofs.master_space.Taken.{taken_images}
+use Rattle.master_core.proofs.master_rolls.Taken.{taken_images}
 use Rattle.master.specs.Invariant.{StaysServed}
 use Rattle.master.specs.Pushes.{Pushes, answer_of}
 use Rattle.master.specs.Steps.{Declines}

@@ -20,9 +20,9 @@ use Rattle.master_state.specs.Data.{MasterData}
 use Rattle.master_state.specs.Invariant.{IsCore, AreImagesOf}
 use Rattle.master_state.specs.Log.{home}
 use Rattle.master_state.proofs.LogIds.{absent, no_head}
-use Rattle.master_space.specs.Ends.{closed_left, waiting_left}
-use Rattle.master_space.proofs.Budgets.{closed_seglets, closing_fits, free_again}
-use Rattle.master_space.proofs.Closing.{left_early, none_then, old_is}
+use Rattle.master_rolls.specs.Ends.{closed_left, waiting_left}
+use Rattle.master_rolls.proofs.Budgets.{closed_seglets, closing_fits, free_again}
+use Rattle.master_rolls.proofs.Closing.{left_early, none_then, old_is}
 use Rattle.master_mending.specs.declared.mending.Mend.TheVariants as mend
 use Rattle.master_mending.specs.Mending.{IsNextMend}
 use Rattle.master_mending.proofs.Losses.{others_are, none_from}

@@ -1,6 +1,6 @@
 use Rattle.std.proofs.Common.{◌≡◌, refl, sym, ap, subst, ◌∙◌}
 use Rattle.std.specs.Prelude.{Option, Some, IsSome, IfSome, is_some}
-use Rattle.master_space.proofs.compactor.Ids.{copied_some}
+use Rattle.master_state.proofs.cleaner.compactor.Ids.{copied_some}
 use Rattle.log_head.specs.declared.head.Roll.{Roll}
 use Rattle.log_head.specs.Head.{HeadValue, IsHeadValue}
 use Rattle.log_head.specs.Steps.{with_new_replica}

@@ -1,6 +1,6 @@
 use Rattle.std.proofs.Common.{◌≡◌, [], ◌∷◌, List, sym, ap, subst, ◌∙◌}
 use Rattle.std.specs.Prelude.{Option, Some, None, is_some}
-use Rattle.master_space.proofs.compactor.Ids.{copied_some}
+use Rattle.master_state.proofs.cleaner.compactor.Ids.{copied_some}
 use Rattle.log_head.specs.declared.head.Roll.{Roll}
 use Rattle.log_head.specs.log_model.Data.{Start}
 use Rattle.master_state.specs.contracts.state.Core.{the_view}

@@ -12,8 +12,8 @@ use Rattle.master_state.specs.Budget.{is_ready, may_turn, survivors_of, victims_
 use Rattle.master_state.specs.Data.{MasterData}
 use Rattle.master_state.specs.Invariant.{IsCore}
 use Rattle.master_state.specs.Steps.{listed_in}
-use Rattle.master_space.proofs.SurvivorLens.{entering_listed}
-use Rattle.master_space.proofs.NextIds.{next_ids, next_rise, others_parts}
+use Rattle.master_state.proofs.SurvivorLens.{entering_listed}
+use Rattle.master_rolls.proofs.NextIds.{next_ids, next_rise, others_parts}
 use Rattle.master_mending.proofs.Turned.{turned_count}
 use Rattle.master_mending.proofs.opening.new_head.Goals as goal
 use Rattle.master_mending.proofs.opening.new_head.Goals.{After-as_slice}

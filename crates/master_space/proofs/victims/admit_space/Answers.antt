@@ -6,9 +6,9 @@ use Rattle.master_state.specs.contracts.state.Core.{the_view}
 use Rattle.master_state.specs.Budget.{may_clean}
 use Rattle.master_state.specs.Causes.{survivors_for, victims_fault}
 use Rattle.master_state.specs.Data.{MasterData}
-use Rattle.master_space.proofs.FreeVictims.{are_free, at_most_four, more_than_four}
-use Rattle.master_space.proofs.FreeVictims.{much_refused, full_refused, spent_refused, none_refused}
-use Rattle.master_space.proofs.PassIds.{victims_there}
+use Rattle.master_state.proofs.FreeVictims.{are_free, at_most_four, more_than_four}
+use Rattle.master_state.proofs.FreeVictims.{much_refused, full_refused, spent_refused, none_refused}
+use Rattle.master_state.proofs.PassIds.{victims_there}
 use Rattle.master_space.proofs.victims.admit_space.Goals as goal
 use Rattle.master_space.proofs.victims.admit_space.Goals.{After-may_clean}
 

@@ -3,8 +3,8 @@ use Rattle.std.specs.Prelude.{not}
 use Rattle.master_state.specs.contracts.state.Core.{the_view}
 use Rattle.master_state.specs.Causes.{is_head}
 use Rattle.master_state.specs.Data.{MasterData}
-use Rattle.master_space.proofs.FreeVictims.{out_of_log, one_free}
-use Rattle.master_space.proofs.PassIds.{got_listed}
+use Rattle.master_state.proofs.FreeVictims.{out_of_log, one_free}
+use Rattle.master_state.proofs.PassIds.{got_listed}
 use Rattle.master_space.proofs.victims.check_victim.Goals as goal
 
 pub returns-then-is_none : goal.returns-then-is_none

@@ -4,7 +4,7 @@ use Rattle.std.proofs.lemmas.Bool.Decides.{nat_tests}
 use Rattle.std.proofs.lemmas.Result.{err_from_is_err_and}
 use Rattle.std.specs.Result.{result_err}
 use Rattle.master_state.specs.Data.{MasterData}
-use Rattle.master_space.proofs.FreeVictims.{next_fault, found_fault, no_fault_left}
+use Rattle.master_state.proofs.FreeVictims.{next_fault, found_fault, no_fault_left}
 use Rattle.master_space.proofs.victims.check_victims.Goals as goal
 
 pub loop-at-preserved : goal.loop-at-preserved

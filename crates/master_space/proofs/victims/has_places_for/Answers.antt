@@ -4,7 +4,7 @@ use Rattle.master_state.specs.contracts.state.Core.{the_view}
 use Rattle.master_state.specs.Budget.{newest_digest, most_segments}
 use Rattle.master_state.specs.Data.{MasterData}
 use Rattle.master_state.proofs.LogIds.{few_closed, few_survivors}
-use Rattle.master_space.proofs.PassIds.{head_count, heads_of, newest_count}
+use Rattle.master_state.proofs.PassIds.{head_count, heads_of, newest_count}
 use Rattle.master_space.proofs.victims.has_places_for.Goals as goal
 use Rattle.master_space.proofs.victims.has_places_for.Goals.{then-is_some, else-is_some}
 

@@ -18,7 +18,7 @@ use Rattle.master_core.specs.master_state.Data.{MasterData}
 use Rattle.master_core.specs.master_state.Invariant.{IsCore}
 use Rattle.master_core.specs.master_state.Log.{home}
 use Rattle.master_core.specs.master_state.Steps.{freed_data, refusal_of, failed_data}
-use Rattle.master_core.proofs.master_space.Calm.{calm_parts}
+use Rattle.master_core.proofs.master_state.Calm.{calm_parts}
 use Rattle.master.specs.Invariant.{IsWellKept}
 use Rattle.master.specs.Passes.{Frees}
 use Rattle.master.specs.Steps.{Declines}

@@ -22,9 +22,9 @@ use Rattle.master_state.specs.Invariant.{IsCore, AreImagesOf}
 use Rattle.master_state.specs.Ledger.{posted}
 use Rattle.master_state.specs.Log.{log_of, memory_of}
 use Rattle.master_state.specs.Steps.{fresh_pass, next_survivors, BeginsPass}
-use Rattle.master_space.proofs.FreeVictims.{MayBegin, may_begin_pass}
+use Rattle.master_state.proofs.FreeVictims.{MayBegin, may_begin_pass}
 use Rattle.master_space.proofs.PassBegun.{closed_then, victims_fit}
-use Rattle.master_space.proofs.PassIds.{images_below}
+use Rattle.master_state.proofs.PassIds.{images_below}
 use Rattle.master_space.proofs.PassOpened.{survivors_free, opened_core, begins_pass, may_clean_now}
 use Rattle.master_space.proofs.cleaning.CoreCleans.begin_clean.Goals as goal
 use Rattle.master_space.proofs.cleaning.CoreCleans.begin_clean.Goals.{After-reserve}

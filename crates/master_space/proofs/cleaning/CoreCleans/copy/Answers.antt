@@ -10,7 +10,7 @@ use Rattle.master_state.specs.Causes.{copy_refusal, step_refusal}
 use Rattle.master_state.specs.Data.{MasterData}
 use Rattle.master_state.specs.Invariant.{IsCore, AreImagesOf}
 use Rattle.master_state.specs.Log.{log_set_ids}
-use Rattle.master_space.proofs.Calm.{calm_parts}
+use Rattle.master_state.proofs.Calm.{calm_parts}
 use Rattle.master_space.proofs.CopiedCore.{copied_core}
 use Rattle.master_space.proofs.CopiedImages.{length_same}
 use Rattle.master_space.proofs.cleaning.CoreCleans.copy.Goals as goal

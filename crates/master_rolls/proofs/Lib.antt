@@ -1,0 +1,14 @@
+pub mod RollEnds
+pub mod Budgets
+pub mod Trimming
+pub mod Leaving
+pub mod Placed
+pub mod NextIds
+pub mod NewRolls
+pub mod RollStarts
+pub mod RollLaws
+pub mod Committed
+pub mod Taken
+pub mod Ended
+pub mod Closing
+pub mod Awaited
