@@ -11,7 +11,7 @@ use Rattle.entry.specs.declared.entry.Entry.{Entry}
 use Rattle.entry.specs.Bag.{IsAmong}
 use Rattle.entry.proofs.BagLemmas.{among_push}
 use Rattle.entry.proofs.ListLemmas.{all_weaker}
-use Rattle.master_state.proofs.clean_model.KeptEntries.{is_has}
+use Rattle.failover_clean.proofs.clean_model.KeptEntries.{is_has}
 use Rattle.cleaner.specs.declared.pass.Pass.{Pass}
 use Rattle.cleaner.specs.Passes.{images_in, AreIds}
 use Rattle.cleaner.specs.compactor.Kept.{has_id}
