@@ -222,11 +222,14 @@ class Witness:
             return f"{line} printed {answer}"
         return None
 
+    def maps(self):
+        """The map without the line that was stopped or halted, and with it, if one was."""
+        return [it for it in (self.answered, self.stopped) if it]
+
     def wrong_table(self, answer):
-        maps = [it for it in (self.answered, self.stopped) if it]
-        found = next(filter(None, (it.found(answer[:-1]) for it in maps)), None)
+        found = next(filter(None, (it.found(answer[:-1]) for it in self.maps())), None)
         if not found or answer[-1] != f"recovered {len(found.live)}":
-            return f"recover printed {answer}, and the map is one of {[it.rows() for it in maps]}, but for clients"
+            return f"recover printed {answer}, and the map is one of {[it.rows() for it in self.maps()]}, but for clients"
         self.answered, self.stopped, self.is_halted = found.recovered(), None, False
         self.lost = set()
         return None
@@ -448,11 +451,14 @@ class Follower:
         return answer == [f"lost {line[1]}"]
 
     def may_will(self, _, answer):
-        if self.witness.answered.crowd:
-            return True
-        sizes = sorted((it.table, place(it.key), len(it.spelled())) for it in self.witness.answered.objects())
+        # A halted master holds what the line that met the fault has put, too.
+        maps = self.witness.maps()
+        return any(it.crowd for it in maps) or answer in [self.will_of(it) for it in maps]
+
+    def will_of(self, map_):
+        sizes = sorted((it.table, place(it.key), len(it.spelled())) for it in map_.objects())
         parts, count = make_will(range(1, self.options.tables + 1), sizes, self.options.bytes, self.options.objects)
-        return answer == [*(f"{table} {first:016x} {last:016x} {part}" for table, first, last, part in parts), f"partitions {count}"]
+        return [*(f"{table} {first:016x} {last:016x} {part}" for table, first, last, part in parts), f"partitions {count}"]
 
     def may_room(self, _, answer):
         seglets = re.fullmatch(r"used (\d+) free (\d+)", answer[0])
