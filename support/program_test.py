@@ -363,6 +363,47 @@ def large_tables_are_recovered(program):
     want((output.count(table), cut, last, errors, status), (2, 2, b"ok %d" % (OBJECTS + 1), b"", 0))
 
 
+WORKERS = 4
+
+
+def most_threads(process):
+    """The most threads that the program has at one time, until it waits for input."""
+    most, until = 0, time.monotonic() + SECONDS
+    while time.monotonic() < until:
+        most = max(most, len(os.listdir(f"/proc/{process.pid}/task")))
+        if most > 1 and is_idle(process, process.stdin):
+            break
+    return most
+
+
+def workers_recover_in_threads(program):
+    """Beside the thread that divides the log, each of four workers has a thread of its own."""
+    puts = b"".join(b"put 1 %08d x\n" % number for number in range(OBJECTS))
+    with subprocess.Popen([program, *TABLE_WORDS], stdin=subprocess.PIPE, stdout=subprocess.DEVNULL) as process:
+        try:
+            process.stdin.write(puts + b"will\ncrash\n")
+            process.stdin.flush()
+            wait_idle(process, process.stdin)
+            process.stdin.write(b"recover threads %d\n" % WORKERS)
+            process.stdin.flush()
+            want(most_threads(process), 1 + WORKERS)
+        finally:
+            process.kill()
+
+
+# A call pushes as often as it has to.
+
+ROLLS = 1600
+ROLL_WORDS = ["--segment=65536", "--seglets=1000000", "--format=2"]
+
+
+def a_call_ends_a_long_failover(program):
+    """Two of three backups have each segment. As one fails, a client's put seals some 1,067 replicas anew, each in a push of its own."""
+    script = ROLLS * b"roll\n" + b"fault 1 lost\nclients 1 1 0\npush\nget 1 c0\n"
+    heads = b"".join(b"head %d\n" % head for head in range(2, ROLLS + 2))
+    want(run(program, script, ROLL_WORDS), (heads + b"fault 1 lost\nclients 1 1 2\nrefused Nothing\n1 1\n", b"", 0))
+
+
 # Sizes at which no memory may be wanting, since there is enough of it. No contract tells when a call may want memory that begins a
 # segment, compacts one, makes a master, chooses victims or measures objects.
 
@@ -422,7 +463,8 @@ def the_largest_configuration_is_served(program):
 TESTS = [
     help_is_printed, version_is_printed, words_are_text, lines_have_limits, a_reader_fails, a_writer_fails,
     input_comes_in_parts, pipes_show_each_answer, output_goes_in_blocks, a_terminal_shows_each_answer, a_terminal_shows_why, an_end_is_not_asked_for_again,
-    memory_is_taken_and_given_back, survivors_take_a_segment_each, large_tables_are_recovered,
+    memory_is_taken_and_given_back, survivors_take_a_segment_each, large_tables_are_recovered, workers_recover_in_threads,
+    a_call_ends_a_long_failover,
     a_whole_segment_is_compacted_and_cleaned, many_segments_and_objects_are_served, the_largest_configuration_is_served,
 ]
 

@@ -1,6 +1,8 @@
 -- Recoveries, told of what is left of a master.
 use Rattle.std.proofs.Common.{◌≡◌, ◌⊎◌, ℕ, Bool, true, List, refl, sym, ap, subst, inl, inr, ◌∙◌, arith}
-use Rattle.std.specs.Prelude.{ℕ, Option, Some, None, ◌↔◌}
+use Rattle.std.specs.Prelude.{ℕ, Option, Some, None, ◌↔◌, take}
+use Rattle.std.proofs.lemmas.List.{take_all}
+use Rattle.versioned_map.specs.declared.command.Record.{Record}
 use Rattle.backup.specs.State.{fleet_state}
 use Rattle.backup.specs.declared.fleet.MemoryFleet.{MemoryFleet}
 use Rattle.lines.specs.Grammar.{Recover}
@@ -22,12 +24,12 @@ use Rattle.node.specs.master.failover_bytes.Choice.{Counts, IsNewestCounted, new
 use Rattle.node.specs.master.failover_bytes.Sound.{IsSoundInBytes}
 use Rattle.node.specs.master.master_state.declared.config.Config.{Config}
 use Rattle.node.specs.master.master_state.Data.{MasterData}
-use Rattle.node.specs.master.master_state.Log.{log_of}
+use Rattle.node.specs.master.master_state.Log.{log_of, opening_of}
 use Rattle.node.specs.recovery.Orders.{Covers, NamesGroups}
 use Rattle.node.specs.replay.rebuilding.declared.order.GroupOrder.{GroupOrder}
 use Rattle.tablet_will.specs.declared.part.Part.{Part}
-use Rattle.node.specs.recovery.Recovered.{Shows, IsRecovered, IsRebuiltFrom, IsRefusedFrom, IsLossOrMemory, IsSomeLoss}
-use Rattle.node.specs.recovery.Recovered.{IsSomePrefix, IsWant}
+use Rattle.node.specs.recovery.Headline.{IsLoss, IsMapAfter, IsNoMemory}
+use Rattle.node.specs.recovery.Recovered.{Shows, IsRecovered, IsRebuiltFrom, IsRefusedFrom, IsSomeLoss, IsSomePrefix}
 use Rattle.node.specs.recovery.recovery_plan.Planned.{IsPlanFault, NamesLoss}
 use Rattle.node.specs.recovery.declared.recovery.RecoveryFault.{RecoveryFault}
 use Rattle.node.specs.recovery.declared.recovery.RecoveryFault.TheVariants as fault
@@ -55,22 +57,20 @@ shows_left hs d l f master number of shown h of_master =
 
 pub table_told : (d : MasterData) (node : Node) (config : Config) (at : Position) (r : Rebuilt)
     → IsNodeAt node config d at
-    → ((count : ℕ) × IsRecovered (log_of d) count r) → IsRecoveredAt (life_of d) at r
+    → IsRecovered (log_of d) r → IsRecoveredAt (life_of d) at r
 table_told d node config at r s found =
     let kept = s.acknowledged in
     let made = s.made in
-    let durable = found.1.durable in
-    let within = found.1.within in (
-      found.0,
-      omega arith,
-      omega arith,
-      record {
-        within = found.1.within;
-        exactly = found.1.exactly;
-        order = found.1.order;
-        safe = found.1.safe;
-      },
-    )
+    let holds = found.holds in
+    let all : take at.made d.history ≡ d.history = take_all at.made d.history (omega arith) in
+    subst (λ (rs : List Record). IsMapAfter (opening_of d) rs at.acknowledged r) (sym all) (record {
+      count = found.count;
+      holds = omega arith;
+      within = found.within;
+      exactly = found.exactly;
+      once = found.once;
+      safe = found.safe;
+    })
 
 -- ---- homes
 
@@ -160,9 +160,9 @@ module _ (node : Node) (fleet : MemoryFleet) (config : Config) (d : MasterData) 
         )
 
     -- what is named is lost to these backups
-    loss_named : (e : RecoveryFault) (will : List Part) (order : GroupOrder) → IsLossOrMemory e
+    loss_named : (e : RecoveryFault) (will : List Part) (order : GroupOrder) → IsLoss e ⊎ IsNoMemory e
         → IsRefusedFrom hs least master will order e
-        → IsWant e ⊎ NamesLossOf config left.0 e
+        → IsNoMemory e ⊎ NamesLossOf config left.0 e
     loss_named (fault.Plan loss) will order is from = inr (
       hs,
       held_of_left config d left.0 (fleet_state fleet) hs s.configured left.2 shown,
@@ -171,7 +171,8 @@ module _ (node : Node) (fleet : MemoryFleet) (config : Config) (d : MasterData) 
       subst (λ (n : ℕ). NamesLoss hs left.0.shown.least n loss) (sym number)
           (subst (λ (n : ℕ). NamesLoss hs n master loss) (sym same_least) from.1),
     )
-    loss_named (fault.Replay refused) will order is from = inl is
+    loss_named (fault.Replay refused) will order (inl none) from = absurd none
+    loss_named (fault.Replay refused) will order (inr want) from = inl want
 
     pub loss_told : (e : RecoveryFault) (will : List Part) (order : GroupOrder)
         → IsSomeLoss hs least master will order e

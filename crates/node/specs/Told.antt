@@ -1,11 +1,8 @@
 -- What the lines of a script tell of a master's life.
-use Rattle.std.specs.Prelude.{◌≡◌, ◌⊎◌, ◌↔◌, ℕ, suc, ◌<◌, ◌≤◌, List, ◌∷◌, map, take, length, Bool, true, false}
+use Rattle.std.specs.Prelude.{◌≡◌, ◌⊎◌, ◌↔◌, ℕ, suc, ◌<◌, ◌≤◌, List, ◌∷◌, map, Bool, true, false}
 use Rattle.std.specs.Prelude.{Option, Some, None, Result, Ok, Err, slice_get}
-use Rattle.std.specs.List.Sorted.{IsStrictlySortedBy}
 use Rattle.std.specs.Option.{option_map}
-use Rattle.entry.specs.declared.entry.Object.{Object}
 use Rattle.entry.specs.Meaning.{IsMeaning, among, contents_of}
-use Rattle.entry.specs.Order.{key_cmp}
 use Rattle.entry.specs.Text.{text_of}
 use Rattle.lines.specs.Grammar.{LineValue, Idle, Put, New, Cas, Get, Del, Compact, Roll, BeginRoll, Push, Log, Room}
 use Rattle.lines.specs.Grammar.{Hex, Stop, Fault, Crash, Lose, Will, Recover, Holdings, Clean, Begin, Copy, Seal, Free}
@@ -24,7 +21,7 @@ use Rattle.versioned_map.specs.declared.command.Command.TheVariants as command
 use Rattle.versioned_map.specs.declared.command.If.TheVariants.{Any, Absent, Version}
 use Rattle.versioned_map.specs.declared.command.Reply.{Reply}
 use Rattle.versioned_map.specs.History.{commands_of}
-use Rattle.versioned_map.specs.Versioned.{after, IsSafeAfter}
+use Rattle.versioned_map.specs.Versioned.{after}
 use Rattle.store_clients.specs.master.master_state.declared.config.Config.{Config}
 use Rattle.store_clients.specs.master.master_state.declared.step.Refusal.{Refusal}
 use Rattle.store_clients.specs.master.master_state.declared.step.Refusal.TheVariants as refusal
@@ -42,7 +39,7 @@ use Rattle.store_clients.specs.master.master_state.Log.{image_of}
 use Rattle.answers.specs.claims.declared.rebuilt.Rebuilt.{Rebuilt}
 use Rattle.answers.specs.recovery.declared.recovery.RecoveryFault.{RecoveryFault}
 use Rattle.answers.specs.recovery.declared.recovery.RecoveryFault.TheVariants as recovery_fault
-use Rattle.answers.specs.recovery.Recovered.{IsLossOrMemory, IsWant}
+use Rattle.answers.specs.recovery.Headline.{IsLoss, IsMapAfter, IsNoMemory}
 use Rattle.answers.specs.recovery_plan.Planned.{IsPlanFault, NamesLoss}
 use Rattle.answers.specs.declared.answer.Answer.{Answer}
 use Rattle.answers.specs.declared.answer.Answer.TheVariants as answer
@@ -222,18 +219,9 @@ IsImageAt config life segment image = (d : MasterData) × (f : FleetState) × Ha
 
 -- ---- recovered tables
 
--- The objects are those of the versioned map after this many records, sorted by table and then by key bytes. The safe
--- version is above each version that a key had until then.
-pub record IsTableAfter (life : Life) (count : ℕ) (r : Rebuilt) : Type 0 where
-  pub within : count ≤ length life.history
-  pub exactly : contents_of r.objects ≡ (after life.opening (take count (commands_of life.history))).contents
-  pub order : IsStrictlySortedBy key_cmp (map (λ (o : Object). o.key) r.objects)
-  pub safe : IsSafeAfter life.opening (take count (commands_of life.history)) r.safe
-
--- the table is that after a prefix of the lines' records, and the prefix has each acknowledged one
+-- the table is the map after a prefix of the commands that the lines have made, and the prefix has each acknowledged one
 abbrev pub IsRecoveredAt : Life → Position → Rebuilt → Type 0
-IsRecoveredAt life at r =
-    (count : ℕ) × (at.acknowledged ≤ count) × (count ≤ at.made) × IsTableAfter life count r
+IsRecoveredAt life at r = IsMapAfter life.opening (life_to life at.made).history at.acknowledged r
 
 -- the objects are those of a log that is chosen from what the backups still hold
 abbrev pub IsOfLeft : Config → Left → Rebuilt → Type 0
@@ -278,8 +266,8 @@ NamesLossOf config l (recovery_fault.Replay refused) = ⊥
 
 -- what the refusal names is lost, or memory ran out; if the backups that are left have head and segments, memory did
 abbrev pub IsLossOf : Config → Left → RecoveryFault → Type 0
-IsLossOf config l e = IsLossOrMemory e × (IsWant e ⊎ NamesLossOf config l e)
-    × (BothSurvive (IsHomeOf l) l.opened l.shown config.master (is_left l.lost) → IsWant e)
+IsLossOf config l e = (IsLoss e ⊎ IsNoMemory e) × (IsNoMemory e ⊎ NamesLossOf config l e)
+    × (BothSurvive (IsHomeOf l) l.opened l.shown config.master (is_left l.lost) → IsNoMemory e)
 
 -- ---- lines
 

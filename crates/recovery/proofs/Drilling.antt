@@ -1,6 +1,6 @@
 -- A run keeps the configuration, and so a drill recovers the master that it stopped.
 use Rattle.std.proofs.Common.{◌≡◌, ℕ, List, [], ◌∷◌, inl, inr, sym, ap, subst, ◌∙◌}
-use Rattle.std.specs.Prelude.{◌↔◌, Result, Ok, Err, IfOk, IfErr}
+use Rattle.std.specs.Prelude.{◌↔◌, ◌⊎◌, Result, Ok, Err, IfOk, IfErr}
 use Rattle.entry.specs.Bag.{IsAmong}
 use Rattle.tablet_will.specs.declared.part.Part.{Part}
 use Rattle.claims.specs.declared.rebuilt.Rebuilt.{Rebuilt}
@@ -23,8 +23,8 @@ use Rattle.rebuilding.specs.declared.order.GroupOrder.{GroupOrder}
 use Rattle.recovery.specs.Orders.{Covers, NamesHeld}
 use Rattle.recovery.specs.Drilled.{IsDrill, IsOfHeld}
 use Rattle.recovery.specs.Kept.{is_kept}
-use Rattle.recovery.specs.Recovered.{IsRecovered, IsLossOrMemory, IsWant, IsRebuiltFrom, IsRefusedFrom, IsSomeLoss}
-use Rattle.recovery.specs.Recovered.{IsSomePrefix}
+use Rattle.recovery.specs.Headline.{IsLoss, IsNoMemory}
+use Rattle.recovery.specs.Recovered.{IsRecovered, IsRebuiltFrom, IsRefusedFrom, IsSomeLoss, IsSomePrefix}
 
 pub run_keeps : (old new : World) (steps : List Step) (answers : List (Result StepAnswer Refusal))
     → IsRun old steps answers new
@@ -78,7 +78,7 @@ module _ (start stop : World) (steps : List Step) (kept : List ℕ) (will : List
     asked (Err e) other is = inr (hs, shown, is)
 
     pub prefix : (r : Result Rebuilt RecoveryFault) → IfOk r (IsSomePrefix hs least start.knows.config.master)
-        → IfOk r (λ b. (count : ℕ) × IsRecovered (log_of stop.knows) count b)
+        → IfOk r (IsRecovered (log_of stop.knows))
     prefix (Ok b) is =
         is (log_of stop.knows) shown_last (is_kept kept) sound_left of_master old (λ h of. shown h)
     prefix (Err e) is = tt
@@ -86,9 +86,9 @@ module _ (start stop : World) (steps : List Step) (kept : List ℕ) (will : List
     pub loss : (r : Result Rebuilt RecoveryFault) → IfErr r (IsSomeLoss hs least start.knows.config.master will order)
         → Covers start.knows.config.tablets will
         → NamesHeld (survivors (is_kept kept) shown_first) start.knows.config.master will order
-        → IfErr r (λ e. IsLossOrMemory e
+        → IfErr r (λ e. (IsLoss e ⊎ IsNoMemory e)
         × (BothSurvive (IsHome (log_of stop.knows)) (newest_opened (log_of stop.knows)) shown_last
-        stop.knows.config.master (is_kept kept) → IsWant e))
+        stop.knows.config.master (is_kept kept) → IsNoMemory e))
     loss (Ok b) is covers names = tt
     loss (Err e) is covers names =
         let lost = is (log_of stop.knows) shown_last (is_kept kept) (newest_opened (log_of stop.knows)) sound_left
@@ -117,14 +117,13 @@ module _ (start stop : World) (steps : List Step) (kept : List ℕ) (will : List
     }
 
   -- if memory for an inventory ran out, nothing is named as lost
-  pub drilled_without : (e : RecoveryFault) → IsLossOrMemory e → IsWant e
-      → IsDrill start steps kept will order answers (Err e) left
-  drilled_without e is want = record {
+  pub drilled_without : (e : RecoveryFault) → IsNoMemory e → IsDrill start steps kept will order answers (Err e) left
+  drilled_without e want = record {
     stop = stop;
     run = ran;
     fleet = same;
     valid = valid;
     asked = inl want;
     prefix = tt;
-    loss = λ covers names. (is, λ both. want);
+    loss = λ covers names. (inr want, λ both. want);
   }

@@ -3,9 +3,7 @@ use Rattle.std.proofs.Common.{◌≡◌, ℕ, ◌<◌, ◌≤◌, Bool, true, fa
 use Rattle.std.specs.Prelude.{◌↔◌, ◌⊎◌, Some, None, if◌then◌else◌, Result, Ok, Err, IfOk, IfErr}
 use Rattle.entry.specs.declared.key.Key.{Key}
 use Rattle.tablet_will.specs.declared.part.Part.{Part}
-use Rattle.claims.specs.declared.fault.ReplayFault.TheVariants as replay_fault
 use Rattle.claims.specs.declared.rebuilt.Rebuilt.{Rebuilt}
-use Rattle.recovery_plan.specs.declared.fault.PlanFault.TheVariants as plan_fault
 use Rattle.entry.specs.Meaning.{contents_of}
 use Rattle.replica.specs.Picture.{FleetState, Shown, shown_of, survivors}
 use Rattle.replica.specs.Survival.{BothSurvive}
@@ -30,13 +28,12 @@ use Rattle.replay.specs.master.Survive.{lost}
 use Rattle.replay.specs.master.Valid.{IsValid}
 use Rattle.replay.specs.master.World.{World}
 use Rattle.recovery.specs.declared.recovery.RecoveryFault.{RecoveryFault}
-use Rattle.recovery.specs.declared.recovery.RecoveryFault.TheVariants as fault
 use Rattle.recovery.specs.Headline.{Asked, Headline, IsEmpty, IsLoss, IsMapAfter, IsNoMemory, IsWholeOrder, MakeOf, records_of}
 use Rattle.recovery.specs.Headline.{EndDone, IsDonePush}
 use Rattle.recovery.specs.Seen.{seen}
 use Rattle.recovery.specs.Kept.{is_kept}
 use Rattle.recovery.specs.Orders.{Covers, NamesHeld}
-use Rattle.recovery.specs.Recovered.{IsRecovered, IsLossOrMemory, IsWant}
+use Rattle.recovery.specs.Recovered.{IsRecovered}
 use Rattle.recovery.proofs.Counting.{orders_name}
 use Rattle.recovery.proofs.Drilling.{run_keeps}
 use Rattle.recovery.proofs.Takings.{led_all, made_all}
@@ -78,24 +75,7 @@ at_end old new (s ∷ t ∷ ss) (a ∷ b ∷ rest) run ends = at_end run.0 new (
 at_end old new [] answers run ends = absurd ends
 at_end old new (s ∷ ss) [] run ends = absurd run
 
--- ---- refusals
-
--- a loss or want of memory, in the headline's words
-loss_or : (e : RecoveryFault) → IsLossOrMemory e → IsLoss e ⊎ IsNoMemory e
-loss_or (fault.Plan plan_fault.NoHead) is = inl tt
-loss_or (fault.Plan (plan_fault.HeadTooOld id)) is = inl tt
-loss_or (fault.Plan (plan_fault.HeadClosed id)) is = inl tt
-loss_or (fault.Plan (plan_fault.Missing id)) is = inl tt
-loss_or (fault.Plan (plan_fault.BadReplica b id)) is = absurd is
-loss_or (fault.Plan plan_fault.NoMemory) is = inr tt
-loss_or (fault.Replay replay_fault.NoMemory) is = inr tt
-loss_or (fault.Replay _) is = absurd is
-
-want : (e : RecoveryFault) → IsWant e → IsNoMemory e
-want (fault.Plan plan_fault.NoMemory) is = tt
-want (fault.Plan _) is = absurd is
-want (fault.Replay replay_fault.NoMemory) is = tt
-want (fault.Replay _) is = absurd is
+-- ---- orders
 
 -- a whole order names each group of whatever is shown
 names_held : (order : GroupOrder) → IsWholeOrder order → (shown : Shown) (master : ℕ) (will : List Part)
@@ -117,19 +97,17 @@ module _ (start stop : World) (steps : List Step) (kept : List ℕ) (will : List
       (origin_keeps start stop steps answers ran)
 
   abbrev Loss : RecoveryFault → Type 0
-  Loss e = IsLossOrMemory e × (
+  Loss e = (IsLoss e ⊎ IsNoMemory e) × (
       BothSurvive (IsHome (log_of stop.knows)) (newest_opened (log_of stop.knows))
-      (shown_of left stop.knows.config.master) stop.knows.config.master (is_kept kept) → IsWant e)
+      (shown_of left stop.knows.config.master) stop.knows.config.master (is_kept kept) → IsNoMemory e)
 
   -- a sound drill has the headline
   pub headline : (r : Result Rebuilt RecoveryFault)
-      → IfOk r (λ b. (count : ℕ) × IsRecovered (log_of stop.knows) count b)
+      → IfOk r (IsRecovered (log_of stop.knows))
       → (Covers start.knows.config.tablets will
       → NamesHeld (survivors (is_kept kept) (shown_of left start.knows.config.master)) start.knows.config.master will
       order
-      → IfErr r (λ e. IsLossOrMemory e × (
-      BothSurvive (IsHome (log_of stop.knows)) (newest_opened (log_of stop.knows))
-      (shown_of left stop.knows.config.master) stop.knows.config.master (is_kept kept) → IsWant e)))
+      → IfErr r Loss)
       → Headline (seen start) steps answers durable pushes left (is_kept kept) will order r
   headline r prefix loss = record {
     history = stop.knows.history;
@@ -147,23 +125,16 @@ module _ (start stop : World) (steps : List Step) (kept : List ℕ) (will : List
     asked = led_all start stop steps answers ran
 
     rebuilds : (r : Result Rebuilt RecoveryFault)
-        → IfOk r (λ b. (count : ℕ) × IsRecovered (log_of stop.knows) count b)
+        → IfOk r (IsRecovered (log_of stop.knows))
         → IfOk r (IsMapAfter (opening_of start.knows) stop.knows.history durable)
     rebuilds (Err e) is = tt
     rebuilds (Ok b) is =
-        let whole = is.1 in
-        subst (λ (st : State). IsMapAfter st stop.knows.history durable b) opening_is (record {
-          count = is.0;
-          holds = subst (λ (n : ℕ). n ≤ is.0) (sym told) whole.durable;
-          within = whole.within;
-          exactly = whole.exactly;
-          once = whole.order;
-          safe = whole.safe;
-        })
+        subst (λ (st : State). IsMapAfter st stop.knows.history durable b) opening_is
+        (subst (λ (n : ℕ). IsMapAfter (opening_of stop.knows) stop.knows.history n b) (sym told) is)
 
     refuses : (r : Result Rebuilt RecoveryFault) → IfErr r Loss → IfErr r (λ e. IsLoss e ⊎ IsNoMemory e)
     refuses (Ok b) is = tt
-    refuses (Err e) is = loss_or e is.0
+    refuses (Err e) is = is.0
 
     never : pushes ≡ 0 → length (lost (is_kept kept) start.knows.config.backups) < start.knows.config.replicas
         → (r : Result Rebuilt RecoveryFault) → IfErr r Loss
@@ -173,7 +144,7 @@ module _ (start stop : World) (steps : List Step) (kept : List ℕ) (will : List
         elim (valid.survive (is_kept kept) (calm.1 none)
         (subst (λ (c : Config). length (lost (is_kept kept) c.backups) < c.replicas) (sym config_is) few))
         as (λ _. IsNoMemory e ⊎ IsEmpty (after (opening_of start.knows) (commands_of stop.knows.history))) [
-          | inl both ↦ inl (want e (is.1 both))
+          | inl both ↦ inl (is.1 both)
           | inr empty ↦ inr
               (subst (λ (st : State). IsEmpty (after st (commands_of stop.knows.history))) opening_is empty)
         ]

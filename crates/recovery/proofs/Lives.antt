@@ -90,13 +90,13 @@ module _ (k : Key) (x : Versioned) where
   in_life st (c ∷ cs) (suc a) (suc b) le h = in_life (after_command st c) cs a b (omega arith) h
 
   -- what was recovered follows
-  recovered_follows : (d : FailData) (count : ℕ) (r : Rebuilt) → IsRecovered d count r → x.version < r.safe
-      → Follows (state_after d count) → Follows (taken_over r)
-  recovered_follows d count r is lt f =
-      subst (λ (c : Contents). FollowsIn r.safe x (c k)) (sym is.exactly)
-      (handed ((state_after d count).contents k) f)
+  recovered_follows : (d : FailData) (r : Rebuilt) (found : IsRecovered d r) → x.version < r.safe
+      → Follows (state_after d found.count) → Follows (taken_over r)
+  recovered_follows d r found lt f =
+      subst (λ (c : Contents). FollowsIn r.safe x (c k)) (sym found.exactly)
+      (handed ((state_after d found.count).contents k) f)
     where
-      handed : (o : Option Versioned) → FollowsIn (state_after d count).safe x o → FollowsIn r.safe x o
+      handed : (o : Option Versioned) → FollowsIn (state_after d found.count).safe x o → FollowsIn r.safe x o
       handed None g = lt
       handed (Some y) g = g
 
@@ -117,16 +117,16 @@ module _ (k : Key) (x : Versioned) where
       subst (λ (e : FailData). Follows (state_after e b)) same
       (run_follows l.log.opening (take b (commands_of l.log.history)) later.follows)
   in_later (l ∷ ls) on lives later d (inr among) b =
-      in_later ls on lives.2 (subst IsLater (sym lives.1) next) d among b
+      in_later ls on lives.1 (subst IsLater (sym lives.0) next) d among b
     where
       lt : x.version < l.recovered.safe
-      lt = let le = lives.0.safe.no_lower in let above = later.safe in omega arith
+      lt = let le = l.found.safe.no_lower in let above = later.safe in omega arith
 
       next : IsLater (taken_over l.recovered)
       next = record {
         follows =
-            recovered_follows l.log l.count l.recovered lives.0 lt
-            (run_follows l.log.opening (take l.count (commands_of l.log.history)) later.follows);
+            recovered_follows l.log l.recovered l.found lt
+            (run_follows l.log.opening (take l.found.count (commands_of l.log.history)) later.follows);
         safe = lt;
       }
 
@@ -150,21 +150,21 @@ followed k x safe o y is f = subst (FollowsIn safe x) is f
 pub versions_rise : VersionsRise
 versions_rise l later on d a b k x y lives among le had_x has_y =
     followed k x (state_after d b).safe ((state_after d b).contents k) y has_y
-    (in_later k x later on lives.2 (subst (IsLater k x) (sym lives.1) next) d among b)
+    (in_later k x later on lives.1 (subst (IsLater k x) (sym lives.0) next) d among b)
   where
     commands : List Command
     commands = commands_of l.log.history
 
-    again : (after l.log.opening (take a (take l.count commands))).contents k ≡ Some x
-    again = ap (λ cs. (after l.log.opening cs).contents k) (take_up_to commands a l.count le) ∙ had_x
+    again : (after l.log.opening (take a (take l.found.count commands))).contents k ≡ Some x
+    again = ap (λ cs. (after l.log.opening cs).contents k) (take_up_to commands a l.found.count le) ∙ had_x
 
     lt : x.version < l.recovered.safe
-    lt = lives.0.safe.above a (taken_length l.log.history a l.count le lives.0.within) k x again
+    lt = l.found.safe.above a (taken_length l.log.history a l.found.count le l.found.within) k x again
 
     next : IsLater k x (taken_over l.recovered)
     next = record {
       follows =
-          recovered_follows k x l.log l.count l.recovered lives.0 lt
-          (in_life k x l.log.opening commands a l.count le had_x);
+          recovered_follows k x l.log l.recovered l.found lt
+          (in_life k x l.log.opening commands a l.found.count le had_x);
       safe = lt;
     }

@@ -51,13 +51,13 @@ module _ (k : Key) where
   -- a life that begins later, after lives that leave the key alone
   later_has : (l : Life) (between later : List Life) (on : FailData) → AreLives (l ∷ (between ++ later)) on
       → ((n : Life) → IsAmong n between → AllSpare k (recovered_of n))
-      → (first_log later on).opening.contents k ≡ (state_after l.log l.count).contents k
+      → (first_log later on).opening.contents k ≡ (state_after l.log l.found.count).contents k
   later_has l [] later on lives spare =
-      ap (λ (st : State). st.contents k) lives.1 ∙ ap (λ c. c k) lives.0.exactly
+      ap (λ (st : State). st.contents k) lives.0 ∙ ap (λ c. c k) l.found.exactly
   later_has l (n ∷ between) later on lives spare =
-      later_has n between later on lives.2 (λ p among. spare p (inr among))
+      later_has n between later on lives.1 (λ p among. spare p (inr among))
       ∙ run_spares n.log.opening (recovered_of n) (spare n (inl refl))
-      ∙ ap (λ (st : State). st.contents k) lives.1 ∙ ap (λ c. c k) lives.0.exactly
+      ∙ ap (λ (st : State). st.contents k) lives.0 ∙ ap (λ c. c k) l.found.exactly
 
 take_within : (cs : List Command) (a b : ℕ) → a ≤ b → take a (take b cs) ≡ take a cs
 take_within cs zero b le = refl
@@ -70,4 +70,4 @@ acknowledged_outlive l between later on a b k lives le spare_l spare_between spa
     run_spares k (first_log later on).opening (take b (commands_of (first_log later on).history)) spare_later
     ∙ later_has k l between later on lives spare_between
     ∙ rest_spares k l.log.opening (recovered_of l) a spare_l
-    ∙ ap (λ cs. (after l.log.opening cs).contents k) (take_within (commands_of l.log.history) a l.count le)
+    ∙ ap (λ cs. (after l.log.opening cs).contents k) (take_within (commands_of l.log.history) a l.found.count le)

@@ -1,6 +1,6 @@
 -- What is recovered of a sound state, and what a refusal means.
-use Rattle.std.proofs.Common.{◌≡◌, ℕ, max, inl, Bool, List, ◌∷◌, refl, sym, ap, subst, ◌∙◌, take}
-use Rattle.std.specs.Prelude.{Option}
+use Rattle.std.proofs.Common.{◌≡◌, ℕ, max, inl, inr, Bool, List, ◌∷◌, refl, sym, ap, subst, ◌∙◌, take}
+use Rattle.std.specs.Prelude.{Option, ◌⊎◌}
 use Rattle.entry.specs.Bag.{IsAmong}
 use Rattle.entry.specs.Key.{place_of}
 use Rattle.entry.specs.Meaning.{IsMeaning, IsClean, among, bound_of, contents_of}
@@ -28,8 +28,8 @@ use Rattle.replay.specs.master.failover_bytes.Choice.{Counts, IsNewestCounted}
 use Rattle.replay.specs.master.failover_bytes.Sound.{IsSoundInBytes}
 use Rattle.versioned_map.specs.Versioned.{IsSafeAfter}
 use Rattle.versioned_map.proofs.Meanings.{one_contents}
-use Rattle.recovery.specs.Recovered.{Shows, IsRebuiltFrom, IsPlanLoss, IsPlanWant, IsReplayWant, IsSomeLoss}
-use Rattle.recovery.specs.Recovered.{IsSomePrefix}
+use Rattle.recovery.specs.Headline.{IsLoss, IsNoMemory}
+use Rattle.recovery.specs.Recovered.{Shows, IsRebuiltFrom, IsSomeLoss, IsSomePrefix}
 use Rattle.recovery.specs.declared.recovery.RecoveryFault.TheVariants as fault
 use Rattle.rebuilding.specs.declared.order.GroupOrder.{GroupOrder}
 use Rattle.rebuilding.specs.Orders.{order_for}
@@ -49,18 +49,16 @@ rebuilt-prefix hs least m c plan r planned rebuilt d shown keep sound is old sho
     subst (λ es. IsMeaning (among es) (contents_of r.objects)) bag rebuilt.meaning in
     let safe : r.safe ≡ max c.opening.safe (bound_of (bag_of c)) =
     rebuilt.safe ∙ ap (λ n. max n (bound_of (segments_bag plan.segments))) planned.safe
-    ∙ ap (λ es. max c.opening.safe (bound_of es)) bag in (
-      found.0,
-      record {
-        durable = prefix.durable;
-        within = prefix.within;
-        exactly =
-            one_contents (among (bag_of c)) (contents_of r.objects) (state_after d found.0).contents meaning
-            prefix.meaning;
-        order = rebuilt.order;
-        safe = subst (IsSafeAfter (d.opening) (take found.0 (commands_of d.history))) (sym safe) prefix.safe;
-      },
-    )
+    ∙ ap (λ es. max c.opening.safe (bound_of es)) bag in record {
+      count = found.0;
+      holds = prefix.durable;
+      within = prefix.within;
+      exactly =
+          one_contents (among (bag_of c)) (contents_of r.objects) (state_after d found.0).contents meaning
+          prefix.meaning;
+      once = rebuilt.order;
+      safe = subst (IsSafeAfter (d.opening) (take found.0 (commands_of d.history))) (sym safe) prefix.safe;
+    }
 
 -- what a plan of the inventory gives, by the will and the order, is what the inventory gives
 pub rebuilt-from : (hs : List Holding) (least m : ℕ) (will : List Part) (order : GroupOrder) (plan : Plan) (r : Rebuilt)
@@ -98,14 +96,15 @@ module _ (hs : List Holding) (least m : ℕ) (d : FailData) (shown : Shown) (kee
         none some.0 (shown-choice hs least m shown keep old shows some.0 some.1)
 
     pub plan-loss : (e : PlanFault) → IsPlanFault hs least m e → NamesLoss hs least m e →
-        IsPlanLoss e × (BothSurvive (IsHome d) opened shown m keep → IsPlanWant e)
-    plan-loss plan_fault.NoHead says loss = (tt, λ both. absurd (not-both loss both))
-    plan-loss (plan_fault.HeadTooOld id) says loss = (tt, λ both. absurd (not-both loss both))
-    plan-loss (plan_fault.HeadClosed id) says loss = (tt, λ both. absurd (not-both loss both))
+        (IsLoss (fault.Plan e) ⊎ IsNoMemory (fault.Plan e))
+        × (BothSurvive (IsHome d) opened shown m keep → IsNoMemory (fault.Plan e))
+    plan-loss plan_fault.NoHead says loss = (inl tt, λ both. absurd (not-both loss both))
+    plan-loss (plan_fault.HeadTooOld id) says loss = (inl tt, λ both. absurd (not-both loss both))
+    plan-loss (plan_fault.HeadClosed id) says loss = (inl tt, λ both. absurd (not-both loss both))
     plan-loss (plan_fault.Missing id) says loss =
-        (tt, λ both. absurd (not-both (loss.2 (shown-agree hs least m shown keep old shows d sound)) both))
+        (inl tt, λ both. absurd (not-both (loss.2 (shown-agree hs least m shown keep old shows d sound)) both))
     plan-loss (plan_fault.BadReplica backup id) says loss = absurd (none-bad backup id says)
-    plan-loss plan_fault.NoMemory says loss = (tt, λ both. tt)
+    plan-loss plan_fault.NoMemory says loss = (inr tt, λ both. tt)
 
   -- the log that was chosen can be rebuilt, by a will that covers the tablets and an order that names its groups once
   pub rebuildable : (will : List Part) (order : GroupOrder) (c : Choice) (plan : Plan) → IsPlanOf hs least m c plan
@@ -123,8 +122,8 @@ module _ (hs : List Holding) (least m : ℕ) (d : FailData) (shown : Shown) (kee
         whole = names plan (c, planned);
       }
 
-memory-want : (e : ReplayFault) → e ≡ replay_fault.NoMemory → IsReplayWant e
-memory-want e is = subst IsReplayWant (sym is) tt
+memory-want : (e : ReplayFault) → e ≡ replay_fault.NoMemory → IsNoMemory (fault.Replay e)
+memory-want e is = subst (λ (x : ReplayFault). IsNoMemory (fault.Replay x)) (sym is) tt
 
 pub refused-plan : (hs : List Holding) (least m : ℕ) (will : List Part) (order : GroupOrder) (e : PlanFault)
     → IsPlanFault hs least m e → NamesLoss hs least m e → IsSomeLoss hs least m will order (fault.Plan e)
@@ -137,4 +136,4 @@ pub refused-replay : (hs : List Holding) (least m : ℕ) (will : List Part) (ord
     → IsSomeLoss hs least m will order (fault.Replay e)
 refused-replay hs least m will order c plan e planned whole d shown keep _ sound _ is old shows covers names =
     let can = rebuildable hs least m d shown keep sound old shows will order c plan planned covers names in
-    let want = memory-want e (whole can) in (want, λ both. want)
+    let want = memory-want e (whole can) in (inr want, λ both. want)

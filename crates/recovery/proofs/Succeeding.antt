@@ -195,7 +195,7 @@ pub drilled_are_lives : DrilledAreLives
 drilled_are_lives start [] [] last are steps answers now run = tt
 drilled_are_lives start [] (l ∷ ls) last are steps answers now run = absurd are
 drilled_are_lives start (c ∷ cs) [] last are steps answers now run = absurd are
-drilled_are_lives start (c ∷ []) (l ∷ []) last are steps answers now run = (are.1.drill.prefix.1, opening, tt)
+drilled_are_lives start (c ∷ []) (l ∷ []) last are steps answers now run = (opening, tt)
   where
     opening : opening_of now.knows ≡ taken_over l.recovered
     opening =
@@ -204,7 +204,6 @@ drilled_are_lives start (c ∷ []) (l ∷ []) last are steps answers now run = (
 drilled_are_lives start (c ∷ []) (l ∷ k ∷ ls) last are steps answers now run = absurd are.2
 drilled_are_lives start (c ∷ d ∷ cs) (l ∷ []) last are steps answers now run = absurd are.2
 drilled_are_lives start (c ∷ d ∷ cs) (l ∷ k ∷ ls) last are steps answers now run = (
-  are.1.drill.prefix.1,
   opening,
   drilled_are_lives are.0 (d ∷ cs) (k ∷ ls) last are.2 steps answers now run,
 )

@@ -16,15 +16,16 @@ use Rattle.replay.specs.master.Valid.{IsValid}
 use Rattle.replay.specs.master.World.{World}
 use Rattle.recovery.specs.declared.recovery.RecoveryFault.{RecoveryFault}
 use Rattle.rebuilding.specs.declared.order.GroupOrder.{GroupOrder}
+use Rattle.recovery.specs.Headline.{IsLoss, IsNoMemory}
 use Rattle.recovery.specs.Kept.{is_kept}
 use Rattle.recovery.specs.Orders.{Covers, NamesHeld}
-use Rattle.recovery.specs.Recovered.{IsRecovered, IsLossOrMemory, IsWant, IsRebuiltFrom, IsRefusedFrom}
+use Rattle.recovery.specs.Recovered.{IsRecovered, IsRebuiltFrom, IsRefusedFrom}
 
 -- What comes back, or the fault, follows from what is shown, however it is listed. Or memory ran out.
 abbrev pub IsOfHeld : Shown → ℕ → List Part → GroupOrder → Result Rebuilt RecoveryFault → Type 0
 IsOfHeld shown master will order (Ok r) = (inventory : List Holding) × AreHeld inventory shown.holds
     × IsRebuiltFrom inventory shown.least master will order r
-IsOfHeld shown master will order (Err e) = IsWant e ⊎ ((inventory : List Holding) × AreHeld inventory shown.holds
+IsOfHeld shown master will order (Err e) = IsNoMemory e ⊎ ((inventory : List Holding) × AreHeld inventory shown.holds
     × IsRefusedFrom inventory shown.least master will order e)
 
 -- The steps were taken from this start, and left this fleet. Whichever backups are kept, and however segments are
@@ -40,14 +41,14 @@ pub record IsDrill (start : World) (steps : List Step) (kept : List ℕ) (will :
   pub valid : IsValid stop.knows left
   pub asked : IsOfHeld (survivors (is_kept kept) (shown_of left start.knows.config.master))
       start.knows.config.master will order recovered
-  pub prefix : IfOk recovered (λ r. (count : ℕ) × IsRecovered (log_of stop.knows) count r)
+  pub prefix : IfOk recovered (IsRecovered (log_of stop.knows))
   pub loss : Covers start.knows.config.tablets will
       → NamesHeld (survivors (is_kept kept) (shown_of left start.knows.config.master))
       start.knows.config.master will order
-      → IfErr recovered (λ e. IsLossOrMemory e × (
+      → IfErr recovered (λ e. (IsLoss e ⊎ IsNoMemory e) × (
       BothSurvive (IsHome (log_of stop.knows)) (newest_opened (log_of stop.knows))
       (shown_of left stop.knows.config.master) stop.knows.config.master (is_kept kept)
-      → IsWant e))
+      → IsNoMemory e))
 
 -- The master told its durable count, and how many pushes an open failover still needed, as it stopped.
 pub record IsTold (start : World) (steps : List Step) (answers : List (Result StepAnswer Refusal)) (durable pushes : ℕ)

@@ -1,6 +1,7 @@
 pub mod Kept
 pub mod Orders
 pub mod Recovered
+pub mod AnyRecovery
 pub mod Lives
 pub mod Texts
 pub mod Drilled

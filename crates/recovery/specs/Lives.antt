@@ -11,11 +11,11 @@ use Rattle.versioned_map.specs.Versioned.{State}
 use Rattle.replay.specs.master.failover_model.Data.{FailData, state_after}
 use Rattle.recovery.specs.Recovered.{IsRecovered}
 
--- a life, and what was recovered at its end, of how many of its records
+-- a life, and what was recovered at its end, which is the map after so many of its commands
 pub record Life : Type 0 where
   pub log : FailData
-  pub count : ℕ
   pub recovered : Rebuilt
+  pub found : IsRecovered log recovered
 
 -- the state that the next life begins with
 abbrev pub taken_over : Rebuilt → State
@@ -35,8 +35,7 @@ logs_of (l ∷ ls) on = l.log ∷ logs_of ls on
 -- log, which goes on.
 abbrev pub AreLives : List Life → FailData → Type 0
 AreLives [] on = Unit {0}
-AreLives (l ∷ ls) on =
-    IsRecovered l.log l.count l.recovered × ((first_log ls on).opening ≡ taken_over l.recovered) × AreLives ls on
+AreLives (l ∷ ls) on = ((first_log ls on).opening ≡ taken_over l.recovered) × AreLives ls on
 
 -- the same version and value, or a greater version
 abbrev pub IsSameOrNewer : Versioned → Versioned → Type 0
@@ -55,7 +54,7 @@ AllSpare k cs = (c : Command) → IsAmong c cs → Spares k c
 
 -- the commands of a life that were recovered
 abbrev pub recovered_of : Life → List Command
-recovered_of l = take l.count (commands_of l.log.history)
+recovered_of l = take l.found.count (commands_of l.log.history)
 
 -- ---- laws
 
@@ -65,7 +64,7 @@ recovered_of l = take l.count (commands_of l.log.history)
 abbrev pub VersionsRise : Type 0
 VersionsRise = (l : Life) (later : List Life) (on d : FailData) (a b : ℕ) (k : Key) (x y : Versioned)
     → AreLives (l ∷ later) on → IsAmong d (logs_of later on)
-    → a ≤ l.count → (state_after l.log a).contents k ≡ Some x
+    → a ≤ l.found.count → (state_after l.log a).contents k ≡ Some x
     → (state_after d b).contents k ≡ Some y → IsSameOrNewer x y
 
 -- What a key has after records that were recovered, the acknowledged ones among them, it has in each later life too, up
@@ -73,7 +72,7 @@ VersionsRise = (l : Life) (later : List Life) (on d : FailData) (a b : ℕ) (k :
 -- life itself.
 abbrev pub AcknowledgedOutlive : Type 0
 AcknowledgedOutlive = (l : Life) (between later : List Life) (on : FailData) (a b : ℕ) (k : Key)
-    → AreLives (l ∷ (between ++ later)) on → a ≤ l.count
+    → AreLives (l ∷ (between ++ later)) on → a ≤ l.found.count
     → AllSpare k (drop a (recovered_of l))
     → ((n : Life) → IsAmong n between → AllSpare k (recovered_of n))
     → AllSpare k (take b (commands_of (first_log later on).history))

@@ -110,7 +110,7 @@ pub record AreDrilled {F : Type 0} (state : F → FleetState) (start : World) (c
 -- the log of a life that was lived, and what was recovered of it
 abbrev pub life_of : (start : World) (c : Course) (l : Lived) (next : World) → IsLived start c l next → Life
 life_of start c l next is =
-    record { log = log_of is.drill.stop.knows; count = is.drill.prefix.0; recovered = l.recovered }
+    record { log = log_of is.drill.stop.knows; recovered = l.recovered; found = is.drill.prefix }
 
 abbrev pub lives_of : (start : World) (cs : List Course) (ls : List Lived) (last : World) → AreLived start cs ls last
     → List Life

@@ -1,9 +1,15 @@
 //! Laws about what a recovery gives back.
 
+ghost use Rattle.recovery.specs.AnyRecovery.{AnyRecoveryHasHeadline};
 ghost use Rattle.recovery.specs.Lives.{AcknowledgedOutlive, VersionsRise};
 ghost use Rattle.recovery.specs.Orders.{OrdersNameGroups};
 ghost use Rattle.recovery.specs.Succession.{DrilledAreLives};
 ghost use Rattle.recovery.specs.Recovered.{AcknowledgedAreRecovered};
+
+/// Whichever of `recover` and `recover_threads` follows a run, the headline is true of what it gives.
+pub fn any_recovery_has_headline()
+    ensures { AnyRecoveryHasHeadline }
+{}
 
 /// A recovered prefix holds every acknowledged command.
 pub fn acknowledged_recovered()

@@ -1,18 +1,17 @@
 -- What lines tell of a life, they tell of a longer one.
 use Rattle.std.proofs.Common.{[], ◌≡◌, ℕ, zero, suc, ◌≤◌, List, ◌∷◌, ◌++◌, take, length, refl, sym, ap, subst, inl, inr}
-use Rattle.std.proofs.Common.{◌∙◌, arith}
-use Rattle.std.proofs.lemmas.List.{length-append, take-append-le}
+use Rattle.std.proofs.Common.{arith}
+use Rattle.std.proofs.lemmas.List.{take-append-le}
 use Rattle.std.specs.Prelude.{Option, None, Some, Result, Ok, slice_get}
 use Rattle.lines.specs.Grammar.{LineValue}
-use Rattle.versioned_map.specs.declared.command.Command.{Command}
 use Rattle.versioned_map.specs.declared.command.Record.{Record}
 use Rattle.next_master.specs.master.master_state.declared.config.Config.{Config}
-use Rattle.versioned_map.specs.History.{commands_of}
-use Rattle.versioned_map.specs.Versioned.{State, after as map_after, IsSafeAfter}
+use Rattle.versioned_map.specs.Versioned.{State}
 use Rattle.next_master.specs.recovery.claims.declared.rebuilt.Rebuilt.{Rebuilt}
 use Rattle.next_master.specs.answers.declared.answer.Answer.{Answer}
 use Rattle.next_master.specs.store_clients.Workloads.{AreAccepted}
 use Rattle.next_master.specs.answers.declared.answer.Answer.TheVariants as answer
+use Rattle.next_master.specs.recovery.Headline.{IsMapAfter}
 use Rattle.next_master.specs.node.Counted.{AreCounted}
 use Rattle.next_master.specs.node.Lives.{Life, life_to, Left, IsLeftBy, IsLeftBySpent, Position}
 use Rattle.next_master.specs.master.master_state.declared.step.Refusal.{Refusal}
@@ -30,12 +29,6 @@ slice_get-longer : (xs ys : List Record) (place : ℕ) (r : Record) → slice_ge
 slice_get-longer [] ys place r is = absurd (cc)
 slice_get-longer (x ∷ xs) ys zero r is = is
 slice_get-longer (x ∷ xs) ys (suc place) r is = slice_get-longer xs ys place r is
-
-take-commands : (xs ys : List Record) (count : ℕ) → count ≤ length xs
-    → take count (commands_of (xs ++ ys)) ≡ take count (commands_of xs)
-take-commands xs ys zero within = refl
-take-commands [] ys (suc count) within = absurd (omega arith)
-take-commands (x ∷ xs) ys (suc count) within = ap (λ l. x.command ∷ l) (take-commands xs ys count (omega arith))
 
 -- positions rise
 module _ (config : Config) (life : Life) where
@@ -128,28 +121,16 @@ module _ (config : Config) (opening : State) (history more : List Record) where
       (t.0, t.1, subst (λ (l : Life). IsStepAt config l s a) (same_front at.made within) t.2, t.3)
 
   -- a table that was recovered
-  recovered_longer : (at : Position) (r : Rebuilt) → IsRecoveredAt life at r → IsRecoveredAt longer at r
-  recovered_longer at r found =
-      let table = found.3 in
-      let inside = table.within in
-      let count = length-append history more in
-      let same = sym (take-commands history more found.0 table.within) in (
-        found.0,
-        found.1,
-        found.2,
-        record {
-          within = omega arith;
-          exactly = table.exactly ∙ ap (λ (cs : List Command). (map_after opening cs).contents) same;
-          order = table.order;
-          safe = subst (λ (cs : List Command). IsSafeAfter opening cs r.safe) same table.safe;
-        },
-      )
+  recovered_longer : (at : Position) (r : Rebuilt) → at.made ≤ length history → IsRecoveredAt life at r
+      → IsRecoveredAt longer at r
+  recovered_longer at r within =
+      subst (λ (l : Life). IsMapAfter opening l.history at.acknowledged r) (same_front at.made within)
 
-  unadopted_longer : (at : Position) (line : LineValue) (r : Refusal) (next : Position)
+  unadopted_longer : (at : Position) (line : LineValue) (r : Refusal) (next : Position) → at.made ≤ length history
       → IsUnadopted config life at line r next
       → IsUnadopted config longer at line r next
-  unadopted_longer at line r next (asks, (l, left, table, (found, of_left), new, number, declined), is) =
-      (asks, (l, left, table, (recovered_longer at table found, of_left), new, number, declined), is)
+  unadopted_longer at line r next within (asks, (l, left, table, (found, of_left), new, number, declined), is) =
+      (asks, (l, left, table, (recovered_longer at table within found, of_left), new, number, declined), is)
 
   -- the records of clients
   counted_longer : (at : Position) (clients rounds calls : ℕ) (next : Position) → at.made ≤ length history
@@ -210,7 +191,7 @@ module _ (config : Config) (opening : State) (history more : List Record) where
       ),
     )
     | inr (inl u) ↦ inr (inl u)
-    | inr (inr (unspent, inl u)) ↦ inr (inr (unspent, inl (unadopted_longer at line r next u)))
+    | inr (inr (unspent, inl u)) ↦ inr (inr (unspent, inl (unadopted_longer at line r next within u)))
     | inr (inr (unspent, inr more)) ↦ inr (inr (unspent, inr more))
   ]
   tells_longer at line (answer.Head id) next within after t =
@@ -296,7 +277,7 @@ module _ (config : Config) (opening : State) (history more : List Record) where
         | inr (inr rest) ↦ inr (inr rest)
       ],
     )
-    | inr u ↦ inr (unadopted_longer at line _ next u)
+    | inr u ↦ inr (unadopted_longer at line _ next within u)
   ]
   tells_longer at line answer.Crashed next within after t =
       (t.0, t.1, t.2, subst (λ (l : Life). IsLeftBy config l t.2) (same_front at.made within) t.3, t.4)

@@ -1,5 +1,5 @@
 //! Days of clients over a master: what it has done in the morning, its clients and its cleaner, and what there is at
-//! the end.
+//! the end. Each client's records are its own rounds, and its gate is told of its first put once that was answered.
 
 use crate::masters::{HALTING, Morning, RECORDS, has_no_pass, prepare, small_master};
 use crate::slow::Watch;
@@ -11,7 +11,7 @@ use std::sync::Wait;
 use std::test::Fail;
 use std::thread::Threads;
 use store_clients::locked_log::CallFault;
-use store_clients::master::{Master, Refusal, ReplyRef};
+use store_clients::master::{CommandRef, Master, RecordRef, Refusal, ReplyRef};
 use store_clients::{Outcome, Workload, clients_over};
 
 /// How many clients, how many rounds of each, and how many passes.
@@ -53,6 +53,56 @@ fn is_found(reply: &ReplyRef<'_>, value: &[u8]) -> bool {
     }
 }
 
+/// The keys of the clients, and the values of their rounds.
+const KEYS: &[&[u8]] = &[b"c0", b"c1", b"c2"];
+
+const VALUES: &[&[u8]] = &[
+    b"1", b"2", b"3", b"4", b"5", b"6", b"7", b"8", b"9", b"10", b"11", b"12",
+];
+
+/// Whether this call of a client with this key, counted from 0, is of its round: a put of the round's number, or a get
+/// that finds it.
+fn is_of_round(record: &RecordRef<'_>, key: &[u8], call: usize) -> bool {
+    let Some(value) = VALUES.get(call / 2) else {
+        return false;
+    };
+    match &record.command {
+        CommandRef::Put(of, put, _) => call % 2 == 0 && of.bytes == key && put.bytes == *value,
+        CommandRef::Get(of) => call % 2 == 1 && of.bytes == key && is_found(&record.reply, value),
+        CommandRef::Delete(_) => false,
+    }
+}
+
+/// Whether the records of the seat are the rounds of a client with this key.
+fn has_rounds<F: Fleet>(master: &Master<F>, seat: u64, key: &[u8]) -> bool {
+    let history = master.history();
+    let mut calls: usize = 0;
+    for place in 0..history.len() {
+        match history.get(place) {
+            Some(record) if record.seat == seat => {
+                if !is_of_round(&record, key, calls) {
+                    return false;
+                }
+                calls = calls.saturating_add(1);
+            }
+            _ => {}
+        }
+    }
+    true
+}
+
+/// Whether each client made its own rounds.
+fn has_all_rounds<F: Fleet>(master: &Master<F>) -> bool {
+    let mut seat: u64 = 0;
+    for key in KEYS {
+        seat = seat.saturating_add(1);
+        if !has_rounds(master, seat, key) {
+            return false;
+        }
+    }
+    true
+}
+
 /// Whether it ended as the day says.
 fn is_wanted<F: Fleet>(
     alloc: Global,
@@ -68,7 +118,7 @@ fn is_wanted<F: Fleet>(
     };
     let has_records = master.history().len() == *records;
     let has_head = master.head() == *head;
-    let has_found = has_found(master, value);
+    let has_found = has_found(master, value) && has_all_rounds(master);
     is_answered && has_records && has_head && has_found && has_no_pass(alloc, master)
 }
 
@@ -114,5 +164,30 @@ fn clients_overlap(rt: HostRuntime) -> Result<(), Fail> {
     let gate = Holding::new();
     assert!(rt; ends_so(&rt, rt.alloc(), &watch, &DAYS[0], &gate));
     assert!(rt; gate.has_seen());
+    Ok(())
+}
+
+/// Lets a take that waits go on once a client's first put was answered.
+#[derive(Clone, Copy)]
+struct Early<'a> {
+    watch: &'a Watch,
+}
+
+impl<'a> Gate for Early<'a> {
+    fn enter(&self, _worker: usize) {
+        self.watch.finish();
+    }
+
+    fn leave(&self, _worker: usize) {}
+}
+
+/// No gate is told of a first put before the takes that have to come first.
+#[test]
+fn gate_waits_for_a_first_answer(rt: HostRuntime) -> Result<(), Fail> {
+    let watch = Watch::new();
+    watch.slow_down();
+    let gate = Early { watch: &watch };
+    assert!(rt; ends_so(&rt, rt.alloc(), &watch, &DAYS[0], &gate));
+    assert!(rt; !watch.has_seen());
     Ok(())
 }

@@ -1,4 +1,4 @@
-use Rattle.std.proofs.Common.{◌≡◌, ◌∙◌, ℕ, ap, subst, sym}
+use Rattle.std.proofs.Common.{◌≡◌, ◌∙◌, ℕ, inr, ap, subst, sym}
 use Rattle.std.specs.Prelude.{Result, Err, IfOk, IfErr}
 use Rattle.claims.specs.declared.rebuilt.Rebuilt.{Rebuilt}
 use Rattle.replay.specs.master.World.{world}
@@ -55,7 +55,7 @@ returns-clause-drill g c =
           (sym w.recovered-is)
           (drilled_without start stop c.args.steps.now kept will order answers c.in-Ok.ensures.ran left same
           c.crash-fleet.ensures.valid
-          (fault.Plan plan_fault.NoMemory) tt tt)
+          (fault.Plan plan_fault.NoMemory) tt)
     ]
 
 pub returns-clause-headline : goal.returns-clause-headline
@@ -97,7 +97,7 @@ returns-clause-headline g c =
           Headline (seen start) steps answers durable pushes left (is_kept kept) will order x) (sym w.recovered-is)
           (headline start stop steps kept will order answers ran left same valid durable pushes
           c.durable-durable.ensures.count c.failover_left-pushes_left.ensures.none
-          (Err (fault.Plan plan_fault.NoMemory)) tt (λ covers names. (tt, λ both. tt)))
+          (Err (fault.Plan plan_fault.NoMemory)) tt (λ covers names. (inr tt, λ both. tt)))
     ]
 
 pub returns-clause-told : goal.returns-clause-told

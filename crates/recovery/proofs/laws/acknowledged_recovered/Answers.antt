@@ -2,7 +2,7 @@ use Rattle.std.proofs.Common.{arith}
 use Rattle.recovery.proofs.laws.acknowledged_recovered.Goals as goal
 
 pub returns : goal.returns
-returns c = λ d count r answered recovered durable place acknowledged.
+returns c = λ d r answered found durable place acknowledged.
     let below = durable acknowledged.0 acknowledged.1 in
     let late = acknowledged.2 in
-    let within = recovered.durable in omega arith
+    let within = found.holds in omega arith
