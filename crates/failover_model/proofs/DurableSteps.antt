@@ -124,7 +124,7 @@ durable_stays (Ends n mode) w v kept (ends, is) =
     ] in
     subst (λ (x : World). durable_of d ≤ durable_of x.knows) (sym is)
     (durable_from d (ended d n mode) same refl (λ _. omega arith))
-durable_stays Mended w v kept (repairs, is) =
+durable_stays Mended w v kept (repairs, none, is) =
     subst (λ (x : World). durable_of w.knows ≤ durable_of x.knows) (sym is)
     (durable_taken w.knows kept.texts kept.standing)
 durable_stays (Takes o) w v kept (may, took, runs) =

@@ -6,7 +6,7 @@ use Rattle.failover_model.specs.Shown.{Shown, Op, On, Raise, taken}
 use Rattle.failover_model.specs.Data.{Mode, Repairs, FailConfig, FailData, new_of, is_failing, state_of, durable_of}
 use Rattle.failover_model.specs.Log.{Texts, BasesStand, IsKept}
 use Rattle.failover_model.specs.Steps.{applied, MayApply, rolling, IsRoll, id_taken, ended, EndsRoll}
-use Rattle.failover_model.specs.Steps.{failing, MayFail, texts_resealed, mended, Extends, OpensNew, Replaces}
+use Rattle.failover_model.specs.Steps.{failing, MayFail, texts_resealed, mended, NoneIsLost, Extends, OpensNew, Replaces}
 use Rattle.failover_model.specs.Steps.{Raises, ClosesOld, Reseals, Seals, Frees}
 
 -- ---- ops
@@ -59,7 +59,7 @@ pub data Event : Type 0 where
   TakesId : Event
   -- a roll or the fifth part of a failover ends
   Ends : Start → Mode → Event
-  -- a failover ends
+  -- a failover ends, since no replica is lost any more
   Mended : Event
   -- an op is taken
   Takes : Op → Event
@@ -85,7 +85,7 @@ Becomes (Turns n mode) w v = ((kept : IsKept w.knows w.shown) × IsRoll w.knows 
     × (v ≡ record w { knows = rolling w.knows n mode })
 Becomes TakesId w v = (is_failing w.knows.mode ≡ false) × (v ≡ record w { knows = id_taken w.knows })
 Becomes (Ends n mode) w v = EndsRoll w.knows n mode × (v ≡ record w { knows = ended w.knows n mode })
-Becomes Mended w v = (w.knows.mode ≡ Repairs) × (v ≡ record w { knows = mended w.knows })
+Becomes Mended w v = (w.knows.mode ≡ Repairs) × NoneIsLost w.knows × (v ≡ record w { knows = mended w.knows })
 Becomes (Takes o) w v = MayTake w.knows w.shown o v.knows × (taken w.shown o ≡ Some v.shown) × (v.halted ≡ false)
 Becomes (Fails o b) w v = (e : FailData) × MayTake w.knows w.shown o e × IsOn b o × IsFaulted w.shown o v.shown
     × MayFail w.knows × (v.knows ≡ failing w.knows b) × (v.halted ≡ false)

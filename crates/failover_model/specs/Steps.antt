@@ -241,6 +241,10 @@ failing d b = record d {
   frozen = durable_of d;
 }
 
+-- no replica of a segment that the head lists is lost: each has as many homes as there are replicas
+abbrev pub NoneIsLost : FailData → Type 0
+NoneIsLost d = (s : ℕ) → IsAmong s d.head.start.others → d.config.replicas ≤ length (homes d s)
+
 -- the master once the failover has ended
 abbrev pub mended : FailData → FailData
 mended d = record d { mode = Calm; frozen = 0 }
