@@ -49,6 +49,7 @@ pub mod LostMemory
 pub mod MendOps
 pub mod GoingOn
 pub mod MendPlaces
+pub mod NoneLost
 pub mod MendEnds
 pub mod MendCloses
 pub mod MendHeads

@@ -38,6 +38,7 @@ use Rattle.master.proofs.InForce.{real_head, none_head}
 use Rattle.master.proofs.MendEnds.{IsCounted, IsRolled, IsCommitted, IsAfterMend, MayMend, IsMendPush}
 use Rattle.master.proofs.MendOps.{at_part, as_part, home_forced, closing_all, few_closed, all_opened_then, mend_closes}
 use Rattle.master.proofs.NextOps.{opened_is, roll_of}
+use Rattle.master.proofs.NoneLost.{none_was_lost}
 use Rattle.master.proofs.Placing.{core_left, home_placed, left_has, left_more}
 use Rattle.master.proofs.PushedPlaces.{among_added, staying_have, trimmed_have}
 
@@ -92,7 +93,7 @@ module _ (d0 : MasterData) (r : Roll) (f : Failover)
 
   -- what is shown of either
   abbrev GivesClosed : MasterData → Type 0
-  GivesClosed e = (IsCore e → IsAfterMend d e mid) × IsPlaced e × IsOnward mid (log_of e)
+  GivesClosed e = (IsCore e → IsAfterMend d e mid) × IsPlaced e × (IsCore e → IsOnward mid (log_of e))
 
   -- ---- more are to be closed
 
@@ -174,14 +175,21 @@ module _ (d0 : MasterData) (r : Roll) (f : Failover)
     abbrev MayBe : Option Failover → Type 0
     MayBe x = (x ≡ Some (as_part f part.Repairs false)) ⊎ (x ≡ None)
 
-    log_then : (x : Option Failover) → MayBe x
+    -- of what the roll and a pass leave, which has this log
+    log_then : (e : MasterData) (x : Option Failover) → MayBe x → IsCore (ended_with e x) → IsPlaced (ended_with e x)
+        → log_of (ended_with e x) ≡ log_of (ended_with (one true) x)
         → IsMended (ended mid (start_of r) Repairs) (log_of (ended_with (one true) x))
-    log_then x (inl is) =
+    log_then e x (inl is) later at same =
         subst (λ (y : Option Failover).
         IsMended (ended mid (start_of r) Repairs) (log_of (ended_with (one true) y))) (sym is) (inl repairs_log)
-    log_then x (inr is) =
-        subst (λ (y : Option Failover).
-        IsMended (ended mid (start_of r) Repairs) (log_of (ended_with (one true) y))) (sym is) (inr (refl, calm_log))
+    log_then e x (inr is) later at same =
+        let log : log_of (ended_with (one true) x) ≡ mended (ended mid (start_of r) Repairs) =
+        ap (λ (y : Option Failover). log_of (ended_with (one true) y)) is ∙ calm_log in
+        inr (
+          refl,
+          none_was_lost (ended_with e x) (ended mid (start_of r) Repairs) later at is (same ∙ log),
+          log,
+        )
 
     none_closed : (x : Option Failover) → MayBe x → closed_by x ≡ 0
     none_closed x (inl is) = ap closed_by is
@@ -245,7 +253,7 @@ module _ (d0 : MasterData) (r : Roll) (f : Failover)
       rolled_after plain later = record {
         n = start_of r;
         ends = ends;
-        log = log_then x be;
+        log = log_then (one true) x be later last_placed refl;
         ordinary = plain;
         model = same_model d rolled may.core later refl refl (closed_images d may.core r refl) refl refl refl
             (let lt = newer in omega arith);
@@ -256,14 +264,14 @@ module _ (d0 : MasterData) (r : Roll) (f : Failover)
       commits_as q opens = ap (λ (o : Option Pass). option_map_or (λ (z : Pass). z.is_committing) o false) opens
 
       committed_after : (q : Pass) → d0.pass ≡ Some q → q.is_committing ≡ true
-          → IsCommitted d (ended_with (pass_ended q (one true)) x) mid
-      committed_after q opens commits =
+          → IsCore (ended_with (pass_ended q (one true)) x) → IsCommitted d (ended_with (pass_ended q (one true)) x) mid
+      committed_after q opens commits later =
           let ps = posting.Ended ∷ posting.Shut b ∷ d0.ledger in
           let was = ended_model d may.core r refl ps may.placed q opens commits mid refl refl in
           record {
             n = start_of r;
             ends = ends;
-            log = log_then x be;
+            log = log_then (pass_ended q (one true)) x be later (pass_placed q) refl;
             pass = q;
             opened = opens;
             commits = commits_as q opens ∙ commits;
@@ -279,21 +287,29 @@ module _ (d0 : MasterData) (r : Roll) (f : Failover)
             apart = apart_then d may.core r refl ps may.placed q opens commits mid refl refl;
           }
 
-      onward : IsOnward mid (log_of rolled)
-      onward = inr (start_of r, Repairs, ends, log_then x be)
+      onward : (e : MasterData) → IsCore (ended_with e x) → IsPlaced (ended_with e x)
+          → log_of (ended_with e x) ≡ log_of rolled → IsOnward mid (log_of rolled)
+      onward e later at same = inr (start_of r, Repairs, ends, log_then e x be later at same)
 
       pass_end : (q : Pass) → d0.pass ≡ Some q → (t : Bool) → q.is_committing ≡ t
           → GivesClosed (ended_with (if t then pass_ended q (one true) else one true) x)
-      pass_end q opens true is = (λ later. inr (inr (committed_after q opens is)), pass_placed q, onward)
-      pass_end q opens false is =
-          (λ later. inr (inl (rolled_after (commits_as q opens ∙ is) later)), last_placed, onward)
+      pass_end q opens true is = (
+        λ later. inr (inr (committed_after q opens is later)),
+        pass_placed q,
+        λ later. onward (pass_ended q (one true)) later (pass_placed q) refl,
+      )
+      pass_end q opens false is = (
+        λ later. inr (inl (rolled_after (commits_as q opens ∙ is) later)),
+        last_placed,
+        λ later. onward (one true) later last_placed refl,
+      )
 
       roll_end : (o : Option Pass) → d0.pass ≡ o → GivesClosed (ended_with (roll_ended o (one true)) x)
       roll_end None none = (
         λ later. inr (inl (rolled_after
             (ap (λ (o : Option Pass). option_map_or (λ (z : Pass). z.is_committing) o false) none) later)),
         last_placed,
-        onward,
+        λ later. onward (one true) later last_placed refl,
       )
       roll_end (Some q) opens = pass_end q opens q.is_committing refl
 
@@ -338,7 +354,7 @@ module _ (d0 : MasterData) (r : Roll) (f : Failover)
 
   closed_by_test : (t : Bool) → (suc r.closed == d0.config.replicas) ≡ t → GivesClosed (gives t (closed_then t))
   closed_by_test true is = last_after (eqb-true (suc r.closed) d0.config.replicas is)
-  closed_by_test false is = (λ later. inl (early_counted later), early_placed, inl (inl refl))
+  closed_by_test false is = (λ later. inl (early_counted later), early_placed, λ later. inl (inl refl))
 
   pub close_push : IsMendPush (at_part d0 (Some r) (as_part f part.Closes false)) (mend.Close r.closed)
   close_push =
@@ -347,7 +363,8 @@ module _ (d0 : MasterData) (r : Roll) (f : Failover)
       record {
         mid = mid;
         op = inl (inr (inr (inr (inr closes))));
-        does = (mid, closes, all.2);
+        asks = (mid, mid, closes, inl (inl refl));
+        does = λ later. (mid, closes, all.2 later);
         after = all.0;
         placed = all.1;
       }

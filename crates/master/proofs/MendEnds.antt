@@ -78,7 +78,9 @@ pub record MayMend (d : MasterData) (m : Mend) : Type 0 where
 pub record IsMendPush (d : MasterData) (m : Mend) : Type 0 where
   pub mid : FailData
   pub op : IsLoadingOp (log_of d) (memory_of d) (mend_op d m) mid
-  pub does : IsMendOp d m (mend_op d m) (log_of (mended_data d m))
+  -- its op is one of the push
+  pub asks : (e : FailData) × IsMendOp d m (mend_op d m) e
+  pub does : IsCore (mended_data d m) → IsMendOp d m (mend_op d m) (log_of (mended_data d m))
   -- the core is valid once the op is counted
   pub after : IsCore (mended_data d m) → IsAfterMend d (mended_data d m) mid
   pub placed : IsPlaced (mended_data d m)

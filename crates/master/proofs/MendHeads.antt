@@ -19,6 +19,7 @@ use Rattle.master_core.specs.master_state.Data.{MasterData}
 use Rattle.master_core.specs.master_state.Invariant.{IsCore, IsOpenPass}
 use Rattle.master_core.specs.master_state.Log.{is_opened, log_of}
 use Rattle.master_core.proofs.master_state.Imaging.{same_roll}
+use Rattle.master.specs.Mends.{IsMended}
 use Rattle.master.proofs.Ended.{same_model}
 use Rattle.master.proofs.InForce.{real_head, none_head}
 use Rattle.master.proofs.MendEnds.{MayMend, IsMendPush}
@@ -27,6 +28,7 @@ use Rattle.master.proofs.MendOps.{mend_opens_first, mend_raises_first, nobody}
 use Rattle.master.proofs.MendPlaces.{extended_placed, replaced_placed, opened_placed, raised_placed, first_placed}
 use Rattle.master.proofs.MendPlaces.{in_force_placed}
 use Rattle.master.proofs.NextOps.{opened_is}
+use Rattle.master.proofs.NoneLost.{none_was_lost}
 use Rattle.master.proofs.Placing.{placed_length}
 
 -- a commit is a roll
@@ -52,7 +54,8 @@ module _ (d0 : MasterData) (f : Failover) where
       record {
         mid = log_of (mended_data mending (mend.Extend j));
         op = inl (inl extends);
-        does = extends;
+        asks = (log_of (mended_data mending (mend.Extend j)), extends);
+        does = λ later. extends;
         after = λ later. inl (record {
           log = inl refl;
           model = same_model mending (mended_data mending (mend.Extend j)) may.core later refl refl (λ s. refl)
@@ -69,7 +72,8 @@ module _ (d0 : MasterData) (f : Failover) where
       record {
         mid = log_of (mended_data mending (mend.Replace (length d0.head.taken)));
         op = inl (inr (inr (inl replaces)));
-        does = replaces;
+        asks = (log_of (mended_data mending (mend.Replace (length d0.head.taken))), replaces);
+        does = λ later. replaces;
         after = λ later. inl (record {
           log = inl refl;
           model = same_model mending (mended_data mending (mend.Replace (length d0.head.taken))) may.core later
@@ -92,7 +96,8 @@ module _ (d0 : MasterData) (r : Roll) (f : Failover) where
       record {
         mid = log_of (mended_data opening_now (mend.Open r.opened));
         op = inl (inr (inl opens));
-        does = opens;
+        asks = (log_of (mended_data opening_now (mend.Open r.opened)), opens);
+        does = λ later. opens;
         after = λ later. inl (record {
           log = inl refl;
           model = same_model opening_now (mended_data opening_now (mend.Open r.opened)) may.core later refl refl
@@ -110,7 +115,13 @@ module _ (d0 : MasterData) (r : Roll) (f : Failover) where
       record {
         mid = log_of (mended_data opening_now (mend.Raise r.id));
         op = inl (inr (inr (inr (inl raises))));
-        does = (log_of (mended_data opening_now (mend.Raise r.id)), raises, inl (inl refl));
+        asks = (
+          log_of (mended_data opening_now (mend.Raise r.id)),
+          log_of (mended_data opening_now (mend.Raise r.id)),
+          raises,
+          inl (inl refl),
+        );
+        does = λ later. (log_of (mended_data opening_now (mend.Raise r.id)), raises, inl (inl refl));
         after = λ later. inl (record {
           log = inl refl;
           model = same_model opening_now (mended_data opening_now (mend.Raise r.id)) may.core later refl refl
@@ -133,7 +144,8 @@ module _ (d0 : MasterData) (f : Failover) where
       record {
         mid = log_of (mended_data first_now (mend.Open (length d0.head.taken)));
         op = inl (inr (inl opens));
-        does = opens;
+        asks = (log_of (mended_data first_now (mend.Open (length d0.head.taken))), opens);
+        does = λ later. opens;
         after = λ later. inl (record {
           log = inl refl;
           model = same_model first_now (mended_data first_now (mend.Open (length d0.head.taken))) may.core later
@@ -178,17 +190,25 @@ module _ (d0 : MasterData) (f : Failover) where
           };
         })
 
+    has_ended : IsCore (mended_data first_now (mend.Raise d0.head.id))
+        → IsMended (ended raised n Repairs) (log_of (mended_data first_now (mend.Raise d0.head.id)))
+    has_ended later =
+        let at = in_force_placed d0 f may.core may.placed in
+        let e = mended_data first_now (mend.Raise d0.head.id) in
+        inr (refl, none_was_lost e (ended raised n Repairs) later at refl log_is, log_is)
+
     pub raise_first_push : IsMendPush (at_part d0 None (as_part f part.Opens true)) (mend.Raise d0.head.id)
     raise_first_push =
         let raises = mend_raises_first d0 f may.core may.placed may.unfailed may.next.1 in
         record {
           mid = raised;
           op = inl (inr (inr (inr (inl raises))));
-          does = (raised, raises, inr (n, Repairs, ends, inr (refl, log_is)));
+          asks = (raised, raised, raises, inl (inl refl));
+          does = λ later. (raised, raises, inr (n, Repairs, ends, has_ended later));
           after = λ later. inr (inl (record {
             n = n;
             ends = ends;
-            log = inr (refl, log_is);
+            log = has_ended later;
             ordinary = no_commit first_now may.core refl;
             model = same_model first_now (mended_data first_now (mend.Raise d0.head.id)) may.core later refl refl
                 (λ s. refl) refl refl refl (omega arith);

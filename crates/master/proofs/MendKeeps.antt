@@ -151,7 +151,7 @@ module _ {Holds : FailData → FailMemory → FleetState → Type 0} (on : Lasts
     mended_holds : (l x : FailData) (mem : FailMemory) → IsMended l x → Holds l mem g → Holds x mem g
     mended_holds l x mem (inl same) holds = subst (λ (y : FailData). Holds y mem g) (sym same) holds
     mended_holds l x mem (inr ends) holds =
-        subst (λ (y : FailData). Holds y mem g) (sym ends.1) (on.mend l mem g holds ends.0)
+        subst (λ (y : FailData). Holds y mem g) (sym ends.2) (on.mend l mem g holds ends.0)
 
     own : (mem : FailMemory) (l : FailData) → IsMended l (log_of e) → Holds l mem g → IsModel e mem
         → Holds (log_of e) (memory_of e) g

@@ -40,6 +40,7 @@ use Rattle.master.proofs.Ended.{same_model}
 use Rattle.master.proofs.InForce.{real_head, none_head}
 use Rattle.master.proofs.MendEnds.{IsCounted, IsLimited, MayMend, IsMendPush}
 use Rattle.master.proofs.MendOps.{at_part, as_part, mend_op}
+use Rattle.master.proofs.NoneLost.{none_was_lost}
 use Rattle.master.proofs.Placements.{changed_from, replicas_own, homes_of}
 use Rattle.master.proofs.Placing.{placed_length, core_left, core_later, left_not, left_more}
 use Rattle.master.proofs.PushedPlaces.{taken_other, taken_own}
@@ -214,29 +215,34 @@ module _ (d0 : MasterData) (f : Failover) (s j : ℕ)
   images_same x z =
       ap (λ (o : Option (List Entry)). if d0.head.id == z then Some d0.head.image else o) (more_segment s d0.closed z)
 
-  counted : (x : Option Failover) → IsMended mid (log_of (record sealed { failover = x }))
+  counted : (x : Option Failover)
+      → (IsCore (record sealed { failover = x }) → IsMended mid (log_of (record sealed { failover = x })))
       → IsCore (record sealed { failover = x }) → IsCounted d (record sealed { failover = x }) mid
   counted x log later = record {
-    log = log;
+    log = log later;
     model = same_model d (record sealed { failover = x }) may.core later refl refl (images_same x) refl refl refl
         (omega arith);
     waiting = refl;
   }
 
   abbrev Does : MasterData → Type 0
-  Does e = (IsCore e → IsCounted d e mid) × IsPlaced e × IsMended mid (log_of e)
+  Does e = (IsCore e → IsCounted d e mid) × IsPlaced e × (IsCore e → IsMended mid (log_of e))
+
+  calm_placed : IsPlaced (record sealed { failover = None })
+  calm_placed = sealed_placed None refl (λ is. (let yes = opened in
+      let never : true ≡ false = sym is ∙ ap not yes in cc)) (λ is. cc)
+
+  -- no replica is lost any more
+  calm_mended : IsCore (record sealed { failover = None }) → IsMended mid (log_of (record sealed { failover = None }))
+  calm_mended later =
+      inr (refl, none_was_lost (record sealed { failover = None }) mid later calm_placed refl calm_log, calm_log)
 
   either : (t : Bool) → Does (if t then record sealed { failover = None } else sealed)
-  either true = (
-    counted None (inr (refl, calm_log)),
-    sealed_placed None refl (λ is. (let yes = opened in
-        let never : true ≡ false = sym is ∙ ap not yes in cc)) (λ is. cc),
-    inr (refl, calm_log),
-  )
+  either true = (counted None calm_mended, calm_placed, calm_mended)
   either false = (
-    counted (Some (as_part f part.Repairs false)) (inl refl),
+    counted (Some (as_part f part.Repairs false)) (λ later. inl refl),
     sealed_placed (Some (as_part f part.Repairs false)) refl (λ is. cc) (λ is. cc),
-    inl refl,
+    λ later. inl refl,
   )
 
   pub seal_push : IsMendPush (at_part d0 None (as_part f part.Repairs false)) (mend.Repair s j)
@@ -245,7 +251,8 @@ module _ (d0 : MasterData) (f : Failover) (s j : ℕ)
       record {
         mid = mid;
         op = inr repairs_image;
-        does = (repairs, refl, all.2);
+        asks = (mid, repairs, refl, inl refl);
+        does = λ later. (repairs, refl, all.2 later);
         after = λ later. inl (all.0 later);
         placed = all.1;
       }

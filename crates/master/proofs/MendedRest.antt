@@ -162,7 +162,7 @@ module _ (mid : FailData) (failing : is_failing mid.mode ≡ true) (within : mid
       subst (λ (x : FailData). mid.frozen ≤ durable_of x) (sym same)
       (let is = failing_is mid failing in omega (arith, is))
   mended_keeps e (inr last) =
-      subst (λ (x : FailData). mid.frozen ≤ durable_of x) (sym last.1)
+      subst (λ (x : FailData). mid.frozen ≤ durable_of x) (sym last.2)
       (let all : durable_of (mended mid) ≡ length mid.history =
       ap (λ (us : List LogUnit). durable_of (mended (record mid { head = record mid.head { units = us } })))
       (none last.0) in omega (arith, all, within))

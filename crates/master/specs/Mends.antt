@@ -9,8 +9,8 @@ use Rattle.log_head.specs.Head.{IsHeadValue}
 use Rattle.log_head.specs.log_model.Data.{Start}
 use Rattle.master_core.specs.failover_model.Data.{Mode, Opens, Repairs, FailData}
 use Rattle.master_core.specs.failover_model.Shown.{Op}
-use Rattle.master_core.specs.failover_model.Steps.{ended, EndsRoll, mended, rolling, with_taken, MayRepair, Extends, OpensNew}
-use Rattle.master_core.specs.failover_model.Steps.{Replaces, Raises, ClosesOld}
+use Rattle.master_core.specs.failover_model.Steps.{ended, EndsRoll, mended, NoneIsLost, rolling, with_taken, MayRepair, Extends}
+use Rattle.master_core.specs.failover_model.Steps.{OpensNew, Replaces, Raises, ClosesOld}
 use Rattle.master_core.specs.failover_bytes.Ops.{TakesOp}
 use Rattle.master_core.specs.failover_clean.Steps.{seal_op}
 use Rattle.master_core.specs.master_mending.declared.mending.Mend.{Mend}
@@ -26,9 +26,9 @@ use Rattle.master_core.specs.master_state.Data.{MasterData}
 use Rattle.master_core.specs.master_state.Log.{log_of, memory_of}
 use Rattle.master.specs.World.{World}
 
--- no replica is lost any more, and the failover has ended, or it goes on
+-- the failover goes on, or no replica is lost any more and it has ended
 abbrev pub IsMended : FailData → FailData → Type 0
-IsMended d e = (e ≡ d) ⊎ ((d.mode ≡ Repairs) × (e ≡ mended d))
+IsMended d e = (e ≡ d) ⊎ ((d.mode ≡ Repairs) × NoneIsLost d × (e ≡ mended d))
 
 -- after the op the log is this one, or the new head is in force; with it the failover may have ended
 abbrev pub IsOnward : FailData → FailData → Type 0
