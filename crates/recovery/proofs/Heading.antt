@@ -1,5 +1,7 @@
 -- The headline, from what a run keeps and what a recovery gives.
-use Rattle.std.proofs.Common.{◌≡◌, ℕ, ◌<◌, ◌≤◌, Bool, true, false, List, [], ◌∷◌, inl, inr, length, take, refl, sym, ap, subst, ◌∙◌}
+use Rattle.std.proofs.Common.{◌≡◌, ℕ, zero, suc, ◌<◌, ◌≤◌, Bool, true, false, List, [], ◌∷◌, ◌++◌, inl, inr, length, take}
+use Rattle.std.proofs.Common.{refl, sym, ap, subst, ◌∙◌, arith}
+use Rattle.std.proofs.lemmas.List.{append-nil, append_assoc}
 use Rattle.std.specs.Prelude.{◌↔◌, ◌⊎◌, Some, None, if◌then◌else◌, Result, Ok, Err, IfOk, IfErr}
 use Rattle.entry.specs.declared.key.Key.{Key}
 use Rattle.tablet_will.specs.declared.part.Part.{Part}
@@ -28,15 +30,15 @@ use Rattle.replay.specs.master.Survive.{lost}
 use Rattle.replay.specs.master.Valid.{IsValid}
 use Rattle.replay.specs.master.World.{World}
 use Rattle.recovery.specs.declared.recovery.RecoveryFault.{RecoveryFault}
-use Rattle.recovery.specs.Headline.{Asked, Headline, IsEmpty, IsLoss, IsMapAfter, IsNoMemory, IsWholeOrder, MakeOf, records_of}
-use Rattle.recovery.specs.Headline.{EndDone, IsDonePush}
+use Rattle.recovery.specs.Headline.{Asked, Headline, IsEmpty, IsLoss, IsMapAfter, IsNoMemory, IsWholeOrder, MakeOf, record_of, records_of}
+use Rattle.recovery.specs.Headline.{EndsIdle, IsIdlePush}
 use Rattle.recovery.specs.Seen.{seen}
 use Rattle.recovery.specs.Kept.{is_kept}
 use Rattle.recovery.specs.Orders.{Covers, NamesHeld}
 use Rattle.recovery.specs.Recovered.{IsRecovered}
 use Rattle.recovery.proofs.Counting.{orders_name}
 use Rattle.recovery.proofs.Drilling.{run_keeps}
-use Rattle.recovery.proofs.Takings.{led_all, made_all}
+use Rattle.recovery.proofs.Takings.{led_all, made, made_all}
 
 -- the origin of a master stays
 origin_keeps : (old new : World) (steps : List Step) (answers : List (Result StepAnswer Refusal))
@@ -55,7 +57,7 @@ nothing_waits false true is = refl
 nothing_waits false false is = absurd (cc)
 
 -- all is durable once a push finds nothing that waits
-by_push : (s : Step) (a : Result StepAnswer Refusal) → IsDonePush s a → (old new : World) → Steps old s a new
+by_push : (s : Step) (a : Result StepAnswer Refusal) → IsIdlePush s a → (old new : World) → Steps old s a new
     → is_done new.knows ≡ true
 by_push Push (Err refusal.Nothing) done old new (inl h) =
     subst (λ (w : World). is_done w.knows ≡ true) (sym h.1)
@@ -66,7 +68,7 @@ by_push Push (Err refusal.Nothing) done old new (inr (test, inr (inr h))) = absu
 by_push _ _ done old new h = absurd done
 
 at_end : (old new : World) (steps : List Step) (answers : List (Result StepAnswer Refusal))
-    → IsRun old steps answers new → EndDone steps answers → is_done new.knows ≡ true
+    → IsRun old steps answers new → EndsIdle steps answers → is_done new.knows ≡ true
 at_end old new (s ∷ []) (a ∷ []) run ends =
     subst (λ (w : World). is_done w.knows ≡ true) (sym run.3) (by_push s a ends old run.0 run.1)
 at_end old new (s ∷ []) (a ∷ b ∷ rest) run ends = absurd run.3
@@ -74,6 +76,64 @@ at_end old new (s ∷ t ∷ ss) (a ∷ []) run ends = absurd run.3
 at_end old new (s ∷ t ∷ ss) (a ∷ b ∷ rest) run ends = at_end run.0 new (t ∷ ss) (b ∷ rest) run.3 ends
 at_end old new [] answers run ends = absurd ends
 at_end old new (s ∷ ss) [] run ends = absurd run
+
+-- durable commands stay durable
+durable_stays : (old new : World) (steps : List Step) (answers : List (Result StepAnswer Refusal))
+    → IsRun old steps answers new → durable_of (log_of old.knows) ≤ durable_of (log_of new.knows)
+durable_stays old new [] [] run =
+    subst (λ (w : World). durable_of (log_of old.knows) ≤ durable_of (log_of w.knows)) (sym run) (omega arith)
+durable_stays old new [] (a ∷ rest) run = absurd run
+durable_stays old new (s ∷ ss) [] run = absurd run
+durable_stays old new (s ∷ ss) (a ∷ rest) run =
+    let first = run.2.keeps.durable in
+    let later = durable_stays run.0 new ss rest run.3 in omega (arith, first, later)
+
+-- the commands before a push that found nothing are durable
+stays_durable : (old new : World) (steps : List Step) (answers : List (Result StepAnswer Refusal))
+    → IsRun old steps answers new → (count : ℕ) → EndsIdle (take count steps) (take count answers)
+    → length (old.knows.history ++ records_of (take count steps) (take count answers))
+    ≤ durable_of (log_of new.knows)
+stays_durable old new [] answers run zero ends = absurd ends
+stays_durable old new [] answers run (suc n) ends = absurd ends
+stays_durable old new (s ∷ ss) answers run zero ends = absurd ends
+stays_durable old new (s ∷ ss) [] run (suc n) ends = absurd (never ss n ends) where
+  never : (ss : List Step) (n : ℕ) → EndsIdle (s ∷ take n ss) [] → ⊥
+  never [] zero ends = ends
+  never [] (suc n) ends = ends
+  never (t ∷ ss) zero ends = ends
+  never (t ∷ ss) (suc n) ends = ends
+stays_durable old new (s ∷ ss) (a ∷ rest) run (suc n) ends = go ss rest run.3 n ends where
+  mid : World
+  mid = run.0
+
+  made_first : mid.knows.history ≡ old.knows.history ++ record_of s a
+  made_first = made s old mid a run.1
+
+  -- the push is the first step
+  at_once : IsIdlePush s a → (steps : List Step) (answers : List (Result StepAnswer Refusal))
+      → IsRun mid steps answers new
+      → length (old.knows.history ++ (record_of s a ++ [])) ≤ durable_of (log_of new.knows)
+  at_once idle steps answers later =
+      let all = run.2.valid.pushed (by_push s a idle old mid run.1) in
+      let stays = durable_stays mid new steps answers later in
+      let same = ap length made_first
+      ∙ ap (λ (rs : List Record). length (old.knows.history ++ rs)) (sym (append-nil (record_of s a))) in
+      omega (arith, all, stays, same)
+
+  go : (ss : List Step) (rest : List (Result StepAnswer Refusal)) → IsRun mid ss rest new → (n : ℕ)
+      → EndsIdle (s ∷ take n ss) (a ∷ take n rest)
+      → length (old.knows.history ++ (record_of s a ++ records_of (take n ss) (take n rest)))
+      ≤ durable_of (log_of new.knows)
+  go ss rest later zero idle = at_once idle ss rest later
+  go [] [] later (suc n) idle = at_once idle [] [] later
+  go [] (b ∷ rest) later (suc n) idle = absurd later
+  go (t ∷ ss) [] later (suc n) idle = absurd later
+  go (t ∷ ss) (b ∷ rest) later (suc n) idle =
+      let rs = records_of (t ∷ take n ss) (b ∷ take n rest) in
+      let more = stays_durable mid new (t ∷ ss) (b ∷ rest) later (suc n) idle in
+      let same = ap (λ (hs : List Record). length (hs ++ rs)) made_first
+      ∙ ap length (append_assoc old.knows.history (record_of s a) rs) in
+      omega (arith, more, same)
 
 -- ---- orders
 
@@ -116,8 +176,10 @@ module _ (start stop : World) (steps : List Step) (kept : List ℕ) (will : List
     takes = asked.0;
     stopped = subst (λ (f : FleetState). MakeOf start.knows.config.master start.fleet asked.0 f) (sym same) asked.1;
     rebuilds = rebuilds r prefix;
-    acknowledged = λ ends.
-        told ∙ valid.pushed (at_end start stop steps answers ran ends);
+    acknowledged = λ count idle.
+        subst (λ (n : ℕ). length (start.knows.history ++ records_of (take count steps) (take count answers)) ≤ n)
+        (sym told) (stays_durable start stop steps answers ran count idle);
+    pushed = λ idle. told ∙ valid.pushed (at_end start stop steps answers ran idle);
     refuses = λ covers whole. refuses r (loss covers (names_held order whole _ _ will));
     never = λ covers whole none few. never none few r (loss covers (names_held order whole _ _ will));
   } where

@@ -106,7 +106,7 @@ led_all old new (s ∷ ss) (a ∷ rest) run =
 abbrev history_in : World → List Record
 history_in w = w.knows.history
 
-made : (s : Step) (old new : World) (r : Result StepAnswer Refusal) → Steps old s r new
+pub made : (s : Step) (old new : World) (r : Result StepAnswer Refusal) → Steps old s r new
     → new.knows.history ≡ old.knows.history ++ record_of s r
 made (Apply seat command) old new (Ok a) h =
     ap (λ (l : FailData). l.history) h.0.log

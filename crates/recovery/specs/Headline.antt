@@ -2,6 +2,11 @@
 -- stopped after any step, recovery from honest surviving replicas rebuilds, however segments are divided and replayed,
 -- exactly the objects and versions of the versioned map after a prefix of the commands that holds every acknowledged
 -- one; it refuses only by naming a lost head or segment, and never where both survive.
+--
+-- A backup is honest if it returns what it took, unchanged. A segment is divided into groups, one for each partition of a
+-- will, and groups are replayed in some order. A head and the segments that it lists surely survive if fewer backups are
+-- lost than a segment has replicas. A failover is what a master does when a backup fails: it replicates anew what that
+-- backup held.
 use Rattle.std.specs.Prelude.{◌≡◌, ◌⊎◌, ℕ, ◌<◌, ◌≤◌, List, [], ◌∷◌, ◌++◌, map, take, length, Bool, None}
 use Rattle.std.specs.Prelude.{Result, Ok, Err, IfOk, IfErr}
 use Rattle.std.specs.List.Sorted.{IsStrictlySortedBy}
@@ -37,64 +42,69 @@ use Rattle.recovery.specs.Orders.{Covers}
 
 -- ---- a master
 
--- What the headline sees of a master as it begins, and of its fleet: how many backups there are, how many replicas a
--- segment has, the map that its history begins with, and its commands so far.
+-- What the headline sees of a master before the first step. The master may be new, or in the midst of its life.
 pub record Seen : Type 0 where
+  -- its number
   pub master : ℕ
+  -- how many backups there are, and how many of them have each segment
   pub backups : ℕ
   pub replicas : ℕ
+  -- the keys that it serves
   pub tablets : List Tablet
+  -- the map that its history begins with
   pub opening : State
+  -- the commands that it accepted before, with its replies
   pub history : List Record
+  -- what its backups hold
   pub fleet : FleetState
 
 -- ---- steps
 
--- the record of a command that was accepted, with its reply
+-- the record of a command that was accepted: who asked for it (its seat), the command, and the reply
 abbrev pub record_of : Step → Result StepAnswer Refusal → List Record
 record_of (Apply seat command) (Ok (Applied place reply)) =
     record { seat = seat; command = command; reply = reply } ∷ []
 record_of _ _ = []
 
--- those of steps with these answers, in order
+-- the records of the commands that were accepted among these steps, in order
 abbrev pub records_of : List Step → List (Result StepAnswer Refusal) → List Record
 records_of (step ∷ steps) (answer ∷ answers) = record_of step answer ++ records_of steps answers
 records_of _ _ = []
 
--- the step is a push, and nothing waited for one
-abbrev pub IsDonePush : Step → Result StepAnswer Refusal → Type 0
-IsDonePush Push (Err Nothing) = Unit {0}
-IsDonePush _ _ = ⊥
+-- the step is a push, and the master answered that nothing waits to be pushed
+abbrev pub IsIdlePush : Step → Result StepAnswer Refusal → Type 0
+IsIdlePush Push (Err Nothing) = Unit {0}
+IsIdlePush _ _ = ⊥
 
--- the last of the steps is so
-abbrev pub EndDone : List Step → List (Result StepAnswer Refusal) → Type 0
-EndDone (step ∷ []) (answer ∷ []) = IsDonePush step answer
-EndDone (step ∷ steps) (answer ∷ answers) = EndDone steps answers
-EndDone _ _ = ⊥
+-- the last of the steps is such a push
+abbrev pub EndsIdle : List Step → List (Result StepAnswer Refusal) → Type 0
+EndsIdle (step ∷ []) (answer ∷ []) = IsIdlePush step answer
+EndsIdle (step ∷ steps) (answer ∷ answers) = EndsIdle steps answers
+EndsIdle _ _ = ⊥
 
 -- ---- takes
 
--- What a backup was asked to do with its replica of a segment, and what it answered; or what the registry was: to let no
--- older head be used than this one.
+-- One request and its answer. A backup is asked to change its replica of a segment. The registry is asked to refuse each
+-- head that is older than this one.
 pub data Asked : Type 0 where
   Backup : ℕ → ℕ → ActValue → Result Unit TakeFault → Asked
   Registry : ℕ → Result Unit TakeFault → Asked
 
--- what that makes of the fleet
+-- the request, with its answer, turns the one fleet into the other
 abbrev pub Makes : ℕ → Asked → FleetState → FleetState → Type 0
 Makes master (Backup b segment act answer) f g =
     TakeGives f b (record { master = master; segment = segment; act = act }) answer g
 Makes master (Registry id answer) f g = RaiseGives f master id answer g
 
--- what all of them make of it, in order
+-- all of these requests do, one after another
 abbrev pub MakeOf : ℕ → FleetState → List Asked → FleetState → Type 0
 MakeOf master f [] g = g ≡ f
 MakeOf master f (a ∷ more) g = (mid : FleetState) × Makes master a f mid × MakeOf master mid more g
 
 -- ---- what comes back
 
--- Each key once, with the version and the value that the map has after this many of the commands. Every durable one is
--- among them. The safe version is above each version that a key had.
+-- Each key once, with the version and the value that the map has after this many of the commands. The durable ones, which
+-- are the first, are among them. The safe version is above each version that a key had.
 pub record IsMapAfter (opening : State) (history : List Record) (durable : ℕ) (r : Rebuilt) : Type 0 where
   pub count : ℕ
   pub holds : durable ≤ count
@@ -103,7 +113,7 @@ pub record IsMapAfter (opening : State) (history : List Record) (durable : ℕ) 
   pub once : IsStrictlySortedBy key_cmp (map (λ (o : Object). o.key) r.objects)
   pub safe : IsSafeAfter opening (take count (commands_of history)) r.safe
 
--- a head or a segment is named as lost
+-- the fault says that no head is left that may be used, or that a segment is missing
 abbrev pub IsLoss : RecoveryFault → Type 0
 IsLoss (fault.Plan plan_fault.NoHead) = Unit {0}
 IsLoss (fault.Plan (plan_fault.HeadTooOld id)) = Unit {0}
@@ -117,40 +127,46 @@ IsNoMemory (fault.Plan plan_fault.NoMemory) = Unit {0}
 IsNoMemory (fault.Replay replay_fault.NoMemory) = Unit {0}
 IsNoMemory _ = ⊥
 
--- an order that names each group: the refusal of another one names the group that it leaves out or names twice
+-- Forward and Reverse name each group once. An order that a caller writes out need not, and is refused then by the name of
+-- a group.
 abbrev pub IsWholeOrder : GroupOrder → Type 0
 IsWholeOrder Forward = Unit {0}
 IsWholeOrder Reverse = Unit {0}
 IsWholeOrder (Given numbers) = ⊥
 
--- no key has anything
+-- the map has no key
 abbrev pub IsEmpty : State → Type 0
 IsEmpty st = (k : Key) → st.contents k ≡ None
 
 -- ---- the headline
 
--- A master took steps and answered them. At its end it told how many of its commands were durable, and how many pushes
--- an open failover still needed. The fleet was left so, some backups of it were kept, and this was recovered of them.
+-- A master took the steps, and gave the answers. As it stopped it told how many of its commands were durable, and how many
+-- pushes an open failover still needed (0 if none was open). It left this fleet. Some backups of the fleet are kept, and the
+-- others are lost. A recovery from those that are kept, by this will and in this order, gave what is recovered.
 pub record Headline (start : Seen) (steps : List Step) (answers : List (Result StepAnswer Refusal)) (durable pushes : ℕ)
     (left : FleetState) (keep : ℕ → Bool) (will : List Part) (order : GroupOrder)
     (recovered : Result Rebuilt RecoveryFault) : Type 0 where
   -- 'after any interleaving of client, compaction, cleaning and rolling steps': the history has just the commands that
-  -- were accepted, with their replies, and these are the versioned map's
+  -- were accepted, with the replies that were given, and each reply is the versioned map's
   pub history : List Record
   pub interleaved : history ≡ start.history ++ records_of steps answers
   pub replied : IsLegal start.opening history
-  -- 'stopped after any step': the fleet is what takes made of it, each whole or not at all
+  -- 'stopped after any step': the fleet is what requests of this master made of it, each done whole or not at all
   pub takes : List Asked
   pub stopped : MakeOf start.master start.fleet takes left
   -- 'rebuilds .. exactly the objects and versions of the versioned map after a prefix of the commands that holds every
   -- acknowledged one'
   pub rebuilds : IfOk recovered (IsMapAfter start.opening history durable)
-  -- 'every acknowledged one': what is answered once it is durable. Once a push finds nothing that waits, all of it is.
-  pub acknowledged : EndDone steps answers → durable ≡ length history
-  -- 'it refuses only by naming a lost head or segment': or if memory runs out
+  -- 'every acknowledged one': a command is answered once it is durable. If a push finds that nothing waits, then each
+  -- command before that push is durable, and stays so.
+  pub acknowledged : (count : ℕ) → EndsIdle (take count steps) (take count answers)
+      → length (start.history ++ records_of (take count steps) (take count answers)) ≤ durable
+  -- if the last step is such a push, all commands are durable
+  pub pushed : EndsIdle steps answers → durable ≡ length history
+  -- 'it refuses only by naming a lost head or segment', or if memory runs out
   pub refuses : Covers start.tablets will → IsWholeOrder order → IfErr recovered (λ e. IsLoss e ⊎ IsNoMemory e)
-  -- 'and never where both survive': where no failover is open, and fewer backups are lost than a segment has replicas.
-  -- Before a head was ever open the table is empty, and no head may be left.
+  -- 'and never where both survive': if no failover is open, and fewer backups are lost than a segment has replicas, then
+  -- want of memory alone refuses. Or the map is empty, as it is before a head was ever open: then no head may be left.
   pub never : Covers start.tablets will → IsWholeOrder order → pushes ≡ 0
       → length (lost keep start.backups) < start.replicas
       → IfErr recovered (λ e. IsNoMemory e ⊎ IsEmpty (after start.opening (commands_of history)))
