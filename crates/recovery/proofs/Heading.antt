@@ -1,6 +1,6 @@
 -- The headline, from what a run keeps and what a recovery gives.
-use Rattle.std.proofs.Common.{◌≡◌, ℕ, zero, suc, ◌<◌, ◌≤◌, Bool, true, false, List, [], ◌∷◌, ◌++◌, inl, inr, length, take}
-use Rattle.std.proofs.Common.{refl, sym, ap, subst, ◌∙◌, arith}
+use Rattle.std.proofs.Common.{◌≡◌, ℕ, zero, suc, ◌<◌, ◌≤◌, Bool, true, false, List, [], ◌∷◌, ◌++◌, inl, inr, length}
+use Rattle.std.proofs.Common.{take, refl, sym, ap, subst, ◌∙◌, arith}
 use Rattle.std.proofs.lemmas.List.{append-nil, append_assoc}
 use Rattle.std.specs.Prelude.{◌↔◌, ◌⊎◌, Some, None, if◌then◌else◌, Result, Ok, Err, IfOk, IfErr}
 use Rattle.entry.specs.declared.key.Key.{Key}
@@ -30,7 +30,8 @@ use Rattle.replay.specs.master.Survive.{lost}
 use Rattle.replay.specs.master.Valid.{IsValid}
 use Rattle.replay.specs.master.World.{World}
 use Rattle.recovery.specs.declared.recovery.RecoveryFault.{RecoveryFault}
-use Rattle.recovery.specs.Headline.{Asked, Headline, IsEmpty, IsLoss, IsMapAfter, IsNoMemory, IsWholeOrder, MakeOf, record_of, records_of}
+use Rattle.recovery.specs.Headline.{Asked, Headline, IsEmpty, IsLoss, IsMapAfter, IsNoMemory, IsWholeOrder, MakeOf}
+use Rattle.recovery.specs.Headline.{record_of, records_of}
 use Rattle.recovery.specs.Headline.{EndsIdle, IsIdlePush}
 use Rattle.recovery.specs.Seen.{seen}
 use Rattle.recovery.specs.Kept.{is_kept}

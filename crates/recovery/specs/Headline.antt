@@ -3,10 +3,10 @@
 -- exactly the objects and versions of the versioned map after a prefix of the commands that holds every acknowledged
 -- one; it refuses only by naming a lost head or segment, and never where both survive.
 --
--- A backup is honest if it returns what it took, unchanged. A segment is divided into groups, one for each partition of a
--- will, and groups are replayed in some order. A head and the segments that it lists surely survive if fewer backups are
--- lost than a segment has replicas. A failover is what a master does when a backup fails: it replicates anew what that
--- backup held.
+-- A backup is honest if it returns what it took, unchanged. A segment is divided into groups, one for each partition
+-- of a will, and groups are replayed in some order. A head and the segments that it lists surely survive if fewer
+-- backups are lost than a segment has replicas. A failover is what a master does when a backup fails: it replicates
+-- anew what that backup held.
 use Rattle.std.specs.Prelude.{◌≡◌, ◌⊎◌, ℕ, ◌<◌, ◌≤◌, List, [], ◌∷◌, ◌++◌, map, take, length, Bool, None}
 use Rattle.std.specs.Prelude.{Result, Ok, Err, IfOk, IfErr}
 use Rattle.std.specs.List.Sorted.{IsStrictlySortedBy}
@@ -84,8 +84,8 @@ EndsIdle _ _ = ⊥
 
 -- ---- takes
 
--- One request and its answer. A backup is asked to change its replica of a segment. The registry is asked to refuse each
--- head that is older than this one.
+-- One request and its answer. A backup is asked to change its replica of a segment. The registry is asked to refuse
+-- each head that is older than this one.
 pub data Asked : Type 0 where
   Backup : ℕ → ℕ → ActValue → Result Unit TakeFault → Asked
   Registry : ℕ → Result Unit TakeFault → Asked
@@ -103,8 +103,8 @@ MakeOf master f (a ∷ more) g = (mid : FleetState) × Makes master a f mid × M
 
 -- ---- what comes back
 
--- Each key once, with the version and the value that the map has after this many of the commands. The durable ones, which
--- are the first, are among them. The safe version is above each version that a key had.
+-- Each key once, with the version and the value that the map has after this many of the commands. The durable ones,
+-- which are the first, are among them. The safe version is above each version that a key had.
 pub record IsMapAfter (opening : State) (history : List Record) (durable : ℕ) (r : Rebuilt) : Type 0 where
   pub count : ℕ
   pub holds : durable ≤ count
@@ -127,8 +127,8 @@ IsNoMemory (fault.Plan plan_fault.NoMemory) = Unit {0}
 IsNoMemory (fault.Replay replay_fault.NoMemory) = Unit {0}
 IsNoMemory _ = ⊥
 
--- Forward and Reverse name each group once. An order that a caller writes out need not, and is refused then by the name of
--- a group.
+-- Forward and Reverse name each group once. An order that a caller writes out need not, and is refused then by the
+-- name of a group.
 abbrev pub IsWholeOrder : GroupOrder → Type 0
 IsWholeOrder Forward = Unit {0}
 IsWholeOrder Reverse = Unit {0}
@@ -140,9 +140,10 @@ IsEmpty st = (k : Key) → st.contents k ≡ None
 
 -- ---- the headline
 
--- A master took the steps, and gave the answers. As it stopped it told how many of its commands were durable, and how many
--- pushes an open failover still needed (0 if none was open). It left this fleet. Some backups of the fleet are kept, and the
--- others are lost. A recovery from those that are kept, by this will and in this order, gave what is recovered.
+-- A master took the steps, and gave the answers. As it stopped it told how many of its commands were durable, and how
+-- many pushes an open failover still needed (0 if none was open). It left this fleet. Some backups of the fleet are
+-- kept, and the others are lost. A recovery from those that are kept, by this will and in this order, gave what is
+-- recovered.
 pub record Headline (start : Seen) (steps : List Step) (answers : List (Result StepAnswer Refusal)) (durable pushes : ℕ)
     (left : FleetState) (keep : ℕ → Bool) (will : List Part) (order : GroupOrder)
     (recovered : Result Rebuilt RecoveryFault) : Type 0 where
@@ -165,8 +166,9 @@ pub record Headline (start : Seen) (steps : List Step) (answers : List (Result S
   pub pushed : EndsIdle steps answers → durable ≡ length history
   -- 'it refuses only by naming a lost head or segment', or if memory runs out
   pub refuses : Covers start.tablets will → IsWholeOrder order → IfErr recovered (λ e. IsLoss e ⊎ IsNoMemory e)
-  -- 'and never where both survive': if no failover is open, and fewer backups are lost than a segment has replicas, then
-  -- want of memory alone refuses. Or the map is empty, as it is before a head was ever open: then no head may be left.
+  -- 'and never where both survive': if no failover is open, and fewer backups are lost than a segment has replicas,
+  -- then want of memory alone refuses. Or the map is empty, as it is before a head was ever open: then no head may be
+  -- left.
   pub never : Covers start.tablets will → IsWholeOrder order → pushes ≡ 0
       → length (lost keep start.backups) < start.replicas
       → IfErr recovered (λ e. IsNoMemory e ⊎ IsEmpty (after start.opening (commands_of history)))
