@@ -101,10 +101,10 @@ module _ (old new : World) where
     least = λ m other. ap (λ (w : World). w.fleet.least m) h.3;
   }
   step_leaves Push (Err r) (inr (test, inr (inl h))) = record {
-    config = ap (λ (d : MasterData). d.config) h.2 ∙ ap config_in (turned_fixed old.knows);
-    least = (op_faulted old.knows.config.master old.fleet new.fleet h.3.0 h.3.3).least;
+    config = ap (λ (d : MasterData). d.config) h.3 ∙ ap config_in (turned_fixed old.knows);
+    least = (op_faulted old.knows.config.master old.fleet new.fleet h.4.0 h.4.3).least;
   }
-  step_leaves Push (Err r) (inr (test, inr (inr h))) = failed (IsPushOp old) r h
+  step_leaves Push (Err r) (inr (test, inr (inr h))) = failed (IsPushOp old) r h.1
   step_leaves Seal (Err r) (inl h) = unchanged h.1
   step_leaves Seal (Err r) (inr h) = failed (IsSealOp old.knows) r h.1
   step_leaves Free (Err r) (inl h) = unchanged h.1

@@ -68,8 +68,8 @@ push_lost old new b (inl h) =
     tested (inl is) = cc
     tested (inr both) = let never = both.0 in cc
 push_lost old new b (inr (test, inl h)) = let never = h.2 in absurd (cc)
-push_lost old new b (inr (test, inr (inl h))) = let never = h.1 in absurd (cc)
-push_lost old new b (inr (test, inr (inr h))) = take_lost (IsPushOp old) old new b h
+push_lost old new b (inr (test, inr (inl h))) = let never = h.2 in absurd (cc)
+push_lost old new b (inr (test, inr (inr h))) = take_lost (IsPushOp old) old new b h.1
 
 idle_lost : (b : ℕ) (none : Bool) → (if none then Some refusal.Nothing else None) ≡ Some (refusal.Lost b) → ⊥
 idle_lost b true e = cc

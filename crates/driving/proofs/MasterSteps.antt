@@ -61,8 +61,8 @@ pushed_history old new (Ok a) h = ap history_in (accepted_fixed old new a h)
 pushed_history old new (Err r) (inl h) = ap (λ (w : World). w.knows.history) h.1
 pushed_history old new (Err r) (inr (test, inl h)) = ap (λ (w : World). w.knows.history) h.3
 pushed_history old new (Err r) (inr (test, inr (inl h))) =
-    ap (λ (d : MasterData). d.history) h.2 ∙ ap history_in (turned_fixed old.knows)
-pushed_history old new (Err r) (inr (test, inr (inr h))) = refused_history (IsPushOp old) old new r h
+    ap (λ (d : MasterData). d.history) h.3 ∙ ap history_in (turned_fixed old.knows)
+pushed_history old new (Err r) (inr (test, inr (inr h))) = refused_history (IsPushOp old) old new r h.1
 
 pub push_goes_on : (from : MasterData) (old new : World) (r : Result StepAnswer Refusal) → LivesOn from old.knows []
     → Steps old Push r new
@@ -147,8 +147,8 @@ spent_push old new r h is = go (subst (λ (x : Refusal). Declines old Push x new
     go : Declines old Push refusal.Spent new → IsSpent new.fleet
     go (inl h) = absurd (tested (push_tested old.knows.is_halted (is_done old.knows) _ h.0))
     go (inr (test, inl h)) = let never = h.2 in absurd (cc)
-    go (inr (test, inr (inl h))) = let never = h.1 in absurd (cc)
-    go (inr (test, inr (inr h))) = spent_take (IsPushOp old) old new h
+    go (inr (test, inr (inl h))) = let never = h.2 in absurd (cc)
+    go (inr (test, inr (inr h))) = spent_take (IsPushOp old) old new h.1
 
 -- ---- a roll that begins
 

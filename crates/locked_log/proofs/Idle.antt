@@ -20,7 +20,7 @@ use Rattle.store_step.specs.master.master_state.Causes.{step_refusal, clean_refu
 use Rattle.store_step.specs.master.master_state.Causes.{is_pushed, is_done}
 use Rattle.store_step.specs.master.master_space.Choosing.{chosen, may_begin_next, pass_step, step_without, next_step}
 use Rattle.store_step.specs.master.master_state.Data.{MasterData}
-use Rattle.store_step.specs.master.Steps.{Declines, FailsTake, FailsTurn, IsPushOp, IsStuck}
+use Rattle.store_step.specs.master.Steps.{Declines, FailsPush, FailsTurn, IsStuck}
 use Rattle.store_step.specs.master.World.{World}
 
 -- ---- rows of tests
@@ -95,10 +95,10 @@ module _ (s t : World) where
   abbrev Never : Step → Type 0
   Never step = Declines s step Nothing t → ⊥
 
-  fails : IsStuck s Nothing t ⊎ (FailsTurn s Nothing t ⊎ FailsTake (IsPushOp s) s Nothing t) → ⊥
+  fails : IsStuck s Nothing t ⊎ (FailsTurn s Nothing t ⊎ FailsPush s Nothing t) → ⊥
   fails (inl x) = not_halted x.2
-  fails (inr (inl x)) = not_halted x.1
-  fails (inr (inr x)) = x
+  fails (inr (inl x)) = not_halted x.2
+  fails (inr (inr x)) = x.1
 
   to_push : is_done s.knows ≡ false → Never Push
   to_push waits (inl x) = awake s.knows.is_halted (is_done s.knows) waits x.0

@@ -24,7 +24,7 @@ use Rattle.store_step.specs.master.master_state.Steps.{sealed_data}
 use Rattle.store_step.specs.master.master_state.Waits.{next_seal as sealed_next}
 use Rattle.store_step.specs.master.Keeps.{Keeps}
 use Rattle.store_step.specs.master.Passes.{IsSealOp, IsFreeOp}
-use Rattle.store_step.specs.master.Steps.{FailsTake, FailsTurn, IsPushOp, IsStuck, Steps}
+use Rattle.store_step.specs.master.Steps.{FailsTake, FailsPush, FailsTurn, IsPushOp, IsStuck, Steps}
 use Rattle.store_step.specs.master.Valid.{IsValid}
 use Rattle.store_step.specs.master.World.{World, world, limited_world}
 use Rattle.store_step.proofs.of_master.Keeping.{take_failed}
@@ -115,11 +115,11 @@ module _ (old new : World) where
       (λ b (h : FailsTake IsOp old (refusal.Lost b) new). ap (λ (d : MasterData). d.history) h.1)
       (λ (h : FailsTake IsOp old refusal.Halted new). ap (λ (d : MasterData). d.history) h.1)
 
-  push_failed : (r : Refusal) → IsStuck old r new ⊎ (FailsTurn old r new ⊎ FailsTake (IsPushOp old) old r new)
+  push_failed : (r : Refusal) → IsStuck old r new ⊎ (FailsTurn old r new ⊎ FailsPush old r new)
       → new.knows.history ≡ old.knows.history
   push_failed r (inl t) = ap (λ (w : World). w.knows.history) t.3
-  push_failed r (inr (inl t)) = ap (λ (d : MasterData). d.history) t.2 ∙ (turned_rest old.knows).1
-  push_failed r (inr (inr t)) = failed (IsPushOp old) r t
+  push_failed r (inr (inl t)) = ap (λ (d : MasterData). d.history) t.3 ∙ (turned_rest old.knows).1
+  push_failed r (inr (inr t)) = failed (IsPushOp old) r t.1
 
   pub steps_history : (step : Step) (result : Result StepAnswer Refusal) → IsOther step → Steps old step result new
       → new.knows.history ≡ old.knows.history

@@ -13,7 +13,7 @@ use Rattle.store_step.specs.master.master_state.declared.step.Refusal.{Refusal}
 use Rattle.store_step.specs.master.master_state.declared.step.Refusal.TheVariants as refusal
 use Rattle.store_step.specs.master.master_state.declared.step.Step.TheVariants.{Apply, Push, BeginRoll}
 use Rattle.store_step.specs.master.master_state.declared.step.StepAnswer.{StepAnswer}
-use Rattle.store_step.specs.master.Steps.{Declines, FailsTake, FailsTurn, IsPushOp, IsStuck}
+use Rattle.store_step.specs.master.Steps.{Declines, FailsTake, FailsPush, FailsTurn, IsPushOp, IsStuck}
 use Rattle.store_step.specs.master.World.{World}
 use Rattle.store_step.specs.declared.turn.CleanTurn.TheVariants as turn
 use Rattle.store_step.specs.Turns.{MakesTurn}
@@ -132,10 +132,10 @@ module _ (s t : World) where
   take_ends refusal.SegmentsSpent h = absurd h
   take_ends refusal.NoTablet h = absurd h
 
-  fails : (r : Refusal) → IsStuck s r t ⊎ (FailsTurn s r t ⊎ FailsTake (IsPushOp s) s r t) → Ends r
+  fails : (r : Refusal) → IsStuck s r t ⊎ (FailsTurn s r t ⊎ FailsPush s r t) → Ends r
   fails r (inl x) = subst Ends (sym x.2) tt
-  fails r (inr (inl x)) = subst Ends (sym x.1) tt
-  fails r (inr (inr x)) = take_ends r x
+  fails r (inr (inl x)) = subst Ends (sym x.2) tt
+  fails r (inr (inr x)) = take_ends r x.1
 
   declines_push : (r : Refusal) → Declines s Push r t → Ends r
   declines_push r (inl x) = push_can s.knows.is_halted (is_done s.knows) r x.0

@@ -206,8 +206,8 @@ declined_stays old Push r new core other (inr (passed, inl stuck)) =
     same_left old new (halted old.knows) (ap (λ (w : World). w.knows) stuck.3) refl
 declined_stays old Push r new core other (inr (passed, inr (inl turn))) =
     let less = turn_lowers old.knows core turn.0 in
-    let same = ap left_now turn.2 in omega arith
-declined_stays old Push r new core other (inr (passed, inr (inr fails))) =
+    let same = ap left_now turn.3 in omega arith
+declined_stays old Push r new core other (inr (passed, inr (inr (may, fails)))) =
     fails_stays (IsPushOp old) old r new other fails
 declined_stays old Seal r new core other (inl is) = world_stays old new is.1
 declined_stays old Seal r new core other (inr is) = fails_stays (IsSealOp old.knows) old r new other is.1

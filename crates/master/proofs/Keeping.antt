@@ -63,7 +63,7 @@ use Rattle.master.specs.Keeps.{Keeps}
 use Rattle.master.specs.Passes.{IsSealOp, Seals, IsFreeOp, Frees}
 use Rattle.master.specs.Pushes.{IsAfter, IsNextOp, Pushes}
 use Rattle.master.specs.Mends.{MendsOn}
-use Rattle.master.specs.Steps.{FailsTake, IsPushOp, IsStuck, FailsTurn, Steps}
+use Rattle.master.specs.Steps.{FailsTake, IsPushOp, IsStuck, FailsTurn, FailsPush, Steps}
 use Rattle.master.specs.World.{World}
 use Rattle.master.proofs.Counting.{counted_of, counted, kept_unfailed}
 use Rattle.master.proofs.InForce.{never_fails, fails}
@@ -503,17 +503,16 @@ module _ (old new : World) (kept : IsWellKept old.knows old.fleet) where
       let rest = turned_rest d in
       let f = t.0.0 in
       let same = turned_durable d f.0 f.1 in
-      silent (ap (λ (d : MasterData). d.config) t.2 ∙ rest.0) (ap (λ (d : MasterData). d.origin) t.2 ∙ rest.3)
-      (ap (λ (d : MasterData). d.history) t.2 ∙ rest.1)
-      (op_faulted old.knows.config.master old.fleet new.fleet t.3.0 t.3.3)
-      (subst (λ (x : MasterData). durable_of (log_of old.knows) ≤ durable_of (log_of x)) (sym t.2)
+      silent (ap (λ (d : MasterData). d.config) t.3 ∙ rest.0) (ap (λ (d : MasterData). d.origin) t.3 ∙ rest.3)
+      (ap (λ (d : MasterData). d.history) t.3 ∙ rest.1)
+      (op_faulted old.knows.config.master old.fleet new.fleet t.4.0 t.4.3)
+      (subst (λ (x : MasterData). durable_of (log_of old.knows) ≤ durable_of (log_of x)) (sym t.3)
       (omega (arith, same)))
 
-  push_failed : (r : Refusal) → IsStuck old r new ⊎ (FailsTurn old r new ⊎ FailsTake (IsPushOp old) old r new)
-      → Keeps 1 old new
+  push_failed : (r : Refusal) → IsStuck old r new ⊎ (FailsTurn old r new ⊎ FailsPush old r new) → Keeps 1 old new
   push_failed r (inl t) = stuck r t
   push_failed r (inr (inl t)) = turned r t
-  push_failed r (inr (inr t)) = failed (IsPushOp old) r t
+  push_failed r (inr (inr t)) = failed (IsPushOp old) r t.1
 
   step_keeps : (step : Step) (result : Result StepAnswer Refusal) → Steps old step result new → Keeps 1 old new
   step_keeps (Apply seat command) (Ok answer) t = applied seat command answer t.0 t.1

@@ -12,7 +12,7 @@ use Rattle.master_core.specs.master_state.Steps.{BeginsRoll, pushed_data}
 use Rattle.master.specs.Loading.{KeepsLoading}
 use Rattle.master.specs.Mends.{MendsOn}
 use Rattle.master.specs.Pushes.{Pushes}
-use Rattle.master.specs.Steps.{FailsTake, IsPushOp, IsStuck, FailsTurn, Accepts, Declines}
+use Rattle.master.specs.Steps.{FailsTake, IsPushOp, IsStuck, FailsTurn, FailsPush, Accepts, Declines}
 use Rattle.master.specs.World.{World, world_of}
 use Rattle.master.proofs.Keeping.{IsBeside, beside_same, op_beside, op_faulted, take_failed}
 use Rattle.master.proofs.MendedRest.{mended_rest, turned_rest}
@@ -64,15 +64,14 @@ module _ (old new : World) where
   loses b t = beside (ap (λ (d : MasterData). d.config) t.1) (ap (λ (d : MasterData). d.origin) t.1)
       (op_faulted old.knows.config.master old.fleet new.fleet t.2.0 t.2.3)
 
-  failed : (r : Refusal) → IsStuck old r new ⊎ (FailsTurn old r new ⊎ FailsTake (IsPushOp old) old r new)
-      → KeepsLoading old new
+  failed : (r : Refusal) → IsStuck old r new ⊎ (FailsTurn old r new ⊎ FailsPush old r new) → KeepsLoading old new
   failed r (inl t) = quiet (ap (λ (w : World). w.knows.config) t.3) (ap (λ (w : World). w.knows.origin) t.3)
       (ap (λ (w : World). w.fleet) t.3)
   failed r (inr (inl t)) =
       let same = turned_rest old.knows in
-      beside (ap (λ (d : MasterData). d.config) t.2 ∙ same.0) (ap (λ (d : MasterData). d.origin) t.2 ∙ same.3)
-      (op_faulted old.knows.config.master old.fleet new.fleet t.3.0 t.3.3)
-  failed r (inr (inr t)) = take_failed (IsPushOp old) old new r t unchanged loses halts
+      beside (ap (λ (d : MasterData). d.config) t.3 ∙ same.0) (ap (λ (d : MasterData). d.origin) t.3 ∙ same.3)
+      (op_faulted old.knows.config.master old.fleet new.fleet t.4.0 t.4.3)
+  failed r (inr (inr t)) = take_failed (IsPushOp old) old new r t.1 unchanged loses halts
 
   pub push_keeps : (result : Result StepAnswer Refusal) → IfOk result (λ a. Accepts old Push a new)
       → IfErr result (λ r. Declines old Push r new)

@@ -18,6 +18,7 @@ pub mod Applied
 pub mod Compacted
 pub mod Rolled
 pub mod NextOps
+pub mod NextMends
 pub mod PushedPlaces
 pub mod Ended
 pub mod Pushed
@@ -39,7 +40,7 @@ pub mod Runs
 pub mod NewestHomes
 pub mod FewLost
 pub mod Validity
-mod Retired
+pub mod Retired
 pub mod SizeTablets
 mod HeldBelow
 mod PushedFor
@@ -59,6 +60,7 @@ pub mod MendPushes
 pub mod MendKeeps
 pub mod MendServed
 pub mod MendFirsts
+pub mod StuckPushes
 pub use Rattle.log_head.proofs.log_model
 pub use Rattle.master_core.proofs.failover_model
 pub use Rattle.log_head.proofs as log_head

@@ -363,7 +363,7 @@ module _ (d0 : MasterData) (r : Roll) (f : Failover)
       record {
         mid = mid;
         op = inl (inr (inr (inr (inr closes))));
-        asks = (mid, mid, closes, inl (inl refl));
+        asks = (mid, (mid, closes, inl (inl refl)));
         does = λ later. (mid, closes, all.2 later);
         after = all.0;
         placed = all.1;

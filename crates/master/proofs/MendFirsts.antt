@@ -53,7 +53,7 @@ use Rattle.master.proofs.Handed.{fault_size, fault_halts, loading_halts, failing
 use Rattle.master.proofs.Lasting.{Lasts, all_lasts, loading_lasts, IsKeptAs, kept_as, well_kept, loaded_as, well_loaded}
 use Rattle.master.proofs.Lasting.{unhanded_kept}
 use Rattle.master.proofs.LostPlaces.{placed_halted}
-use Rattle.master.proofs.MendEnds.{MayMend}
+use Rattle.master.proofs.MendEnds.{MayMend, IsMendPush}
 use Rattle.master.proofs.MendOps.{mend_op, mend_act}
 use Rattle.master.proofs.MendPushes.{bytes_op, mend_bytes, few_for_mend}
 use Rattle.master.proofs.MendServed.{mend_fails, mend_passed, served_core, served_may, served_push, served_mended}
@@ -312,26 +312,27 @@ module _ (d : MasterData) (f : FleetState) (running : d.is_halted ≡ false) (ne
         mend_not_wrong (turned_data d) (mend.Open 0) f t_running t_next tt tt tt t_served g take_fault.Wrong
         (refuses g take_fault.Wrong refused) refl
 
-    does : (n : Start) × OpensNew (rolling (log_of d) n (Opens n)) (mend_op (turned_data d) (mend.Open 0))
-        (log_of (mended_data d mend.Turn))
-    does = (
-      next_now d,
-      subst (λ (l : FailData). OpensNew l (mend_op (turned_data d) (mend.Open 0))
-          (log_of (mended_data d mend.Turn))) turn.log
-          (served_push (turned_data d) (mend.Open 0) f t_running t_next tt tt t_served).does,
-    )
+    push : IsMendPush (turned_data d) (mend.Open 0)
+    push = served_push (turned_data d) (mend.Open 0) f t_running t_next tt tt t_served
+
+    opens : (e : FailData) → OpensNew (log_of (turned_data d)) (mend_op (turned_data d) (mend.Open 0)) e
+        → (n : Start) × OpensNew (rolling (log_of d) n (Opens n)) (mend_op (turned_data d) (mend.Open 0)) e
+    opens e is =
+        (next_now d, subst (λ (l : FailData). OpensNew l (mend_op (turned_data d) (mend.Open 0)) e) turn.log is)
 
     -- ---- it was taken
 
-    pub turn_mends : (g : FleetState) → Takes f (backup_for d mend.Turn) (first_open d.config.master d.next new) g
+    pub turn_mends : IsCore (mended_data d mend.Turn) → (g : FleetState)
+        → Takes f (backup_for d mend.Turn) (first_open d.config.master d.next new) g
         → MendsOn (world_of d f) (Opened (backup_for d mend.Turn) d.next) (world_of (mended_data d mend.Turn) g)
-    turn_mends g took = record {
+    turn_mends own g took = record {
       op = mend_op (turned_data d) (mend.Open 0);
       running = running;
       failing = mend_fails d mend.Turn next;
       mend = mend.Turn;
       next = next;
-      does = does;
+      may = λ turn. may;
+      does = opens (log_of (mended_data d mend.Turn)) (push.does own);
       told = refl;
       rest = refl;
       takes = subst (λ (c : _). TakesOp c.master f (mend_op (turned_data d) (mend.Open 0)) g) (turned_rest d).0
@@ -352,12 +353,13 @@ module _ (d : MasterData) (f : FleetState) (running : d.is_halted ≡ false) (ne
         → FailsTurn (world_of d f) refusal.Halted (world_of (halted (turned_data d)) g)
     turn_faults g refused = (
       next,
+      may,
       refl,
       refl,
       (
         mend_op (turned_data d) (mend.Open 0),
-        log_of (mended_data d mend.Turn),
-        does,
+        push.asks.0,
+        opens push.asks.0 push.asks.1,
         subst (λ (c : _). RefusesOp c.master f (mend_op (turned_data d) (mend.Open 0)) take_fault.Fault g)
             (turned_rest d).0 (refuses g take_fault.Fault refused),
       ),
@@ -385,21 +387,21 @@ module _ (d : MasterData) (f : FleetState) (running : d.is_halted ≡ false) (ne
 
 -- ---- it wasn't taken
 
-pub turn_declines : (d : MasterData) (f : FleetState) → d.is_halted ≡ false → (next : IsNextMend d mend.Turn) → (b : ℕ)
-    (handed : OpValue) (r : Refusal) (g : FleetState) → OpensFirst f b handed (Err r) g
+pub turn_declines : (d : MasterData) (f : FleetState) → d.is_halted ≡ false → (next : IsNextMend d mend.Turn)
+    → may_turn d ≡ true → (b : ℕ) (handed : OpValue) (r : Refusal) (g : FleetState) → OpensFirst f b handed (Err r) g
     → Declines (world_of d f) Push r (world_of d g) × (g ≡ f)
-turn_declines d f running next b handed refusal.NoMemory g is = (
+turn_declines d f running next may b handed refusal.NoMemory g is = (
   inr (
     mend_passed d running (mend_fails d mend.Turn next),
-    inr (inr (ap (λ (h : FleetState). world_of d h) is)),
+    inr (inr (λ turn. may, ap (λ (h : FleetState). world_of d h) is)),
   ),
   is,
 )
-turn_declines d f running next b handed refusal.Spent g is = (
+turn_declines d f running next may b handed refusal.Spent g is = (
   inr (
     mend_passed d running (mend_fails d mend.Turn next),
-    inr (inr (is.0, ap (λ (h : FleetState). world_of d h) is.1)),
+    inr (inr (λ turn. may, (is.0, ap (λ (h : FleetState). world_of d h) is.1))),
   ),
   is.1,
 )
-turn_declines d f running next b handed _ g is = absurd is
+turn_declines d f running next may b handed _ g is = absurd is

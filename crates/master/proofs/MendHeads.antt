@@ -117,9 +117,7 @@ module _ (d0 : MasterData) (r : Roll) (f : Failover) where
         op = inl (inr (inr (inr (inl raises))));
         asks = (
           log_of (mended_data opening_now (mend.Raise r.id)),
-          log_of (mended_data opening_now (mend.Raise r.id)),
-          raises,
-          inl (inl refl),
+          (log_of (mended_data opening_now (mend.Raise r.id)), raises, inl (inl refl)),
         );
         does = λ later. (log_of (mended_data opening_now (mend.Raise r.id)), raises, inl (inl refl));
         after = λ later. inl (record {
@@ -203,7 +201,7 @@ module _ (d0 : MasterData) (f : Failover) where
         record {
           mid = raised;
           op = inl (inr (inr (inr (inl raises))));
-          asks = (raised, raised, raises, inl (inl refl));
+          asks = (raised, (raised, raises, inl (inl refl)));
           does = λ later. (raised, raises, inr (n, Repairs, ends, has_ended later));
           after = λ later. inr (inl (record {
             n = n;

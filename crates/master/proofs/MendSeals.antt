@@ -251,7 +251,7 @@ module _ (d0 : MasterData) (f : Failover) (s j : ℕ)
       record {
         mid = mid;
         op = inr repairs_image;
-        asks = (mid, repairs, refl, inl refl);
+        asks = (mid, (repairs, refl, inl refl));
         does = λ later. (repairs, refl, all.2 later);
         after = λ later. inl (all.0 later);
         placed = all.1;

@@ -50,6 +50,7 @@ use Rattle.master.proofs.MendKeeps.{all_on, loading_on, EndsPassOn, may_mend, me
 use Rattle.master.proofs.MendOps.{mend_op, mend_act}
 use Rattle.master.proofs.MendPushes.{mend_push, few_for_mend, op_on, bytes_op}
 use Rattle.master.proofs.MendedRest.{mended_rest}
+use Rattle.master.proofs.NextMends.{later_may}
 use Rattle.master.proofs.Placing.{core_within, core_left}
 
 -- ---- a failover is open
@@ -205,15 +206,17 @@ module _ (d : MasterData) (m : Mend) (f : FleetState) (running : d.is_halted ≡
 
   -- ---- taken
 
-  pub served_mends : IsServed d f → (g : FleetState) → TakesOp d.config.master f (mend_op d m) g
+  pub served_mends : IsServed d f → IsCore (mended_data d m) → (g : FleetState)
+      → TakesOp d.config.master f (mend_op d m) g
       → MendsOn (world_of d f) (mend_answer d m) (world_of (mended_data d m) g)
-  served_mends served g takes = record {
+  served_mends served core g takes = record {
     op = mend_op d m;
     running = running;
     failing = mend_fails d m next;
     mend = m;
     next = next;
-    does = (served_push served).does;
+    may = λ turn. absurd (not_turn m later turn);
+    does = (served_push served).does core;
     told = refl;
     rest = refl;
     takes = takes;
@@ -238,13 +241,12 @@ module _ (d : MasterData) (m : Mend) (f : FleetState) (running : d.is_halted ≡
     b = backup_for d m
 
     abbrev IsHandedOp : Op → Type 0
-    IsHandedOp o = (e : FailData) × IsLoadingOp (log_of d) (memory_of d) o e
-        × IsMendOp d m o (log_of (mended_data d m))
+    IsHandedOp o = (e : FailData) × IsLoadingOp (log_of d) (memory_of d) o e × ((x : FailData) × IsMendOp d m o x)
 
     handed_op : IsServed d f → IsHandedOp (On (backup_for d m) (segment_for d m) (mend_act d m))
     handed_op served =
         let is = served_push served in
-        subst IsHandedOp (op_on d m on) (is.mid, is.op, is.does)
+        subst IsHandedOp (op_on d m on) (is.mid, is.op, is.asks)
 
     few : IsCore d → replica_for m < d.config.replicas
     few core = few_for_mend d m core next on
@@ -272,9 +274,12 @@ module _ (d : MasterData) (m : Mend) (f : FleetState) (running : d.is_halted ≡
         let op = handed_op served in
         inr (
           mend_passed d running (mend_fails d m next),
-          inr (inr (failed_tells d f b (segment_for d m) (mend_act d m) (IsPushOp (world_of d f))
-              (inr (m, log_of (mended_data d m), next, not_turn m later, op.2)) g x refused
-              (mend_not_wrong served g x refused))),
+          inr (inr (
+            later_may d m later next,
+            failed_tells d f b (segment_for d m) (mend_act d m) (IsPushOp (world_of d f))
+                (inr (m, op.2.0, next, not_turn m later, op.2.1)) g x refused
+                (mend_not_wrong served g x refused),
+          )),
         )
 
     pub mend_failed : (g : FleetState) (x : TakeFault) → Refuses f (backup_for d m) (bytes_op d m) x g
@@ -304,14 +309,17 @@ module _ (d : MasterData) (id : ℕ) (f : FleetState) (running : d.is_halted ≡
       → Declines (world_of d f) Push (refusal_of d b x) (world_of (failed_data d b x) g)
   raise_declines served g x refused b = inr (
     mend_passed d running failing,
-    inr (inr (raise_tells d f id (IsPushOp (world_of d f))
-        (inr (
-          mend.Raise id,
-          log_of (mended_data d (mend.Raise id)),
-          next,
-          not_turn (mend.Raise id) tt,
-          (raised_push served).does,
-        )) failing b g x refused)),
+    inr (inr (
+      later_may d (mend.Raise id) tt next,
+      raise_tells d f id (IsPushOp (world_of d f))
+          (inr (
+            mend.Raise id,
+            (raised_push served).asks.0,
+            next,
+            not_turn (mend.Raise id) tt,
+            (raised_push served).asks.1,
+          )) failing b g x refused,
+    )),
   )
 
   pub raise_keeps : (g : FleetState) (x : TakeFault) → RefusesRaise f d.config.master id x g → (b : ℕ)

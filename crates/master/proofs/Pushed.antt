@@ -56,6 +56,7 @@ use Rattle.master.proofs.Ended.{segments_in, same_model, rolled_model, apart_the
 use Rattle.master.proofs.Handed.{taken_size, handed_kept, failed_tells}
 use Rattle.master.proofs.Lasting.{Lasts, IsKeptAs}
 use Rattle.master.proofs.Models.{IsModel, own_holds}
+use Rattle.master.proofs.NextMends.{calm_may}
 use Rattle.master.proofs.NextOps.{act_now, push_op, WholeOnceShut, first_told, extends, next_told}
 use Rattle.master.proofs.NextOps.{new_mid, opens_new, new_after, head_push}
 use Rattle.master.proofs.NextOps.{no_roll, old_mid, old_posts, closed_one, closed_at, closes, ends, old_more, old_last}
@@ -366,9 +367,12 @@ module _ {Holds : FailData → FailMemory → FleetState → Type 0} (lasts : La
       → Declines (world_of d f) Push (refusal_of d backup x) (world_of (failed_data d backup x) g)
   push_declines running g x refused = inr (
     push_passed d push running waits,
-    inr (inr (failed_tells d f backup (segment_of d.head push) (act_now d push) (IsPushOp (world_of d f))
-        (inl (answer_of push backup (segment_of d.head push), log_of (pushed_data d push), told)) g x refused
-        (push_not_wrong g x refused))),
+    inr (inr (
+      calm_may d calm,
+      failed_tells d f backup (segment_of d.head push) (act_now d push) (IsPushOp (world_of d f))
+          (inl (answer_of push backup (segment_of d.head push), log_of (pushed_data d push), told)) g x refused
+          (push_not_wrong g x refused),
+    )),
   )
 
   module _ (passing : EndsPass Holds d) (core : IsCore (pushed_data d push)) (g : FleetState)

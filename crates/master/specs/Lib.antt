@@ -5,6 +5,7 @@ pub mod Passes
 pub mod Survive
 pub mod Valid
 pub mod Steps
+pub mod Laws
 pub mod Loading
 pub mod Registry
 pub mod Placed

@@ -15,6 +15,7 @@ use Rattle.master_core.specs.failover_bytes.Ops.{TakesOp}
 use Rattle.master_core.specs.failover_clean.Steps.{seal_op}
 use Rattle.master_core.specs.master_mending.declared.mending.Mend.{Mend}
 use Rattle.master_core.specs.master_mending.declared.mending.Mend.TheVariants as mend
+use Rattle.master_core.specs.master_mending.declared.mending.Mend.TheVariants.{Turn}
 use Rattle.master_core.specs.master_mending.declared.turning.NewHead.{NewHead}
 use Rattle.master_core.specs.master_mending.declared.turning.NewHead.TheVariants as new_head
 use Rattle.master_core.specs.master_mending.Mending.{IsNextMend, mended_data, segment_for, backup_for, new_text}
@@ -22,6 +23,7 @@ use Rattle.master_core.specs.master_state.declared.step.Refusal.{Refusal}
 use Rattle.master_core.specs.master_state.declared.step.Refusal.TheVariants as refusal
 use Rattle.master_core.specs.master_state.declared.step.StepAnswer.{StepAnswer}
 use Rattle.master_core.specs.master_state.declared.step.StepAnswer.TheVariants.{Opened, Extended, Closed, Raised, Repaired}
+use Rattle.master_core.specs.master_state.Budget.{may_turn}
 use Rattle.master_core.specs.master_state.Data.{MasterData}
 use Rattle.master_core.specs.master_state.Log.{log_of, memory_of}
 use Rattle.master.specs.World.{World}
@@ -81,13 +83,14 @@ answer_for (mend.Repair s j) backup segment = Repaired backup segment
 abbrev pub mend_answer : MasterData → Mend → StepAnswer
 mend_answer d m = answer_for m (backup_for d m) (segment_for d m)
 
--- A push of an open failover that is accepted: one op, which the fleet took.
+-- A push of an open failover that is accepted: one op, which the fleet took. One that opens the new head may do so.
 pub record MendsOn (old : World) (answer : StepAnswer) (new : World) : Type 0 where
   pub op : Op
   pub running : old.knows.is_halted ≡ false
   pub failing : IsSome old.knows.failover
   pub mend : Mend
   pub next : IsNextMend old.knows mend
+  pub may : mend ≡ Turn → may_turn old.knows ≡ true
   pub does : IsMendOp old.knows mend op (log_of new.knows)
   pub told : answer ≡ mend_answer old.knows mend
   pub rest : new.knows ≡ mended_data old.knows mend

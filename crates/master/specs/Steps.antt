@@ -61,21 +61,30 @@ IsPushOp old op = ((answer : StepAnswer) × (e : FailData) × IsNextOp old.knows
     ⊎ ((push : Mend) × (e : FailData) × IsNextMend old.knows push × (push ≡ mend.Turn → ⊥)
     × IsMendOp old.knows push op e)
 
+-- if the next push is to open the new head of a failover, it may do so
+abbrev pub MayPush : World → Type 0
+MayPush old = IsNextMend old.knows mend.Turn → may_turn old.knows ≡ true
+
+-- A push that may be made fails: for want of memory, or because the take of its op failed.
+abbrev pub FailsPush : World → Refusal → World → Type 0
+FailsPush old r new = MayPush old × FailsTake (IsPushOp old) old r new
+
 -- the new head of the open failover may not be opened: the master stays halted, though no backup was asked
 abbrev pub IsStuck : World → Refusal → World → Type 0
 IsStuck old r new = IsNextMend old.knows mend.Turn × (may_turn old.knows ≡ false) × (r ≡ refusal.Halted)
     × (new ≡ record old { knows = halted old.knows })
 
--- The first Open of the new head ended in a fault. It may have been taken, so the head has its id, and the master stays
--- halted.
+-- The new head might be opened, and its first Open ended in a fault. It may have been taken, so the head has its id, and
+-- the master stays halted.
 abbrev pub FailsTurn : World → Refusal → World → Type 0
-FailsTurn old r new = IsNextMend old.knows mend.Turn × (r ≡ refusal.Halted)
+FailsTurn old r new = IsNextMend old.knows mend.Turn × (may_turn old.knows ≡ true) × (r ≡ refusal.Halted)
     × (new.knows ≡ halted (turned_data old.knows))
     × ((op : Op) × (e : FailData) × IsMendOp old.knows mend.Turn op e
     × RefusesOp old.knows.config.master old.fleet op take_fault.Fault new.fleet)
 
 -- A refusal is the one of the first test that fails. If no test fails, it comes from memory or from the fleet. It
--- changes nothing, except after a fault: then the master stays halted.
+-- changes nothing, except after a fault: then the master stays halted. A push that may not open the new head of a
+-- failover answers Halted and nothing else.
 abbrev pub Declines : World → Step → Refusal → World → Type 0
 Declines old (Apply seat command) r new = (new ≡ old)
     × ((command_refusal old.knows command ≡ Some r)
@@ -90,7 +99,7 @@ Declines old Copy r new = (new ≡ old) × (copy_refusal old.knows ≡ Some r)
 Declines old Push r new =
     ((push_refusal old.knows ≡ Some r) × (new ≡ old))
     ⊎ ((push_refusal old.knows ≡ None)
-    × (IsStuck old r new ⊎ (FailsTurn old r new ⊎ FailsTake (IsPushOp old) old r new)))
+    × (IsStuck old r new ⊎ (FailsTurn old r new ⊎ FailsPush old r new)))
 Declines old Seal r new =
     ((seal_refusal old.knows ≡ Some r) × (new ≡ old))
     ⊎ ((seal_refusal old.knows ≡ None) × FailsTake (IsSealOp old.knows) old r new)

@@ -15,6 +15,7 @@
 #![tactic(auto)]
 
 mod cleaning;
+mod laws;
 mod loading;
 mod master;
 mod mending;
@@ -22,6 +23,7 @@ mod pushing;
 mod retiring;
 mod showing;
 
+pub use laws::stuck_push_halts;
 pub use history::{CommandRef, History, RecordRef, ReplyRef, ValueRef};
 pub use loading::Loading;
 pub use master::Master;

@@ -58,7 +58,8 @@ use versioned_map::{Command, Reply};
 pub struct Master<F: Fleet> {
     pub(crate) alloc: Global,
     pub(crate) core: Core,
-    pub(crate) fleet: F,
+    /// The fleet. Whoever changes it leaves this master's replicas and its least head as they are.
+    pub fleet: F,
 }
 
 impl<F: Fleet> Model for Master<F> {

@@ -85,8 +85,8 @@ module _ (old new : World) where
   declined_adopts r (inl t) = same_adopts t.1
   declined_adopts r (inr (test, inl t)) = quiet (ap (λ (w : World). w.fleet) t.3)
   declined_adopts r (inr (test, inr (inl t))) =
-      faulted_adopts old.knows.config.master old.fleet new.fleet t.3.0 t.3.3
-  declined_adopts r (inr (test, inr (inr t))) = take_failed (IsPushOp old) old new r t same_adopts
+      faulted_adopts old.knows.config.master old.fleet new.fleet t.4.0 t.4.3
+  declined_adopts r (inr (test, inr (inr t))) = take_failed (IsPushOp old) old new r t.1 same_adopts
       (λ b h. faulted_adopts old.knows.config.master old.fleet new.fleet h.2.0 h.2.3)
       (λ h. faulted_adopts old.knows.config.master old.fleet new.fleet h.2.0 h.2.2)
 

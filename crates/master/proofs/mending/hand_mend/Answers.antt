@@ -71,13 +71,13 @@ module _ (g : given.Over) (c : goal.After-take g) where
       → Refuses f (backup_for d m) (bytes_op d m) x after
   refuses x = subst (λ (y : ℕ × OpValue). Refuses f y.0 y.1 x after) (λ i. (backup i, handed i))
 
-  accepted : Takes f c.home-backup.result (shown_op c.mend_op-op.result) after
+  accepted : IsCore (mended_data d m) → Takes f c.home-backup.result (shown_op c.mend_op-op.result) after
       → MendsOn (world_of d f) (answer_for m c.home-backup.result c.mend_segment-segment.result)
       (world_of (mended_data d m) after)
-  accepted took =
+  accepted counted took =
       subst (λ (x : StepAnswer). MendsOn (world_of d f) x (world_of (mended_data d m) after))
       (λ i. answer_for m (sym backup i) (sym c.mend_segment-segment.ensures i))
-      (served_mends d m f c.requires.running c.requires.next limited later c.requires.served after
+      (served_mends d m f c.requires.running c.requires.next limited later c.requires.served counted after
       (takes took))
 
 pub home-backup-requires : goal.home-backup-requires
@@ -103,7 +103,9 @@ fail-requires-clause-works g c =
 pub returns-in-Ok-clause-accepted : goal.returns-in-Ok-clause-accepted
 returns-in-Ok-clause-accepted g c =
     let t = (goal.at.returns-in-Ok-clause-accepted g c).After-take in
-    rw (c.answer.ensures, c.mended.ensures.mended) (inr (accepted g t c.in-Ok.ensures))
+    let is = c.mended.ensures.mended in
+    let counted = subst IsCore is c.mended.ensures.valid in
+    rw (c.answer.ensures, is) (inr (accepted g t counted c.in-Ok.ensures))
 
 pub returns-in-Ok-clause-served : goal.returns-in-Ok-clause-served
 returns-in-Ok-clause-served g c =

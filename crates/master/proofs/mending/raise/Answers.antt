@@ -31,9 +31,11 @@ module _ (g : given.Over) (c : goal.After-raise g) where
 pub returns-in-Ok-clause-accepted : goal.returns-in-Ok-clause-accepted
 returns-in-Ok-clause-accepted g c =
     let t = (goal.at.returns-in-Ok-clause-accepted g c).After-raise in
-    rw (c.mended.ensures.mended)
+    let is = c.mended.ensures.mended in
+    let core = subst IsCore is c.mended.ensures.valid in
+    rw is
     (inr (served_mends (d g t) (mend.Raise c.args.id) (f g t) c.requires.running c.requires.next tt tt
-    c.requires.served (after g t) (takes g t c.in-Ok.ensures)))
+    c.requires.served core (after g t) (takes g t c.in-Ok.ensures)))
 
 pub returns-in-Ok-clause-served : goal.returns-in-Ok-clause-served
 returns-in-Ok-clause-served g c =

@@ -1,4 +1,4 @@
-use Rattle.std.proofs.Common.{◌≡◌, inr, inl, ℕ, ◌+◌, ◌<◌, ◌≤◌, Bool, true, false, List, length, sym, ap}
+use Rattle.std.proofs.Common.{◌≡◌, inr, inl, ℕ, ◌+◌, ◌<◌, ◌≤◌, Bool, true, false, List, length, refl, sym, ap}
 use Rattle.std.proofs.Common.{subst, ◌∙◌, arith}
 use Rattle.std.specs.Prelude.{Option, Some, None, IfSome, IsSome, Ok, if◌then◌else◌}
 use Rattle.std.specs.Option.{option_map, option_map_or}
@@ -18,6 +18,8 @@ use Rattle.master_core.specs.master_mending.Mending.{IsNextMend, IsNewHead, MayP
 use Rattle.master_core.specs.master_mending.Mending.{backup_for}
 use Rattle.master_core.proofs.master_mending.Changed.{own}
 use Rattle.master_core.proofs.master_mending.TurnedCore.{turned_next, turned_is}
+use Rattle.master_core.specs.master_state.declared.step.Refusal.TheVariants.{Halted}
+use Rattle.master_core.specs.master_state.declared.step.Step.TheVariants.{Push}
 use Rattle.master_core.specs.master_state.contracts.state.Core.{the_view}
 use Rattle.master_core.specs.master_state.Budget.{is_ready, may_turn, victims_of, is_committing}
 use Rattle.master_core.specs.master_state.Data.{MasterData}
@@ -27,6 +29,8 @@ use Rattle.master_core.specs.master_state.Steps.{halted}
 use Rattle.master_core.proofs.master_state.Refusals.{sizes_of}
 use Rattle.master.specs.Invariant.{StaysServed}
 use Rattle.master.specs.Mends.{first_open, OpensFirst}
+use Rattle.master.specs.Steps.{Declines}
+use Rattle.master.specs.World.{world_of}
 use Rattle.master.proofs.MendFirsts.{stuck_served, put_valid, turning_core, turn_not_wrong, turn_mends, turn_mended}
 use Rattle.master.proofs.MendFirsts.{turn_faults, turn_halts, turn_declines}
 use Rattle.master.proofs.MendServed.{mend_fails, mend_passed, served_core}
@@ -51,6 +55,16 @@ marked_room (Some p) true victims n room is enough = λ commits. omega (arith, i
 marked_room (Some p) false victims n room is enough = λ commits. absurd (cc)
 
 -- ---- it may not be opened
+
+pub returns-then-not-may_turn-clause-refused : goal.returns-then-not-may_turn-clause-refused
+returns-then-not-may_turn-clause-refused g c =
+    let d = c.args.core.now in
+    let f = g.F.Fleet.state c.args.fleet.now in
+    subst (λ (x : MasterData). Declines (world_of d f) Push Halted (world_of x f)) (sym c.halt.ensures.halted)
+    (inr (
+      mend_passed d c.requires.running (mend_fails d mend.Turn c.requires.next),
+      inl (c.requires.next, sym c.may_turn.ensures ∙ c.if-not-may_turn.true, refl, refl),
+    ))
 
 pub returns-then-not-may_turn-clause-served : goal.returns-then-not-may_turn-clause-served
 returns-then-not-may_turn-clause-served g c =
@@ -171,7 +185,7 @@ pub returns-in_err-is_taken-clause-refused : goal.returns-in_err-is_taken-clause
 returns-in_err-is_taken-clause-refused g c =
     let t = (goal.at.returns-in_err-is_taken-clause-refused g c).After-master in
     let failed = err_from_is_err_and c.from_residual-in_err-is_taken.result c.from_residual-in_err-is_taken.ensures.1 in
-    let told = turn_declines (d g t) (f g t) c.requires.running c.requires.next c.home-backup.result
+    let told = turn_declines (d g t) (f g t) c.requires.running c.requires.next (may g t) c.home-backup.result
     (first_open c.master.result c.core.inside.next_id c.in_ok-new.new) c.in_err-is_taken.field-0.0
     (g.F.Fleet.state c.open_first.new.fleet) c.in_err-is_taken.ensures in
     rw (failed.1, failed.2, same_mid g t) told.0
@@ -179,7 +193,7 @@ returns-in_err-is_taken-clause-refused g c =
 pub returns-in_err-is_taken-clause-served : goal.returns-in_err-is_taken-clause-served
 returns-in_err-is_taken-clause-served g c =
     let t = (goal.at.returns-in_err-is_taken-clause-served g c).After-master in
-    let told = turn_declines (d g t) (f g t) c.requires.running c.requires.next c.home-backup.result
+    let told = turn_declines (d g t) (f g t) c.requires.running c.requires.next (may g t) c.home-backup.result
     (first_open c.master.result c.core.inside.next_id c.in_ok-new.new) c.in_err-is_taken.field-0.0
     (g.F.Fleet.state c.open_first.new.fleet) c.in_err-is_taken.ensures in
     subst (λ (x : MasterData × FleetState). StaysServed (d g t) (f g t) x.0 x.1)
@@ -329,9 +343,10 @@ returns-clause-accepted g c =
     let a = t g k in
     let is : c.mended.new.self ≡ mended_data (d g a) mend.Turn =
     c.mended.ensures.mended ∙ ap (λ (m : MasterData). mended_data m (mend.Open 0)) (left_is g k) in
+    let own = subst IsCore is c.mended.ensures.valid in
     rw (is, backup g a, id g a)
     (inr (turn_mends (d g a) (f g a) c.requires.running c.requires.next c.requires.served (may g a) (new g a)
-    (made g a) (valid g a) (after g k) (told g k true c.if-not-is_taken.false)))
+    (made g a) (valid g a) own (after g k) (told g k true c.if-not-is_taken.false)))
 
 pub returns-clause-served : goal.returns-clause-served
 returns-clause-served g c =
