@@ -1,5 +1,5 @@
 -- Of the pushes of a failover one comes next: while that is to open the new head, no other may be made.
-use Rattle.std.proofs.Common.{◌≡◌, ℕ, ◌≤◌, inl, inr, true, false, List, length, sym, ap, ◌∙◌, arith}
+use Rattle.std.proofs.Common.{◌≡◌, ℕ, ◌≤◌, inl, inr, true, List, length, sym, ap, ◌∙◌, arith}
 use Rattle.std.specs.Prelude.{Some, None}
 use Rattle.std.proofs.lemmas.Option.{same_Some}
 use Rattle.log_head.specs.Head.{IsLagging}

@@ -1,5 +1,5 @@
 -- While no failover is open, no replica is lost of a segment that the head lists.
-use Rattle.std.proofs.Common.{◌≡◌, ◌⊎◌, inl, inr, List, [], ◌∷◌, length, sym, ap, subst, ◌∙◌, arith}
+use Rattle.std.proofs.Common.{◌≡◌, inl, inr, length, ap, subst, ◌∙◌, arith}
 use Rattle.std.specs.Prelude.{ℕ, ◌≤◌, None}
 use Rattle.entry.specs.Bag.{IsAmong}
 use Rattle.images.specs.Sorted.{replicas_of}
@@ -9,9 +9,9 @@ use Rattle.master_core.specs.failover_model.Data.{FailData, Head, homes}
 use Rattle.master_core.specs.failover_model.Steps.{mended, NoneIsLost}
 use Rattle.master_core.specs.master_state.Data.{MasterData}
 use Rattle.master_core.specs.master_state.Invariant.{IsCore}
-use Rattle.master_core.specs.master_state.Log.{log_of, is_headless}
+use Rattle.master_core.specs.master_state.Log.{log_of}
 use Rattle.master.specs.Placed.{IsPlaced}
-use Rattle.master.proofs.InForce.{headed_or, real_head, none_head, force_headed, force_headless}
+use Rattle.master.proofs.InForce.{headed_or, force_headed, force_headless}
 use Rattle.master.proofs.LogSets.{closed_in}
 use Rattle.master.proofs.Placements.{homes_of}
 use Rattle.master.proofs.Placing.{placed_length}

@@ -1,18 +1,12 @@
 -- A push that may not open the new head of a failover answers Halted and nothing else.
-use Rattle.std.proofs.Common.{◌≡◌, inl, inr, true, false, refl, sym, ap, ◌∙◌}
-use Rattle.std.specs.Prelude.{Result, Ok, Err, Some, None}
-use Rattle.master_core.specs.master_state.declared.step.Refusal.{Refusal}
-use Rattle.master_core.specs.master_state.declared.step.Refusal.TheVariants as refusal
-use Rattle.master_core.specs.master_state.declared.step.Step.TheVariants.{Push}
-use Rattle.master_core.specs.master_state.declared.step.StepAnswer.{StepAnswer}
+use Rattle.std.proofs.Common.{◌≡◌, inl, inr, true, refl, sym, ap, ◌∙◌}
+use Rattle.std.specs.Prelude.{Ok, Err}
 use Rattle.master_core.specs.master_mending.declared.mending.Mend.{Mend}
 use Rattle.master_core.specs.master_mending.declared.mending.Mend.TheVariants as mend
 use Rattle.master_core.specs.master_mending.Mending.{IsNextMend}
 use Rattle.master_core.specs.master_state.Budget.{may_turn}
 use Rattle.master_core.specs.master_state.Data.{MasterData}
 use Rattle.master.specs.Laws.{StuckHalts}
-use Rattle.master.specs.Steps.{Steps}
-use Rattle.master.specs.World.{World}
 use Rattle.master.proofs.MendServed.{mend_fails, mend_passed}
 use Rattle.master.proofs.NextMends.{calm_may, later_may}
 
