@@ -23,8 +23,8 @@ mod pushing;
 mod retiring;
 mod showing;
 
-pub use laws::stuck_push_halts;
 pub use history::{CommandRef, History, RecordRef, ReplyRef, ValueRef};
+pub use laws::stuck_push_halts;
 pub use loading::Loading;
 pub use master::Master;
 pub use master_core;
