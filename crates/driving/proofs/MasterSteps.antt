@@ -94,12 +94,12 @@ refused_push old new r (inl h) kept waits =
       | inr both ↦ absurd (waits both.1)
     ]
 refused_push old new r (inr (test, inl h)) kept waits = ap is_of_push h.2
-refused_push old new r (inr (test, inr (inl h))) kept waits = ap is_of_push h.1
+refused_push old new r (inr (test, inr (inl h))) kept waits = ap is_of_push h.2
 refused_push old new refusal.NoMemory (inr (test, inr (inr h))) kept waits = refl
 refused_push old new refusal.Spent (inr (test, inr (inr h))) kept waits = refl
 refused_push old new refusal.Halted (inr (test, inr (inr h))) kept waits = refl
 refused_push old new (refusal.Lost b) (inr (test, inr (inr h))) kept waits = absurd (cc)
-refused_push old new r (inr (test, inr (inr h))) kept waits = absurd h
+refused_push old new r (inr (test, inr (inr h))) kept waits = absurd h.1
 
 -- something waits as long as a record isn't durable
 pub record_waits : (old now : MasterData) (f : FleetState) (place : ℕ) → IsValid now f → LivesOn old now []
@@ -121,8 +121,8 @@ nothing_waits old new (inl h) =
     tested (inl is) = absurd (cc)
     tested (inr both) = both.1
 nothing_waits old new (inr (test, inl h)) = let never = h.2 in absurd (cc)
-nothing_waits old new (inr (test, inr (inl h))) = let never = h.1 in absurd (cc)
-nothing_waits old new (inr (test, inr (inr h))) = absurd h
+nothing_waits old new (inr (test, inr (inl h))) = let never = h.2 in absurd (cc)
+nothing_waits old new (inr (test, inr (inr h))) = absurd h.1
 
 -- and nothing waits only where the head is open and no failover is
 pub done_works : (d : MasterData) → is_done d ≡ true → is_working d ≡ true

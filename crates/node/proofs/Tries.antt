@@ -39,8 +39,8 @@ push_unrolling old new (inl h) = tested old.knows.is_halted (is_done old.knows) 
     tested false true e = cc
     tested false false e = cc
 push_unrolling old new (inr (passed, inl h)) = let halts : refusal.Rolling ≡ refusal.Halted = h.2 in cc
-push_unrolling old new (inr (passed, inr (inl h))) = let halts : refusal.Rolling ≡ refusal.Halted = h.1 in cc
-push_unrolling old new (inr (passed, inr (inr h))) = h
+push_unrolling old new (inr (passed, inr (inl h))) = let halts : refusal.Rolling ≡ refusal.Halted = h.2 in cc
+push_unrolling old new (inr (passed, inr (inr h))) = h.1
 
 -- a try that is refused as Rolling does nothing
 pub try_waits : (old new : World) (command : Command) → Tries old command (Err refusal.Rolling) new

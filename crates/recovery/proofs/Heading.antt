@@ -64,8 +64,8 @@ by_push Push (Err refusal.Nothing) done old new (inl h) =
     subst (λ (w : World). is_done w.knows ≡ true) (sym h.1)
     (nothing_waits old.knows.is_halted (is_done old.knows) h.0)
 by_push Push (Err refusal.Nothing) done old new (inr (test, inl h)) = let never = h.2 in absurd (cc)
-by_push Push (Err refusal.Nothing) done old new (inr (test, inr (inl h))) = let never = h.1 in absurd (cc)
-by_push Push (Err refusal.Nothing) done old new (inr (test, inr (inr h))) = absurd h
+by_push Push (Err refusal.Nothing) done old new (inr (test, inr (inl h))) = let never = h.2 in absurd (cc)
+by_push Push (Err refusal.Nothing) done old new (inr (test, inr (inr h))) = absurd h.1
 by_push _ _ done old new h = absurd done
 
 at_end : (old new : World) (steps : List Step) (answers : List (Result StepAnswer Refusal))

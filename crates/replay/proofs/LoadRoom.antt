@@ -35,8 +35,8 @@ not_rolling old new r h is = go (subst (λ (x : Refusal). Declines old Push x ne
     go : Declines old Push refusal.Rolling new → ⊥
     go (inl h) = tested old.knows.is_halted (is_done old.knows) h.0
     go (inr (test, inl h)) = let never = h.2 in cc
-    go (inr (test, inr (inl h))) = let never = h.1 in cc
-    go (inr (test, inr (inr h))) = h
+    go (inr (test, inr (inl h))) = let never = h.2 in cc
+    go (inr (test, inr (inr h))) = h.1
 
 pub push_final : (old new : World) (r : Refusal) → PushesUntil old r new → (r ≡ refusal.Nothing → ⊥) → IsFinal r
 push_final old new r (count, mid, pushes, declines, lost) not_nothing = (not_rolling mid new r declines, not_nothing)
