@@ -267,29 +267,18 @@ abbrev pub AnswersStep : Node → Config → Step → Node → Answer → Type 0
 AnswersStep old config step new answer = IfSome (line_of step)
     (λ (line : LineValue). AnswersLine old config line new answer)
 
--- The fleet of a node without a master is asked for this fault. A master shows no more of its fleet than any fleet does,
--- and there nothing is said of it.
-abbrev pub IsAskedDown : Node → Asked → Node → Type 0
-IsAskedDown (Up m) asked new = Unit {0}
-IsAskedDown (Down fleet) asked new = asked_of new ≡ Some asked
-IsAskedDown Changing asked new = asked_of new ≡ None
-
--- what the fleet of a node without a master is asked for stays
-abbrev pub KeepsAskedDown : Node → Node → Type 0
-KeepsAskedDown (Up m) new = Unit {0}
-KeepsAskedDown old new = asked_of new ≡ asked_of old
-
--- The fleet is to take this many more ops, and nothing else changed. What a master knows is the same.
+-- The fleet is to take this many more ops, and nothing else changed. What a master knows is the same, and so is the fault
+-- that the fleet is asked for.
 abbrev pub LimitsFleet : Node → ℕ → Node → Type 0
 LimitsFleet old takes new =
     (world_of new ≡ option_map (λ (w : World). limited_world w takes) (world_of old))
     × (fleet_of new ≡ option_map (λ (f : FleetState). limited f takes) (fleet_of old))
-    × KeepsAskedDown old new
+    × (asked_of new ≡ asked_of old)
 
--- just this fault is asked for, and nothing else changed
+-- just this fault is asked for, in place of what was asked for before, and nothing else changed
 abbrev pub AsksFault : Node → ℕ → Bool → Node → Type 0
 AsksFault old takes taken new = (world_of new ≡ world_of old) × (fleet_of new ≡ fleet_of old)
-    × IsAskedDown old (record { takes = takes; taken = taken }) new
+    × (asked_of new ≡ option_map (λ (asked : Asked). record asked { takes = takes; taken = taken }) (asked_of old))
 
 -- there is no master any more, and the fleet is the same, with the fault that it is asked for
 abbrev pub LosesMaster : Node → Node → Type 0

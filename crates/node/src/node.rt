@@ -287,7 +287,10 @@ impl Node {
         ensures limited { LimitsFleet self.old takes self.new }
     {
         match self {
-            Node::Up(up) => up.limit(takes),
+            Node::Up(up) => {
+                up.fleet.limit(takes);
+                up.show_valid();
+            }
             Node::Down(fleet) => fleet.limit(takes),
             Node::Changing => {}
         }
@@ -300,7 +303,10 @@ impl Node {
         ensures same { AsksFault self.old takes taken self.new }
     {
         match self {
-            Node::Up(up) => up.fault_at(takes, taken),
+            Node::Up(up) => {
+                up.fleet.fault_at(takes, taken);
+                up.show_valid();
+            }
             Node::Down(fleet) => fleet.fault_at(takes, taken),
             Node::Changing => {}
         }
