@@ -267,8 +267,8 @@ abbrev pub AnswersStep : Node → Config → Step → Node → Answer → Type 0
 AnswersStep old config step new answer = IfSome (line_of step)
     (λ (line : LineValue). AnswersLine old config line new answer)
 
--- The fleet is to take this many more ops, and nothing else changed. What a master knows is the same, and so is the fault
--- that the fleet is asked for.
+-- The fleet is to take this many more ops, and nothing else changed. What a master knows is the same, and so is the
+-- fault that the fleet is asked for.
 abbrev pub LimitsFleet : Node → ℕ → Node → Type 0
 LimitsFleet old takes new =
     (world_of new ≡ option_map (λ (w : World). limited_world w takes) (world_of old))
