@@ -3,7 +3,6 @@ use Rattle.std.proofs.Common.{◌≡◌, ℕ, zero, suc, ◌<◌, ◌≤◌, Boo
 use Rattle.std.proofs.Common.{take, refl, sym, ap, subst, ◌∙◌, arith}
 use Rattle.std.proofs.lemmas.List.{append-nil, append_assoc}
 use Rattle.std.specs.Prelude.{◌↔◌, ◌⊎◌, Some, None, if◌then◌else◌, Result, Ok, Err, IfOk, IfErr}
-use Rattle.entry.specs.declared.key.Key.{Key}
 use Rattle.tablet_will.specs.declared.part.Part.{Part}
 use Rattle.claims.specs.declared.rebuilt.Rebuilt.{Rebuilt}
 use Rattle.entry.specs.Meaning.{contents_of}
@@ -89,52 +88,36 @@ durable_stays old new (s ∷ ss) (a ∷ rest) run =
     let first = run.2.keeps.durable in
     let later = durable_stays run.0 new ss rest run.3 in omega (arith, first, later)
 
--- the commands before a push that found nothing are durable
+-- if the first step is a push that found nothing, all commands until then are durable
+at_once : (old new : World) (s : Step) (a : Result StepAnswer Refusal) (ss : List Step)
+    (rest : List (Result StepAnswer Refusal)) → IsRun old (s ∷ ss) (a ∷ rest) new → IsIdlePush s a
+    → length (old.knows.history ++ (record_of s a ++ [])) ≤ durable_of (log_of new.knows)
+at_once old new s a ss rest run idle =
+    let all = run.2.valid.pushed (by_push s a idle old run.0 run.1) in
+    let stays = durable_stays run.0 new ss rest run.3 in
+    let same = ap length (made s old run.0 a run.1)
+    ∙ ap (λ (rs : List Record). length (old.knows.history ++ rs)) (sym (append-nil (record_of s a))) in
+    omega (arith, all, stays, same)
+
+-- so are the commands before any such push
 stays_durable : (old new : World) (steps : List Step) (answers : List (Result StepAnswer Refusal))
     → IsRun old steps answers new → (count : ℕ) → EndsIdle (take count steps) (take count answers)
     → length (old.knows.history ++ records_of (take count steps) (take count answers))
     ≤ durable_of (log_of new.knows)
-stays_durable old new [] answers run zero ends = absurd ends
-stays_durable old new [] answers run (suc n) ends = absurd ends
-stays_durable old new (s ∷ ss) answers run zero ends = absurd ends
-stays_durable old new (s ∷ ss) [] run (suc n) ends = absurd (never ss n ends) where
-  never : (ss : List Step) (n : ℕ) → EndsIdle (s ∷ take n ss) [] → ⊥
-  never [] zero ends = ends
-  never [] (suc n) ends = ends
-  never (t ∷ ss) zero ends = ends
-  never (t ∷ ss) (suc n) ends = ends
-stays_durable old new (s ∷ ss) (a ∷ rest) run (suc n) ends = go ss rest run.3 n ends where
-  mid : World
-  mid = run.0
-
-  made_first : mid.knows.history ≡ old.knows.history ++ record_of s a
-  made_first = made s old mid a run.1
-
-  -- the push is the first step
-  at_once : IsIdlePush s a → (steps : List Step) (answers : List (Result StepAnswer Refusal))
-      → IsRun mid steps answers new
-      → length (old.knows.history ++ (record_of s a ++ [])) ≤ durable_of (log_of new.knows)
-  at_once idle steps answers later =
-      let all = run.2.valid.pushed (by_push s a idle old mid run.1) in
-      let stays = durable_stays mid new steps answers later in
-      let same = ap length made_first
-      ∙ ap (λ (rs : List Record). length (old.knows.history ++ rs)) (sym (append-nil (record_of s a))) in
-      omega (arith, all, stays, same)
-
-  go : (ss : List Step) (rest : List (Result StepAnswer Refusal)) → IsRun mid ss rest new → (n : ℕ)
-      → EndsIdle (s ∷ take n ss) (a ∷ take n rest)
-      → length (old.knows.history ++ (record_of s a ++ records_of (take n ss) (take n rest)))
-      ≤ durable_of (log_of new.knows)
-  go ss rest later zero idle = at_once idle ss rest later
-  go [] [] later (suc n) idle = at_once idle [] [] later
-  go [] (b ∷ rest) later (suc n) idle = absurd later
-  go (t ∷ ss) [] later (suc n) idle = absurd later
-  go (t ∷ ss) (b ∷ rest) later (suc n) idle =
-      let rs = records_of (t ∷ take n ss) (b ∷ take n rest) in
-      let more = stays_durable mid new (t ∷ ss) (b ∷ rest) later (suc n) idle in
-      let same = ap (λ (hs : List Record). length (hs ++ rs)) made_first
-      ∙ ap length (append_assoc old.knows.history (record_of s a) rs) in
-      omega (arith, more, same)
+stays_durable old new [] answers run zero idle = absurd idle
+stays_durable old new [] answers run (suc n) idle = absurd idle
+stays_durable old new (s ∷ ss) [] run n idle = absurd run
+stays_durable old new (s ∷ ss) (a ∷ rest) run zero idle = absurd idle
+stays_durable old new (s ∷ ss) (a ∷ rest) run (suc zero) idle = at_once old new s a ss rest run idle
+stays_durable old new (s ∷ []) (a ∷ []) run (suc (suc n)) idle = at_once old new s a [] [] run idle
+stays_durable old new (s ∷ []) (a ∷ b ∷ rest) run (suc (suc n)) idle = absurd run.3
+stays_durable old new (s ∷ t ∷ ss) (a ∷ []) run (suc (suc n)) idle = absurd run.3
+stays_durable old new (s ∷ t ∷ ss) (a ∷ b ∷ rest) run (suc (suc n)) idle =
+    let rs = records_of (t ∷ take n ss) (b ∷ take n rest) in
+    let more = stays_durable run.0 new (t ∷ ss) (b ∷ rest) run.3 (suc n) idle in
+    let same = ap (λ (hs : List Record). length (hs ++ rs)) (made s old run.0 a run.1)
+    ∙ ap length (append_assoc old.knows.history (record_of s a) rs) in
+    omega (arith, more, same)
 
 -- ---- orders
 

@@ -1,13 +1,10 @@
 -- What a step asked of the fleet, and which record it made.
 use Rattle.std.proofs.Common.{◌≡◌, ℕ, List, [], ◌∷◌, ◌++◌, inl, inr, refl, sym, ap, subst, ◌∙◌}
-use Rattle.std.specs.Prelude.{Option, Some, Result, Ok, Err}
+use Rattle.std.specs.Prelude.{Result, Ok, Err}
 use Rattle.std.proofs.lemmas.List.{append-nil, append_assoc}
-use Rattle.replica.specs.declared.op.TakeFault.{TakeFault}
 use Rattle.replica.specs.declared.op.TakeFault.TheVariants as take_fault
 use Rattle.replica.specs.Picture.{FleetState}
 use Rattle.versioned_map.specs.declared.command.Record.{Record}
-use Rattle.versioned_map.specs.declared.command.Command.{Command}
-use Rattle.versioned_map.specs.declared.command.Reply.{Reply}
 use Rattle.replay.specs.master.failover_model.Data.{FailData}
 use Rattle.replay.specs.master.failover_model.Shown.{Op, On, Raise}
 use Rattle.replay.specs.master.failover_bytes.Ops.{TakesOp, RefusesOp, act_for}
@@ -18,14 +15,12 @@ use Rattle.replay.specs.master.master_state.declared.step.Step.{Step}
 use Rattle.replay.specs.master.master_state.declared.step.Step.TheVariants.{Apply, Push, BeginRoll, Compact, BeginClean}
 use Rattle.replay.specs.master.master_state.declared.step.Step.TheVariants.{Copy, Seal, Free}
 use Rattle.replay.specs.master.master_state.declared.step.StepAnswer.{StepAnswer}
-use Rattle.replay.specs.master.master_state.declared.step.StepAnswer.TheVariants.{Applied}
-use Rattle.replay.specs.master.master_state.Data.{MasterData}
 use Rattle.replay.specs.master.Passes.{IsSealOp, IsFreeOp}
 use Rattle.replay.specs.master.Steps.{Steps, FailsTake, IsPushOp, IsRun}
 use Rattle.replay.specs.master.World.{World}
 use Rattle.recovery.proofs.of_driving.MasterSteps.{begun_history, compacted_history, pushed_history}
 use Rattle.recovery.proofs.of_driving.PassSteps.{clean_history, copied_history, freed_history, sealed_history}
-use Rattle.recovery.specs.Headline.{Asked, Backup, Registry, Makes, MakeOf, record_of, records_of}
+use Rattle.recovery.specs.Headline.{Asked, Backup, Registry, MakeOf, record_of, records_of}
 
 -- ---- takes
 
