@@ -123,9 +123,9 @@ fn claims_divided<'a>(
 /// A Double names the segment of two groups of one partition that the order names: one group twice, or groups of two
 /// segments that have one id. A Stranger is a number of the order that is not below the count of groups. MissingGroup
 /// names the segment of the first group that the order leaves out. A Stray is the key of an entry, and in no partition.
-/// Two values of one key and version are a Clash, even if a later version covers them. NoMemory says that each number
-/// of the order is below the count of groups, and that the segments' ids differ if the order names each group once. If
-/// it names each once and the ids differ, a clean log whose keys all have partitions fails for memory alone.
+/// Two values of one key and version are a Clash, even if a later version covers them. NoMemory says that each number of
+/// the order is below the count of groups, and that the segments' ids differ if the order names each group once. If both
+/// hold, a clean log whose keys all have partitions fails for memory alone.
 ///
 /// For n entries in s segments and p partitions it takes about n log n + s p steps, and at most s s more if the
 /// segments' ids don't rise.

@@ -39,8 +39,8 @@ fn names_first(order: &[usize], at: usize, partitions: usize) -> bool
     false
 }
 
-/// Why a log is not rebuilt if memory runs out: a Stranger, if the order has one; a Double, if the order names the
-/// first groups of two segments of one id; else NoMemory.
+/// Why a log is not rebuilt if memory runs out: a Stranger, if the order has one; a Double, if the order names the first
+/// groups of two segments of one id; else NoMemory.
 pub fn want_of_memory(segments: &[SegmentRef<'_>], will: &Will, order: &[usize]) -> ReplayFault
     ensures { IsRebuildFault segments.now will.now order.now result }
 {
