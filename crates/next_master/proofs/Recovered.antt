@@ -204,7 +204,7 @@ module _ (node : Node) (fleet : MemoryFleet) (config : Config) (d : MasterData) 
   -- a refusal for memory names no loss
   pub want_told : (order : ReplayOrder) → Tells config (life_of d) at (Recover order)
       (answer.NotRecovered (fault.Plan plan_fault.NoMemory)) at
-  want_told order = ((order, refl), left.0, left.1, (tt, inl tt, λ both. tt), refl)
+  want_told order = ((order, refl), left.0, left.1, (inr tt, inl tt, λ both. tt), refl)
 
 -- ---- orders
 
