@@ -106,7 +106,7 @@ pub want_at : (node : Node) (config : Config) (order : ReplayOrder) → is_up no
 want_at node config order down =
     stays_told node config (Recover order) (answer.NotRecovered (fault.Plan plan_fault.NoMemory))
     (λ d at s. let l = is_down_some node d at.left down s.node_of in
-    ((order, refl), l.0, l.1, (tt, inl tt, λ both. tt), refl))
+    ((order, refl), l.0, l.1, (inr tt, inl tt, λ both. tt), refl))
 
 -- a store couldn't tell whose its records were, so what is left isn't recovered
 pub unknown_at : (node : Node) (config : Config) (order : ReplayOrder) → is_up node ≡ false
