@@ -1,5 +1,5 @@
 -- What a master keeps that freed what others left, or was halted by that.
-use Rattle.std.proofs.Common.{◌≡◌, refl, List}
+use Rattle.std.proofs.Common.{◌≡◌, refl}
 use Rattle.std.specs.Prelude.{Result, Ok, Err}
 use Rattle.replica.specs.declared.op.TakeFault.{TakeFault}
 use Rattle.replica.specs.declared.op.TakeFault.TheVariants as take_fault

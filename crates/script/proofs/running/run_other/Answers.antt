@@ -1,4 +1,4 @@
-use Rattle.std.proofs.Common.{◌≡◌, ap, inr, refl, subst, sym}
+use Rattle.std.proofs.Common.{ap, inr, refl, subst}
 use Rattle.std.proofs.KnownBytes.{Keeps-refl}
 use Rattle.lines.specs.Grammar.{LineValue, Says, shown_line}
 use Rattle.lines.specs.declared.reason.Reason.TheVariants.{NoBackup}
