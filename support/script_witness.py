@@ -372,9 +372,9 @@ class Follower:
         """Whether the master may be halted. From here on it is."""
         # A failover that finds no room for its head halts the master too.
         may_be = self.is_halted or self.is_due or self.failed > 0
+        # The fault that halts a master of format 1 doesn't come again. One that is asked for later may still come.
+        self.is_due = self.is_due and (self.is_halted or self.master_format == 2)
         self.is_halted = True
-        # A fault halts a master of format 1, and no further one was asked for.
-        self.is_due = self.is_due and self.master_format == 2
         return may_be
 
     def may_form(self, name, row):
