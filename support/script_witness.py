@@ -394,10 +394,13 @@ class Follower:
     def stop(self, name):
         self.is_up, self.is_unlimited, self.is_halted = False, True, False
         if name == "recover":
-            self.greatest += 1
-            # The new master may have gone on without a backup before it was stopped.
-            if self.is_due and self.format == 2:
-                self.failed += 1
+            self.end_recovery()
+
+    def end_recovery(self):
+        """A recovery ended early. Its master took a number, and may have gone on without a backup before that."""
+        self.greatest += 1
+        if self.is_due and self.format == 2:
+            self.failed += 1
 
     def may_command(self, line, row):
         kind = "put" if line[0] in ("put", "new", "cas") else line[0]
@@ -476,7 +479,8 @@ class Follower:
     def may_recover(self, _, answer):
         """A recovery that came to its end was judged by the witness; the new master's layout is known then, unless a fault may come."""
         if answer[-1].startswith("refused "):
-            self.greatest += answer[-1] in ("refused Full", "refused Halted")
+            if answer[-1] in ("refused Full", "refused Halted"):
+                self.end_recovery()
             if answer == ["refused Halted"]:
                 return self.is_due
             too_old = "HeadTooOld|" if self.failed else ""
