@@ -35,6 +35,7 @@ fleet_of backups heads = record {
   end = no_limit;
   faults = 0;
   least = least_in heads;
+  acks = [];
 }
 
 pub empty_fleet : (n : ℕ) (backups : List MemoryBackup) (heads : Heads) → length backups ≡ n → AreEmpty backups
@@ -47,6 +48,7 @@ empty_fleet n backups heads count empty none =
       end = no_limit;
       faults = 0;
       least = least_in (none i);
+      acks = [];
     }
 
 pub pushed_count : (backups new : List MemoryBackup) (x : MemoryBackup) (n : ℕ) → new ≡ backups ++ x ∷ []

@@ -7,7 +7,7 @@ use Rattle.replica.specs.declared.op.TakeFault.TheVariants as take_fault
 use Rattle.replica.specs.declared.spot.Spot.{Spot}
 use Rattle.replica.specs.Picture.{FleetState}
 use Rattle.replica.specs.Retire.{FreesEach, freeing}
-use Rattle.replica.specs.Take.{TakeGives, Takes, faulted}
+use Rattle.replica.specs.Take.{TakeGives, Takes, unanswered}
 use Rattle.replica.proofs.Retiring.{frees_more, nothing_freed}
 use Rattle.backup.specs.declared.fleet.Asked.{Asked}
 use Rattle.backup.specs.declared.fleet.MemoryFleet.{MemoryFleet}
@@ -36,7 +36,7 @@ after_freed a old new count is =
     let same : count ≡ new - old = omega (arith, is) in ap (λ (n : ℕ). after_takes n a) same
 
 -- the take that ended in the fault was counted, or its op was lost
-fault_takes : (t : Bool) (m f : FleetState) (n : ℕ) → n ≡ (faulted (if t then m else f)).takes → m.takes ≡ f.takes + 1
+fault_takes : (t : Bool) (m f : FleetState) (n : ℕ) → n ≡ (unanswered f (if t then m else f)).takes → m.takes ≡ f.takes + 1
     → n + (if t then 0 else 1) ≡ f.takes + 1
 fault_takes true m f n is one = omega (arith, is, one)
 fault_takes false m f n is one = omega (arith, is)
@@ -63,6 +63,6 @@ module _ (old mid new : MemoryFleet) (spots : List Spot) (x : Spot)
       let first : mid.asked.takes ≡ 1 = due.0 in
       let sum : new.takes + (if old.asked.taken then 0 else 1) ≡ f.takes + 1 =
       fault_takes old.asked.taken m f new.takes
-      (subst (λ (t : Bool). new.takes ≡ (faulted (if t then m else f)).takes) (ap (λ (a : Asked). a.taken) asked)
+      (subst (λ (t : Bool). new.takes ≡ (unanswered f (if t then m else f)).takes) (ap (λ (a : Asked). a.taken) asked)
       (ap (λ (s : FleetState). s.takes) is)) one in
       (none, omega (arith, next, first), omega (arith, next, first, sum, takes))

@@ -7,7 +7,7 @@ use Rattle.std.proofs.lemmas.Bool.{eqb-true, lt-ltb, and_parts}
 use Rattle.std.proofs.Math.Dec.{eqb-zero-suc, eqb-suc-zero, eqb-suc-suc}
 use Rattle.std.proofs.lemmas.Option.{slice_get_within}
 use Rattle.replica.specs.Op.{OpValue}
-use Rattle.replica.specs.Picture.{Replica, FleetState, with_replica, left_on}
+use Rattle.replica.specs.Picture.{Replica, Ack, FleetState, with_replica, left_on}
 use Rattle.replica.specs.Take.{effect, taken, with_effect}
 use Rattle.backup.specs.declared.memory.MemoryBackup.{MemoryBackup}
 use Rattle.backup.specs.Shelf.{replica_at}
@@ -81,14 +81,15 @@ picture_of-same backups b old new m s change same =
     fun_ext (λ c. fun_ext (λ n. fun_ext (λ t. unchanged_at backups b old new m s change same c n t)))
 
 -- a fleet with these backups, counts and least heads
-abbrev pub fleet_of : List MemoryBackup → ℕ → ℕ → ℕ → (ℕ → ℕ) → FleetState
-fleet_of backups takes end faults least = record {
+abbrev pub fleet_of : List MemoryBackup → ℕ → ℕ → ℕ → (ℕ → ℕ) → List Ack → FleetState
+fleet_of backups takes end faults least acks = record {
   backups = length backups;
   picture = picture_of backups;
   takes = takes;
   end = end;
   faults = faults;
   least = least;
+  acks = acks;
 }
 
 emptied_at : (old : Option MemoryBackup) (new : MemoryBackup) (n t : ℕ) (x : Bool) → replica_at new n t ≡ None
@@ -104,20 +105,20 @@ lost_at backups b new within empty c n t =
 
 -- if the backup becomes one that holds nothing, the fleet has lost what it held
 pub lost_by : (backups : List MemoryBackup) (b : ℕ) (new : MemoryBackup) (takes end faults : ℕ) (least : ℕ → ℕ)
-    → b < length backups → ((m s : ℕ) → replica_at new m s ≡ None)
-    → fleet_of (set backups b new) takes end faults least ≡ lost (fleet_of backups takes end faults least) b
-lost_by backups b new takes end faults least within empty =
+    (acks : List Ack) → b < length backups → ((m s : ℕ) → replica_at new m s ≡ None)
+    → fleet_of (set backups b new) takes end faults least acks ≡ lost (fleet_of backups takes end faults least acks) b
+lost_by backups b new takes end faults least acks within empty =
     let left : picture_of (set backups b new) ≡ left_on (λ d. not (b == d)) (picture_of backups) =
     fun_ext (λ c. fun_ext (λ n. fun_ext (λ t. lost_at backups b new within empty c n t))) in
     rw (length-set, left) refl
 
 -- what the backup does is what the fleet does
 pub taken_by : (backups : List MemoryBackup) (b : ℕ) (old new : MemoryBackup) (op : OpValue) (takes end faults : ℕ)
-    (least : ℕ → ℕ) → Change backups b old new op.master op.segment
+    (least : ℕ → ℕ) (acks : List Ack) → Change backups b old new op.master op.segment
     → effect op.act (replica_at old op.master op.segment) ≡ Some (replica_at new op.master op.segment)
-    → taken (fleet_of backups takes end faults least) b op
-    ≡ Some (fleet_of (set backups b new) (takes + 1) end faults least)
-taken_by backups b old new op takes end faults least change done =
+    → taken (fleet_of backups takes end faults least acks) b op
+    ≡ Some (fleet_of (set backups b new) (takes + 1) end faults least (record { backup = b; op = op } ∷ acks))
+taken_by backups b old new op takes end faults least acks change done =
     rw (
       lt-ltb b (length backups) (slice_get_within backups b old change.is),
       change.is,
@@ -128,8 +129,9 @@ taken_by backups b old new op takes end faults least change done =
 
 -- an op fits the fleet exactly if it fits the backup's replica
 pub taken-effect : (backups : List MemoryBackup) (b : ℕ) (old : MemoryBackup) (op : OpValue) (takes end faults : ℕ)
-    (least : ℕ → ℕ) → slice_get backups b ≡ Some old
-    → taken (fleet_of backups takes end faults least) b op
-    ≡ with_effect (fleet_of backups takes end faults least) b op (effect op.act (replica_at old op.master op.segment))
-taken-effect backups b old op takes end faults least is =
+    (least : ℕ → ℕ) (acks : List Ack) → slice_get backups b ≡ Some old
+    → taken (fleet_of backups takes end faults least acks) b op
+    ≡ with_effect (fleet_of backups takes end faults least acks) b op
+    (effect op.act (replica_at old op.master op.segment))
+taken-effect backups b old op takes end faults least acks is =
     rw (lt-ltb b (length backups) (slice_get_within backups b old is), is) refl

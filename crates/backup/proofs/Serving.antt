@@ -5,7 +5,7 @@ use Rattle.std.proofs.lemmas.Bool.{false≢true}
 use Rattle.replica.specs.declared.op.TakeFault.{TakeFault}
 use Rattle.replica.specs.declared.op.TakeFault.TheVariants as take_fault
 use Rattle.replica.specs.Op.{OpValue}
-use Rattle.replica.specs.Picture.{Replica, FleetState}
+use Rattle.replica.specs.Picture.{Replica, Ack, FleetState}
 use Rattle.replica.specs.Take.{effect, taken, with_effect, Takes}
 use Rattle.backup.specs.declared.memory.MemoryBackup.{MemoryBackup}
 use Rattle.backup.specs.Acts.{Acts, IsWrongOp}
@@ -24,15 +24,15 @@ fits_not f b op None none = refl
 fits_not f b op (Some r) none = absurd (false≢true (sym none))
 
 module _ (backups : List MemoryBackup) (b : ℕ) (old new : MemoryBackup) (op : OpValue) (takes end faults : ℕ)
-    (least : ℕ → ℕ) (change : Change backups b old new op.master op.segment) where
+    (least : ℕ → ℕ) (acks : List Ack) (change : Change backups b old new op.master op.segment) where
   abbrev f : FleetState
-  f = fleet_of backups takes end faults least
+  f = fleet_of backups takes end faults least acks
 
   abbrev e : Option (Option Replica)
   e = effect op.act (replica_at old op.master op.segment)
 
   is_effect : taken f b op ≡ with_effect f b op e
-  is_effect = taken-effect backups b old op takes end faults least change.is
+  is_effect = taken-effect backups b old op takes end faults least acks change.is
 
   -- the fleet takes an op that fits its backup
   pub fits_fleet : takes < end → is_some e ≡ true → (mid : FleetState) × Takes f b op mid
@@ -44,13 +44,13 @@ module _ (backups : List MemoryBackup) (b : ℕ) (old new : MemoryBackup) (op : 
 
   -- a backup with the same replicas leaves the fleet the same
   pub same_fleet : replica_at new op.master op.segment ≡ replica_at old op.master op.segment
-      → fleet_of (set backups b new) takes end faults least ≡ f
+      → fleet_of (set backups b new) takes end faults least acks ≡ f
   same_fleet same = rw (length-set, picture_of-same backups b old new op.master op.segment change same) refl
 
   -- what the backup refuses, the fleet refuses
   pub served_by : (fault : TakeFault) → takes < end
       → Acts op.act (replica_at old op.master op.segment) (Err fault) (replica_at new op.master op.segment)
-      → Serves f b op (Err fault) (fleet_of (set backups b new) takes end faults least)
+      → Serves f b op (Err fault) (fleet_of (set backups b new) takes end faults least acks)
   served_by take_fault.NoMemory left acts = (fits_fleet left acts.0, same_fleet acts.1)
   served_by take_fault.Wrong left acts =
       ((left, is_effect ∙ ap (with_effect f b op) acts.0), same_fleet acts.1)

@@ -1,11 +1,11 @@
 -- Faults that are asked for, and what a take does by its answer.
-use Rattle.std.specs.Prelude.{◌≡◌, ℕ, ◌+◌, ◌-◌, ◌<◌, false, Result, Ok, Err, if◌then◌else◌}
+use Rattle.std.specs.Prelude.{◌≡◌, ℕ, ◌+◌, ◌-◌, ◌<◌, Bool, false, Result, Ok, Err, if◌then◌else◌}
 use Rattle.replica.specs.declared.op.TakeFault.{TakeFault}
 use Rattle.replica.specs.declared.op.TakeFault.TheVariants as take_fault
 use Rattle.replica.specs.Op.{OpValue}
 use Rattle.replica.specs.Picture.{FleetState}
 use Rattle.replica.specs.Registry.{Raises}
-use Rattle.replica.specs.Take.{Takes, faulted, no_limit}
+use Rattle.replica.specs.Take.{Takes, unanswered, no_limit}
 use Rattle.backup.specs.declared.fleet.Asked.{Asked}
 use Rattle.backup.specs.declared.fleet.MemoryFleet.{MemoryFleet}
 use Rattle.backup.specs.Acts.{IsWrongOp}
@@ -36,7 +36,7 @@ TakesRaise master id = λ old new. Raises old master id new
 -- The fleet would have done it. It did or not, as was asked, and one more fault is counted.
 abbrev pub FaultsAsAsked : Deed → MemoryFleet → MemoryFleet → Type 0
 FaultsAsAsked Does old new = (mid : FleetState) × Does (fleet_state old) mid
-    × (fleet_state new ≡ faulted (if old.asked.taken then mid else fleet_state old))
+    × (fleet_state new ≡ unanswered (fleet_state old) (if old.asked.taken then mid else fleet_state old))
 
 -- A take ends in a fault just if it is the one that was asked for, and the fleet would have done it. A take that is
 -- refused otherwise isn't counted.
@@ -70,6 +70,21 @@ Serves old b op (Err take_fault.NoMemory) new = ((mid : FleetState) × Takes old
 Serves old b op (Err take_fault.Wrong) new = IsWrongOp old b op × (new ≡ old)
 Serves old b op (Err take_fault.Fault) new = ⊥
 Serves old b op (Err take_fault.Spent) new = (old.takes ≡ old.end) × (new ≡ old)
+
+-- the fleet that took an op whose ack isn't noted yet
+abbrev pub unnoted : FleetState → FleetState → FleetState
+unnoted old taken = record taken { acks = old.acks }
+
+-- The same before anyone is answered.
+abbrev pub ServesUnanswered : FleetState → ℕ → OpValue → Result Unit TakeFault → FleetState → Type 0
+ServesUnanswered old b op (Ok u) new = (mid : FleetState) × Takes old b op mid × (new ≡ unnoted old mid)
+ServesUnanswered old b op (Err fault) new = Serves old b op (Err fault) new
+
+-- What is done with an op before its take ends in a fault: it is served or not.
+abbrev pub Attempts : Bool → FleetState → ℕ → OpValue → Result Unit TakeFault → FleetState → Type 0
+Attempts taken old b op (Ok u) new =
+    (mid : FleetState) × Takes old b op mid × (new ≡ unnoted old (if taken then mid else old))
+Attempts taken old b op (Err fault) new = Serves old b op (Err fault) new
 
 -- The same of a raise, which is never wrong.
 abbrev pub ServesRaise : FleetState → ℕ → ℕ → Result Unit TakeFault → FleetState → Type 0

@@ -1,8 +1,10 @@
 -- What a fleet in memory holds.
-use Rattle.std.specs.Prelude.{ℕ, ◌==◌, List, length, Option, Some, None, IsSome, not}
+use Rattle.std.specs.Prelude.{ℕ, ◌==◌, List, [], length, Option, Some, None, IsSome, not}
 use Rattle.std.specs.List.{slice_get}
-use Rattle.replica.specs.Picture.{Replica, Picture, FleetState, left_on}
+use Rattle.replica.specs.Op.{shown_op}
+use Rattle.replica.specs.Picture.{Replica, Picture, Ack, FleetState, left_on}
 use Rattle.replica.specs.Take.{no_limit}
+use Rattle.backup.specs.declared.acks.Handed.{Handed}
 use Rattle.backup.specs.declared.memory.MemoryBackup.{MemoryBackup}
 use Rattle.backup.specs.declared.fleet.MemoryFleet.{MemoryFleet}
 use Rattle.backup.specs.Registry.{least_in}
@@ -17,6 +19,10 @@ replica_on (Some memory) m s = replica_at memory m s
 abbrev pub picture_of : List MemoryBackup → Picture
 picture_of backups = λ b m s. replica_on (slice_get backups b) m s
 
+-- the ack of an op
+abbrev pub ack_of : Handed → Ack
+ack_of handed = record { backup = handed.backup; op = shown_op handed.op }
+
 -- the fleet as the contract of a fleet sees it
 abbrev pub fleet_state : MemoryFleet → FleetState
 fleet_state fleet = record {
@@ -26,6 +32,7 @@ fleet_state fleet = record {
   end = fleet.end;
   faults = fleet.faults;
   least = least_in fleet.registry;
+  acks = fleet.acks.list;
 }
 
 -- a fleet of so many backups that holds nothing, without a limit, of which any head may be used
@@ -37,9 +44,10 @@ new_fleet backups = record {
   end = no_limit;
   faults = 0;
   least = λ m. 0;
+  acks = [];
 }
 
--- the fleet in which one backup has lost all that it held
+-- the fleet in which one backup has lost all that it held; what it answered before stays answered
 abbrev pub lost : FleetState → ℕ → FleetState
 lost f b = record {
   backups = f.backups;
@@ -48,6 +56,7 @@ lost f b = record {
   end = f.end;
   faults = f.faults;
   least = f.least;
+  acks = f.acks;
 }
 
 -- this backup holds a replica

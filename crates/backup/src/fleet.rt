@@ -2,6 +2,7 @@
 
 ghost use Rattle.std.specs.Prelude.{◌≤◌};
 
+use crate::acks::{Acks, Handed};
 use crate::memory::MemoryBackup;
 use crate::registry::Registry;
 use entry::NoMemory;
@@ -53,6 +54,7 @@ pub struct MemoryFleet {
     end: u64,
     faults: u64,
     asked: Asked,
+    acks: Acks,
     ghost within: { takes ≤ end },
 }
 
@@ -63,7 +65,8 @@ impl MemoryFleet {
     ghost use Rattle.replica.specs.Retire.{AreOthers};
     ghost use Rattle.replica.specs.Take.{faulted, no_limit};
     ghost use Rattle.backup.specs.Acts.{MayGrow};
-    ghost use Rattle.backup.specs.Faults.{nothing_asked, IsDue, Serves, Fails, ServesRaise, FailsRaise};
+    ghost use Rattle.backup.specs.Faults.{nothing_asked, IsDue, Serves, ServesUnanswered, Attempts, Fails};
+    ghost use Rattle.backup.specs.Faults.{ServesRaise, FailsRaise};
     ghost use Rattle.backup.specs.Inventory.{IsRising, AreRising};
     ghost use Rattle.backup.specs.Retire.{HoldsOthers};
     ghost use Rattle.backup.specs.State.{fleet_state, new_fleet, lost, HoldsAny};
@@ -85,6 +88,7 @@ impl MemoryFleet {
             end: u64::MAX,
             faults: 0,
             asked: Asked::nothing(),
+            acks: Acks::none(),
         })
     }
 
@@ -172,10 +176,10 @@ impl MemoryFleet {
         TakeFault::Fault
     }
 
-    /// Hands an op to a backup. It doesn't end in a fault.
+    /// Hands an op to a backup. It doesn't end in a fault, and nobody is answered yet.
     #[inline(always)]
     fn serve(&mut self, backup: u64, op: &Op<'_>) -> Result<(), TakeFault>
-        ensures serves { Serves (fleet_state self.old) backup (shown_op op.now) result (fleet_state self.new) }
+        ensures serves { ServesUnanswered (fleet_state self.old) backup (shown_op op.now) result (fleet_state self.new) }
         ensures asked { self.new.asked ≡ self.old.asked }
         ensures memory { result ≡ Err TakeFault.NoMemory → MayGrow (shown_act op.now.act) }
     {
@@ -189,6 +193,22 @@ impl MemoryFleet {
         memory.take(alloc, op)?;
         self.takes += 1;
         Ok(())
+    }
+
+    /// Hands an op to a backup, and answers. It doesn't end in a fault.
+    #[inline(always)]
+    fn answer(&mut self, backup: u64, op: &Op<'_>) -> Result<(), TakeFault>
+        ensures serves { Serves (fleet_state self.old) backup (shown_op op.now) result (fleet_state self.new) }
+        ensures asked { self.new.asked ≡ self.old.asked }
+        ensures memory { result ≡ Err TakeFault.NoMemory → MayGrow (shown_act op.now.act) }
+    {
+        match self.serve(backup, op) {
+            Ok(()) => {
+                self.acks = Acks::with(&self.acks, &Handed { backup, op: *op });
+                Ok(())
+            }
+            Err(fault) => Err(fault),
+        }
     }
 
     /// What `serve` would answer if it got the memory. The fleet stays as it is.
@@ -213,8 +233,8 @@ impl MemoryFleet {
 
     /// Does with an op what is asked for of it before the fault.
     fn attempt(&mut self, backup: u64, op: &Op<'_>) -> Result<(), TakeFault>
-        ensures serves { (mid : FleetState) × Serves (fleet_state self.old) backup (shown_op op.now) result mid
-            × (fleet_state self.new ≡ (if self.old.asked.taken then mid else fleet_state self.old)) }
+        ensures attempts { Attempts self.old.asked.taken (fleet_state self.old) backup (shown_op op.now) result
+            (fleet_state self.new) }
         ensures asked { self.new.asked ≡ self.old.asked }
         ensures memory { result ≡ Err TakeFault.NoMemory → MayGrow (shown_act op.now.act) }
     {
@@ -310,12 +330,12 @@ impl Fleet for MemoryFleet {
         ensures faults { MeetsAsked (TakesOp backup (shown_op op.now)) self.old result self.new }
     {
         if self.asked.takes == 0 {
-            return self.serve(backup, op);
+            return self.answer(backup, op);
         }
         if self.is_due() {
             return self.fail(backup, op);
         }
-        match self.serve(backup, op) {
+        match self.answer(backup, op) {
             Ok(()) => {
                 self.asked = self.asked.nearer();
                 Ok(())

@@ -7,6 +7,7 @@
 //! recovery: `divide` is the crate `division`'s.
 #![tactic(auto)]
 
+mod acks;
 mod fleet;
 mod memory;
 mod registry;

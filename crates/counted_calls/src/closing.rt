@@ -3,7 +3,7 @@
 ghost use Rattle.std.specs.Prelude.{IsTrue};
 ghost use Rattle.locked_log.specs.Ends.{AreServed};
 ghost use Rattle.locked_log.specs.Made.{IsMade};
-ghost use Rattle.locked_log.specs.Sharing.{AreOfSeats};
+ghost use Rattle.history.specs.Seats.{AreOfSeats};
 ghost use Rattle.locked_log.specs.master.Valid.{IsValid};
 ghost use Rattle.locked_log.specs.master.World.{world};
 

@@ -1,14 +1,14 @@
 -- What a fleet makes of the model's ops.
-use Rattle.std.proofs.Common.{◌≡◌, ℕ, ◌<◌, inl, inr, Bool, true, false, cond, Some, refl, sym, ap, subst, ◌∙◌, arith}
+use Rattle.std.proofs.Common.{◌≡◌, ℕ, ◌<◌, inl, inr, Bool, true, false, cond, Some, ◌∷◌, refl, sym, ap, subst, ◌∙◌, arith}
 use Rattle.std.specs.Prelude.{Option, None, nat_lt, ◌==◌, ◌+◌, max}
 use Rattle.std.specs.Option.{option_map}
 use Rattle.std.proofs.lemmas.Bool.Decides.{nat_tests}
 use Rattle.std.proofs.lemmas.Option.{same_Some}
 use Rattle.replica.specs.declared.op.TakeFault.TheVariants as take_fault
 use Rattle.replica.specs.Op.{OpValue}
-use Rattle.replica.specs.Picture.{Replica, FleetState, shown_of, with_replica}
+use Rattle.replica.specs.Picture.{Replica, Shown, FleetState, shown_of, with_replica}
 use Rattle.replica.specs.Registry.{raised, with_least}
-use Rattle.replica.specs.Take.{effect, with_effect, taken as fleet_taken, faulted}
+use Rattle.replica.specs.Take.{effect, with_effect, taken as fleet_taken, faulted, unanswered}
 use Rattle.failover_model.specs.log_model.Ops.{op_of}
 use Rattle.failover_model.specs.Text.{Replica as ModelReplica}
 use Rattle.failover_model.specs.Shown.{Shown as ModelShown, Act, Op, On, Raise, taken, effect as model_effect}
@@ -30,6 +30,7 @@ given f b op r = record {
   end = f.end;
   faults = f.faults;
   least = f.least;
+  acks = record { backup = b; op = op } ∷ f.acks;
 }
 
 fleet_takes : (f : FleetState) (b : ℕ) (op : OpValue) (r : Option Replica) → b < f.backups
@@ -161,19 +162,23 @@ module _ (master : ℕ) (f : FleetState) (p : ModelShown) (spelled : IsSpelled m
   unchanged_is o g same =
       (p, inl refl, λ segments. subst (λ (y : FleetState). IsSpelled master (shown_of y master) p) (sym same) spelled)
 
-  changed_so : (o : Op) (mid g : FleetState) → g ≡ faulted mid → Then o mid → After o g
-  changed_so o mid g same then = (
+  -- what was taken and not answered is spelled too
+  changed_so : (o : Op) (mid left g : FleetState) → g ≡ left → shown_of left master ≡ shown_of mid master → Then o mid
+      → After o g
+  changed_so o mid left g same shown then = (
     then.0,
     inr then.1,
-    λ segments. subst (λ (y : FleetState). IsSpelled master (shown_of y master) then.0) (sym same) (then.2 segments),
+    λ segments. subst (λ (y : FleetState). IsSpelled master (shown_of y master) then.0) (sym same)
+        (subst (λ (y : Shown). IsSpelled master y then.0) (sym shown) (then.2 segments)),
   )
 
   op_faulted : (o : Op) (g : FleetState) → RefusesOp master f o take_fault.Fault g → After o g
   op_faulted (On b s act) g (inl same) = unchanged_is (On b s act) g same
   op_faulted (On b s act) g (inr (mid, took, same)) =
-      changed_so (On b s act) mid g same (on_taken b s act mid took.1)
+      changed_so (On b s act) mid (unanswered f mid) g same refl (on_taken b s act mid took.1)
   op_faulted (Raise id) g (inl same) = unchanged_is (Raise id) g same
-  op_faulted (Raise id) g (inr (mid, took, same)) = changed_so (Raise id) mid g same (raise_taken id mid took.1)
+  op_faulted (Raise id) g (inr (mid, took, same)) =
+      changed_so (Raise id) mid (unanswered f mid) g same refl (raise_taken id mid took.1)
 
 pub op_is_never_wrong : OpIsNeverWrong
 op_is_never_wrong master f g p q (On b s act) spelled took lt refused =

@@ -20,7 +20,7 @@ use Rattle.failover_model.specs.Data.{new_of}
 use Rattle.failover_model.specs.Data.{failover_head_of, bare_replica}
 use Rattle.failover_model.specs.Log.{Texts, IsReplica, IsLogHeld}
 use Rattle.failover_bytes.specs.Spelled.{IsSpelled}
-use Rattle.failover_bytes.specs.Choice.{Counts, IsNewestCounted, is_opened, greater, greatest_opened, heads_now}
+use Rattle.failover_bytes.specs.Choice.{IsOpenedHead, IsNewestOpenedOrNone, is_opened, greater, greatest_opened, heads_now}
 use Rattle.failover_bytes.specs.Choice.{newest_opened}
 use Rattle.failover_bytes.specs.Laws.{NewestIsOpened}
 use Rattle.failover_bytes.proofs.Texts.{reads_opening}
@@ -152,7 +152,7 @@ module _ (master : ℕ) (d : FailData) (texts : Texts) (shown : Shown) (p : Mode
     tested m n is = grind (arith, nat_tests)
 
   -- a head that was opened counts
-  counts : (n : Start) → IsNow n → is_opened d n.id ≡ true → Counts d master shown n.id
+  counts : (n : Start) → IsNow n → is_opened d n.id ≡ true → IsOpenedHead d master shown n.id
   counts n is opened =
       let le = few n.id opened in
       let some = held.some in
@@ -169,7 +169,7 @@ module _ (master : ℕ) (d : FailData) (texts : Texts) (shown : Shown) (p : Mode
           (held.mirrored.each b id there.0 there.1)))
 
   -- one that counts is at most the greatest
-  at_most : (u : ℕ) → Counts d master shown u → IsAtLeast d u (newest_opened d)
+  at_most : (u : ℕ) → IsOpenedHead d master shown u → IsAtLeast d u (newest_opened d)
   at_most u is =
       let holds = some_given (shown.holds is.1.0 master u) (λ (x : RealReplica). IsSome (opening_in x.bytes)) is.1.2 in
       let q = held_spelled master shown p spelled is.1.0 u holds.0 holds.1 in
@@ -223,13 +223,13 @@ module _ (master : ℕ) (d : FailData) (texts : Texts) (shown : Shown) (p : Mode
       is_new (Closes y) x e = e
       is_new Repairs x e = absurd (cc)
 
-  by_newest : (o : Option ℕ) → newest_opened d ≡ o → IsNewestCounted (Counts d master shown) shown.least o
+  by_newest : (o : Option ℕ) → newest_opened d ≡ o → IsNewestOpenedOrNone (IsOpenedHead d master shown) shown.least o
   by_newest None none = λ u is le.
       let most = at_most u is in let never : None ≡ Some most.0 = sym none ∙ most.1 in absurd (cc)
   by_newest (Some s) some =
       let g = found d (heads_now d) s some in
       let now = now_is g.n g.among in
-      subst (IsNewestOpened (Counts d master shown) shown.least) g.same (record {
+      subst (IsNewestOpened (IsOpenedHead d master shown) shown.least) g.same (record {
         opened = counts g.n now g.opened;
         usable = usable g.n now (some ∙ ap (λ (k : ℕ). Some k) (sym g.same));
         newest = λ u is.

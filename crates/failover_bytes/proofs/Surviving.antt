@@ -11,9 +11,9 @@ use Rattle.failover_model.specs.Choice.{IsNewestOpened}
 use Rattle.failover_model.specs.Choice.{IsHeadLeft as IsModelHeadLeft, HeadSurvives as ModelHeadSurvives}
 use Rattle.failover_model.specs.Choice.{SegmentsSurvive as ModelSegmentsSurvive}
 use Rattle.failover_model.specs.Data.{FailData, IsHome}
-use Rattle.failover_model.specs.Sound.{WasOpened}
+use Rattle.failover_model.specs.Sound.{IsOpenedHead as ModelOpenedHead}
 use Rattle.failover_bytes.specs.Spelled.{spelled_replica, IsSpelled}
-use Rattle.failover_bytes.specs.Choice.{Counts, IsNewestCounted}
+use Rattle.failover_bytes.specs.Choice.{IsOpenedHead, IsNewestOpenedOrNone}
 use Rattle.failover_bytes.specs.Laws.{SurvivesInModel}
 use Rattle.failover_bytes.proofs.Texts.{reads_opening}
 use Rattle.failover_bytes.proofs.Reading.{spelled_held}
@@ -22,11 +22,11 @@ use Rattle.failover_bytes.proofs.Choosing.{head_there, head_back}
 -- ---- which losses leave a choice
 
 module _ (master : ℕ) (d : FailData) (shown : Shown) (p : ModelShown) (spelled : IsSpelled master shown p) where
-  counts_there : (s : ℕ) → Counts d master shown s → shown.least ≤ s → WasOpened d p s
+  counts_there : (s : ℕ) → IsOpenedHead d master shown s → shown.least ≤ s → ModelOpenedHead d p s
   counts_there s counts usable =
       (counts.0, (counts.1.0, counts.1.1, head_there master shown p spelled counts.1.0 s counts.1.2 usable))
 
-  counts_back : (s : ℕ) → WasOpened d p s → Counts d master shown s
+  counts_back : (s : ℕ) → ModelOpenedHead d p s → IsOpenedHead d master shown s
   counts_back s opened =
       (opened.0, (opened.1.0, opened.1.1, (head_back master shown p spelled opened.1.0 s opened.1.2).0))
 
@@ -34,12 +34,12 @@ module _ (master : ℕ) (d : FailData) (shown : Shown) (p : ModelShown) (spelled
     left_there : (s : ℕ) → IsHeadLeft shown master keep s → shown.least ≤ s → IsModelHeadLeft p keep s
     left_there s left usable = (left.0, left.1, head_there master shown p spelled left.0 s left.2 usable)
 
-    heads : (newest : Option ℕ) → IsNewestCounted (Counts d master shown) shown.least newest
-        → HeadSurvives (IsHome d) newest shown master keep → ModelHeadSurvives (IsHome d) (WasOpened d p) p keep
+    heads : (newest : Option ℕ) → IsNewestOpenedOrNone (IsOpenedHead d master shown) shown.least newest
+        → HeadSurvives (IsHome d) newest shown master keep → ModelHeadSurvives (IsHome d) (ModelOpenedHead d p) p keep
     heads (Some s) is survives =
         let usable = is.usable in
         let least = spelled.least in
-        let opened : IsNewestOpened (WasOpened d p) p.least s =
+        let opened : IsNewestOpened (ModelOpenedHead d p) p.least s =
         record {
           opened = counts_there s is.opened usable;
           usable = omega arith;
@@ -55,7 +55,7 @@ module _ (master : ℕ) (d : FailData) (shown : Shown) (p : ModelShown) (spelled
         )
     heads None none survives =
         let least = spelled.least in
-        let never : (s : ℕ) → WasOpened d p s → p.least ≤ s → ⊥ =
+        let never : (s : ℕ) → ModelOpenedHead d p s → p.least ≤ s → ⊥ =
         (λ s was usable. none s (counts_back s was) (omega arith)) in
         inr (never, (survives.0, left_there survives.0 survives.2 survives.1))
 

@@ -30,15 +30,15 @@ choice_for master c = record {
 
 -- ---- which losses leave one
 
--- a head counts once as many backups as replicas took its Open, one of which holds it
-abbrev pub Counts : FailData → ℕ → Shown → ℕ → Type 0
-Counts d master shown s =
+-- an opened head: as many backups as replicas took its Open, and one of them holds it
+abbrev pub IsOpenedHead : FailData → ℕ → Shown → ℕ → Type 0
+IsOpenedHead d master shown s =
     (d.config.replicas ≤ length (d.took s)) × ((b : ℕ) × HasTaken d s b × HoldsHead shown master b s)
 
--- the newest head that counts, if it may be used; None if none that counts may be used
-abbrev pub IsNewestCounted : (ℕ → Type 0) → ℕ → Option ℕ → Type 0
-IsNewestCounted counts least (Some s) = IsNewestOpened counts least s
-IsNewestCounted counts least None = (s : ℕ) → counts s → least ≤ s → ⊥
+-- the newest opened head, if it may be used; None if no opened head may be used
+abbrev pub IsNewestOpenedOrNone : (ℕ → Type 0) → ℕ → Option ℕ → Type 0
+IsNewestOpenedOrNone IsOpened least (Some s) = IsNewestOpened IsOpened least s
+IsNewestOpenedOrNone IsOpened least None = (s : ℕ) → IsOpened s → least ≤ s → ⊥
 
 -- ---- which that is, of a log that is kept
 

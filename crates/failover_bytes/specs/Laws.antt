@@ -14,11 +14,11 @@ use Rattle.failover_model.specs.Choice.{BothSurvive as ModelBothSurvive, bag_of 
 use Rattle.failover_model.specs.Data.{FailData, IsHome}
 use Rattle.failover_model.specs.Log.{Texts, IsLogHeld}
 use Rattle.failover_model.specs.Runs.{IsFaulted}
-use Rattle.failover_model.specs.Sound.{IsSound, WasOpened}
+use Rattle.failover_model.specs.Sound.{IsSound, IsOpenedHead as ModelOpenedHead}
 use Rattle.failover_bytes.specs.Text.{bytes_for}
 use Rattle.failover_bytes.specs.Spelled.{AreSegments, IsSpelled, read_shown}
 use Rattle.failover_bytes.specs.Ops.{IsOnFleet, TakesOp, RefusesOp}
-use Rattle.failover_bytes.specs.Choice.{holding_for, choice_for, Counts, IsNewestCounted, newest_opened}
+use Rattle.failover_bytes.specs.Choice.{holding_for, choice_for, IsOpenedHead, IsNewestOpenedOrNone, newest_opened}
 use Rattle.failover_bytes.specs.Sound.{IsSoundInBytes}
 
 -- ---- texts
@@ -82,14 +82,14 @@ SpelledIsChoice = (master : ℕ) (shown : Shown) (p : ModelShown) (keep : ℕ �
 -- If both survive, they do so in the model.
 abbrev pub SurvivesInModel : Type 0
 SurvivesInModel = (master : ℕ) (d : FailData) (shown : Shown) (p : ModelShown) (keep : ℕ → Bool) (newest : Option ℕ)
-    → IsSpelled master shown p → IsNewestCounted (Counts d master shown) shown.least newest
-    → BothSurvive (IsHome d) newest shown master keep → ModelBothSurvive (IsHome d) (WasOpened d p) p keep
+    → IsSpelled master shown p → IsNewestOpenedOrNone (IsOpenedHead d master shown) shown.least newest
+    → BothSurvive (IsHome d) newest shown master keep → ModelBothSurvive (IsHome d) (ModelOpenedHead d p) p keep
 
 -- Of a log that is kept the newest opened head is the newest that counts.
 abbrev pub NewestIsOpened : Type 0
 NewestIsOpened = (master : ℕ) (d : FailData) (texts : Texts) (shown : Shown) (p : ModelShown)
     → IsSpelled master shown p → IsLogHeld d texts p
-    → IsNewestCounted (Counts d master shown) shown.least (newest_opened d)
+    → IsNewestOpenedOrNone (IsOpenedHead d master shown) shown.least (newest_opened d)
 
 -- If the model's picture is sound, so is the one that spells it.
 abbrev pub SpelledIsSound : Type 0

@@ -9,7 +9,7 @@ use Rattle.versioned_map.specs.Versioned.{IsSafeAfter}
 use Rattle.failover_model.specs.log_model.Sound.{IsTextOfSegment, BearOneDigest}
 use Rattle.failover_model.specs.Data.{FailData, IsHome, state_after, durable_of}
 use Rattle.failover_model.specs.Log.{AreOfTablets}
-use Rattle.failover_bytes.specs.Choice.{Counts, IsNewestCounted}
+use Rattle.failover_bytes.specs.Choice.{IsOpenedHead, IsNewestOpenedOrNone}
 
 -- a choice of the master's newest log from what is shown if these backups are left
 abbrev pub IsLeftChoice : ℕ → Shown → (ℕ → Bool) → Choice → Type 0
@@ -34,5 +34,5 @@ pub record IsSoundInBytes (master : ℕ) (d : FailData) (shown : Shown) : Type 0
   pub prefix : (keep : ℕ → Bool) (c : Choice) → IsLeftChoice master shown keep c
       → (count : ℕ) × StandsForPrefix d c count
   -- if both survive there is a choice
-  pub choice : (keep : ℕ → Bool) (newest : Option ℕ) → IsNewestCounted (Counts d master shown) shown.least newest
+  pub choice : (keep : ℕ → Bool) (newest : Option ℕ) → IsNewestOpenedOrNone (IsOpenedHead d master shown) shown.least newest
       → BothSurvive (IsHome d) newest shown master keep → (c : Choice) × IsLeftChoice master shown keep c

@@ -21,7 +21,7 @@ use Rattle.failover_bytes.specs.failover_model.Runs.{IsOn, IsThere}
 use Rattle.failover_bytes.specs.failover_model.Shown.{Shown as ModelShown, Op}
 use Rattle.failover_bytes.specs.failover_model.Steps.{fresh, restored, MayBegin, applied, MayApply, adopted, rolling, next_start}
 use Rattle.failover_bytes.specs.failover_model.Steps.{MayTurn, ended, EndsRoll, failing, MayFail, mended}
-use Rattle.failover_bytes.specs.Choice.{Counts, IsNewestCounted, newest_opened}
+use Rattle.failover_bytes.specs.Choice.{IsOpenedHead, IsNewestOpenedOrNone, newest_opened}
 use Rattle.failover_bytes.specs.Held.{HoldsUnit}
 use Rattle.failover_bytes.specs.Ops.{IsOnFleet, TakesOp, RefusesOp}
 use Rattle.failover_bytes.specs.Runs.{read_fleet}
@@ -93,7 +93,7 @@ pub record CountsDurable (d : FailData) (shown : Shown) : Type 0 where
 abbrev pub KeptIsSound : Type 0
 KeptIsSound = (d : FailData) (m : FailMemory) (f : FleetState) → KeepsAll d m f
     → IsSoundInBytes d.config.master d (shown_for d f)
-    × IsNewestCounted (Counts d d.config.master (shown_for d f)) (f.least d.config.master) (newest_opened d)
+    × IsNewestOpenedOrNone (IsOpenedHead d d.config.master (shown_for d f)) (f.least d.config.master) (newest_opened d)
 
 abbrev pub KeptIsCovered : Type 0
 KeptIsCovered = (d : FailData) (m : FailMemory) (f : FleetState) → KeepsAll d m f → IsCovered d m (read_of d f)

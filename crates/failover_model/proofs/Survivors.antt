@@ -17,7 +17,7 @@ use Rattle.failover_model.specs.Choice.{Holding, IsHeld, Choice, IsHeadLeft, Hea
 use Rattle.failover_model.specs.Data.{opening_for, bare_replica, FailData, IsHome, HasTaken, IsNew, failover_head_of}
 use Rattle.failover_model.specs.Log.{Texts, IsStart, IsLogged, IsCopy, NewIsOpened, IsHeadReplica, HoldsCopy, IsOther}
 use Rattle.failover_model.specs.Log.{IsMirrored}
-use Rattle.failover_model.specs.Sound.{WasOpened, IsSurvivingChoice}
+use Rattle.failover_model.specs.Sound.{IsOpenedHead, IsSurvivingChoice}
 use Rattle.failover_model.proofs.Lengths.{long_enough}
 use Rattle.failover_model.proofs.Lists.{true_or_false, some_is, is_some, some_member}
 use Rattle.failover_model.proofs.Replicas.{any_opening, bearing, Bearing, head_copy, next_of}
@@ -127,9 +127,9 @@ module _ (d : FailData) (texts : Texts) (p : Shown) (some : 0 < d.config.replica
 
   -- a head that counts and may be used, no older than this
   abbrev Counts : ℕ → Type 0
-  Counts t = (u : ℕ) × (t ≤ u) × WasOpened d p u × (p.least ≤ u)
+  Counts t = (u : ℕ) × (t ≤ u) × IsOpenedHead d p u × (p.least ≤ u)
 
-  new_counts : (n : Start) → IsNew d n → d.config.replicas ≤ length (d.took n.id) → p.least ≤ n.id → WasOpened d p n.id
+  new_counts : (n : Start) → IsNew d n → d.config.replicas ≤ length (d.took n.id) → p.least ≤ n.id → IsOpenedHead d p n.id
   new_counts n is_new opened usable =
       let one = some_member (d.took n.id) (omega arith) in
       (opened, (one.0, one.1, holds_new n one.0 is_new one.1 usable))
@@ -165,7 +165,7 @@ module _ (d : FailData) (texts : Texts) (p : Shown) (some : 0 < d.config.replica
   ]
 
   -- a home of a head that counts holds it
-  home_left : (t b : ℕ) → id ≤ t → WasOpened d p t → p.least ≤ t → IsHome d t b → keep b ≡ true → IsHeadLeft p keep t
+  home_left : (t b : ℕ) → id ≤ t → IsOpenedHead d p t → p.least ≤ t → IsHome d t b → keep b ≡ true → IsHeadLeft p keep t
   home_left t b le was usable home is_kept =
       elim (at was.1.0 t was.1.2).2 as (λ _. IsHeadLeft p keep t) [
         | inl head ↦ (
@@ -181,7 +181,7 @@ module _ (d : FailData) (texts : Texts) (p : Shown) (some : 0 < d.config.replica
       ]
 
   -- if a head counts that isn't older than that in force, one as new is left
-  as_new : (t : ℕ) → id ≤ t → Counts t → HeadSurvives (IsHome d) (WasOpened d p) p keep
+  as_new : (t : ℕ) → id ≤ t → Counts t → HeadSurvives (IsHome d) (IsOpenedHead d p) p keep
       → (u : ℕ) × (t ≤ u) × IsHeadLeft p keep u
   as_new t le counts (inl newest) =
       let most = newest.1.newest counts.0 counts.2 in
@@ -219,7 +219,7 @@ module _ (d : FailData) (texts : Texts) (p : Shown) (some : 0 < d.config.replica
     newest : (t : ℕ) → IsHeadLeft p keep t → t ≤ n.id
     others : (s c : ℕ) → IsAmong s n.others → IsHome d s c → HoldsCopy texts p c s
 
-  module _ (survive : BothSurvive (IsHome d) (WasOpened d p) p keep) (h : HeadFound) where
+  module _ (survive : BothSurvive (IsHome d) (IsOpenedHead d p) p keep) (h : HeadFound) where
     abbrev Held : Holding → Type 0
     Held x = IsHeld (survivors keep p) x × IsUsable (opening_for h.n).digest x.segment x.replica
 
@@ -343,7 +343,7 @@ module _ (d : FailData) (texts : Texts) (p : Shown) (some : 0 < d.config.replica
     others = λ s c m home. mir.others s c (inl m) home;
   }
 
-  some_left : HeadSurvives (IsHome d) (WasOpened d p) p keep → (t : ℕ) × IsHeadLeft p keep t
+  some_left : HeadSurvives (IsHome d) (IsOpenedHead d p) p keep → (t : ℕ) × IsHeadLeft p keep t
   some_left (inr none) = none.1
   some_left (inl newest) = elim newest.2 as (λ _. (t : ℕ) × IsHeadLeft p keep t) [
     | inl left ↦ elim (cases_lt newest.0 id) as (λ _. (t : ℕ) × IsHeadLeft p keep t) [
@@ -356,7 +356,7 @@ module _ (d : FailData) (texts : Texts) (p : Shown) (some : 0 < d.config.replica
     | inr later ↦ (later.0, later.2)
   ]
 
-  found : HeadSurvives (IsHome d) (WasOpened d p) p keep → HeadFound
+  found : HeadSurvives (IsHome d) (IsOpenedHead d p) p keep → HeadFound
   found survives =
       let one = some_left survives in
       let g = greatest_below (is_left p keep d.config.backups) d.next one.0 (left_next one.0 one.1)
@@ -394,6 +394,6 @@ module _ (d : FailData) (texts : Texts) (p : Shown) (some : 0 < d.config.replica
             let ge = later.1 in omega arith)
       ]
 
-  pub surviving_choice : BothSurvive (IsHome d) (WasOpened d p) p keep
+  pub surviving_choice : BothSurvive (IsHome d) (IsOpenedHead d p) p keep
       → (c : Choice) × IsSurvivingChoice p keep c
   surviving_choice survive = choose survive (found survive.head)

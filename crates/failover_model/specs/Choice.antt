@@ -41,28 +41,28 @@ pub record IsChoice (s : Shown) (c : Choice) : Type 0 where
 -- ---- which losses leave it
 
 -- The layer above names the homes of segments (the backups that took an Open or a Seal of them and haven't failed), and
--- the heads that count (as many backups as replicas took their Open).
+-- the opened heads (as many backups as replicas took their Open).
 
 -- a replica of the head is on a backup that is left
 abbrev pub IsHeadLeft : Shown → (ℕ → Bool) → ℕ → Type 0
 IsHeadLeft s keep t = (b : ℕ) × (keep b ≡ true) × HoldsHead s b t
 
--- the newest head that counts, of those that may be used
-pub record IsNewestOpened (WasOpened : ℕ → Type 0) (least t : ℕ) : Type 0 where
-  pub opened : WasOpened t
+-- the newest opened head, if it may be used
+pub record IsNewestOpened (IsOpenedHead : ℕ → Type 0) (least t : ℕ) : Type 0 where
+  pub opened : IsOpenedHead t
   pub usable : least ≤ t
-  pub newest : (u : ℕ) → WasOpened u → u ≤ t
+  pub newest : (u : ℕ) → IsOpenedHead u → u ≤ t
 
 -- one of the segment's homes is left
 abbrev pub IsHomeLeft : (ℕ → ℕ → Type 0) → (ℕ → Bool) → ℕ → Type 0
 IsHomeLeft IsHome keep t = (b : ℕ) × IsHome t b × (keep b ≡ true)
 
--- Of the newest head that counts one of its homes is left, or a replica of a later head; of any head, if none counts.
+-- Of the newest opened head one of its homes is left, or a replica of a later head; of any head, if none was opened.
 abbrev pub HeadSurvives : (ℕ → ℕ → Type 0) → (ℕ → Type 0) → Shown → (ℕ → Bool) → Type 0
-HeadSurvives IsHome WasOpened s keep =
-    ((t : ℕ) × IsNewestOpened WasOpened s.least t
+HeadSurvives IsHome IsOpenedHead s keep =
+    ((t : ℕ) × IsNewestOpened IsOpenedHead s.least t
     × (IsHomeLeft IsHome keep t ⊎ ((u : ℕ) × (t < u) × IsHeadLeft s keep u)))
-    ⊎ (((t : ℕ) → WasOpened t → s.least ≤ t → ⊥) × ((u : ℕ) × IsHeadLeft s keep u))
+    ⊎ (((t : ℕ) → IsOpenedHead t → s.least ≤ t → ⊥) × ((u : ℕ) × IsHeadLeft s keep u))
 
 -- a digest of the newest head that is left
 pub record IsNewestLeft (s : Shown) (keep : ℕ → Bool) (t : ℕ) (opening : Opening) : Type 0 where
@@ -80,6 +80,6 @@ SegmentsSurvive IsHome s keep = (t : ℕ) (opening : Opening) → IsNewestLeft s
     (id : ℕ) → IsAmong id (listed_ids opening.digest) → (id ≡ t → ⊥) → IsHomeLeft IsHome keep id
 
 -- both the head and the segments survive if these backups are left
-pub record BothSurvive (IsHome : ℕ → ℕ → Type 0) (WasOpened : ℕ → Type 0) (s : Shown) (keep : ℕ → Bool) : Type 0 where
-  pub head : HeadSurvives IsHome WasOpened s keep
+pub record BothSurvive (IsHome : ℕ → ℕ → Type 0) (IsOpenedHead : ℕ → Type 0) (s : Shown) (keep : ℕ → Bool) : Type 0 where
+  pub head : HeadSurvives IsHome IsOpenedHead s keep
   pub segments : SegmentsSurvive IsHome s keep

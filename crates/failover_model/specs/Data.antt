@@ -55,14 +55,19 @@ pub record FailConfig : Type 0 where
   -- 1 or 2: under format 2 digests list the lengths of segments, and backups may fail
   pub format : ℕ
 
--- No roll is under way; or one to this head; or a failover: in its parts 1 and 2, in 3 and 4 with this new head, in 5,
--- or in 6.
+-- What the next pushes do.
 pub data Mode : Type 0 where
+  -- they extend the head: no roll is under way, and no failover is open
   Calm : Mode
+  -- a roll opens this head on its backups, and then closes the old one
   Rolls : Start → Mode
+  -- a failover: each home of the head gets all its units, and each lost replica of it is opened anew
   Mends : Mode
+  -- a failover: this new head is opened on its backups, and then the registry is raised to it
   Opens : Start → Mode
+  -- a failover: the old head is closed on its homes
   Closes : Start → Mode
+  -- a failover: each lost replica of another segment is sealed anew
   Repairs : Mode
 
 -- All that a master knows of its log.

@@ -8,7 +8,7 @@ use Rattle.std.proofs.lemmas.List.Sums.{sum_by-append}
 use Rattle.versioned_map.specs.declared.command.Record.{Record}
 use Rattle.store_seat.specs.declared.account.Account.{Account}
 use Rattle.std.proofs.lemmas.Option.{same_Some}
-use Rattle.locked_log.specs.States.{count_of}
+use Rattle.history.specs.Seats.{count_of}
 
 -- ---- rows of accounts
 

@@ -12,7 +12,8 @@ use Rattle.locked_log.specs.Held.{Held, history}
 use Rattle.store_seat.specs.Made.{Made}
 use Rattle.store_seat.specs.Seats.{SeatValue}
 use Rattle.store_seat.specs.Accounts.{account, Knows}
-use Rattle.locked_log.specs.States.{count_of, IsState}
+use Rattle.locked_log.specs.States.{IsState}
+use Rattle.history.specs.Seats.{count_of}
 
 pub few_records : (c : Config) → config_fault c ≡ None → c.history ≤ 1048576
 few_records c ok =

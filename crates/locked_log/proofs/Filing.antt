@@ -14,7 +14,8 @@ use Rattle.locked_log.specs.Held.{Held, history}
 use Rattle.store_seat.specs.Made.{Made}
 use Rattle.store_seat.specs.Seats.{SeatValue, record_by}
 use Rattle.store_seat.specs.Accounts.{account}
-use Rattle.locked_log.specs.States.{count_of, IsState, Lasts}
+use Rattle.locked_log.specs.States.{IsState, Lasts}
+use Rattle.history.specs.Seats.{count_of}
 use Rattle.locked_log.proofs.Adding.{place_is, history_is}
 use Rattle.locked_log.proofs.Counting.{get_set, in_book, count_mine, count_other, all_push}
 use Rattle.locked_log.proofs.Lasting.{firsts_set, made_lasts}

@@ -11,7 +11,8 @@ use Rattle.store_seat.specs.Made.{Made}
 use Rattle.locked_log.specs.Made.{IsMade}
 use Rattle.store_seat.specs.Seats.{SeatValue}
 use Rattle.store_seat.specs.Accounts.{account, Knows}
-use Rattle.locked_log.specs.States.{count_of, IsState}
+use Rattle.locked_log.specs.States.{IsState}
+use Rattle.history.specs.Seats.{count_of}
 use Rattle.locked_log.proofs.Writing.{empty_row}
 
 fresh_account : (n k : ℕ) (a : Account) → slice_get (fresh_book n) k ≡ Some a → a ≡ account 0 0

@@ -17,7 +17,8 @@ use Rattle.locked_log.specs.Made.{IsMade}
 use Rattle.store_seat.specs.Seats.{SeatValue, fresh_seats, fresh_seat, told, noted}
 use Rattle.locked_log.specs.Sharing.{seat_after, AreFiled}
 use Rattle.store_seat.specs.Accounts.{account, Knows}
-use Rattle.locked_log.specs.States.{count_of, IsState}
+use Rattle.locked_log.specs.States.{IsState}
+use Rattle.history.specs.Seats.{count_of}
 use Rattle.std.proofs.lemmas.Option.{same_Some}
 use Rattle.locked_log.proofs.Counting.{in_book, count_mine, count_other, all_push}
 use Rattle.store_seat.proofs.Places.{get_there, set_there}

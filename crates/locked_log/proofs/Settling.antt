@@ -10,7 +10,8 @@ use Rattle.locked_log.specs.Held.{StateValue, Held, held, history, durable}
 use Rattle.store_seat.specs.Made.{Made}
 use Rattle.store_seat.specs.Seats.{SeatValue, answered}
 use Rattle.store_seat.specs.Accounts.{account, Knows, SettlesIn, SettlesNothingIn}
-use Rattle.locked_log.specs.States.{count_of, IsState, Lasts}
+use Rattle.locked_log.specs.States.{IsState, Lasts}
+use Rattle.history.specs.Seats.{count_of}
 use Rattle.locked_log.proofs.Counting.{get_set}
 use Rattle.locked_log.proofs.Lasting.{keeps_same, firsts_set, lasts_same}
 use Rattle.locked_log.proofs.Writing.{written_refused}

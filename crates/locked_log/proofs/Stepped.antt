@@ -34,7 +34,8 @@ use Rattle.store_step.specs.declared.turn.CleanTurn.{CleanTurn}
 use Rattle.store_step.specs.declared.turn.CleanTurn.TheVariants as turn
 use Rattle.locked_log.specs.Held.{StateValue, Held, held, history, knows}
 use Rattle.store_seat.specs.Made.{Made}
-use Rattle.locked_log.specs.States.{IsState, Lasts, count_of}
+use Rattle.locked_log.specs.States.{IsState, Lasts}
+use Rattle.history.specs.Seats.{count_of}
 use Rattle.store_step.specs.Turns.{step_of, MakesStep, MakesTurn}
 use Rattle.locked_log.specs.Steps.{Turns}
 use Rattle.locked_log.proofs.Idle.{next_works}

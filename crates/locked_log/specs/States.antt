@@ -1,6 +1,6 @@
 -- What is true whenever the lock is free.
-use Rattle.std.specs.Prelude.{◌≡◌, ◌<◌, ◌≤◌, ◌==◌, ℕ, Bool, true, false, Option, Some, List, length, take, count_by}
-use Rattle.std.specs.Prelude.{All, slice_get}
+use Rattle.std.specs.Prelude.{◌≡◌, ◌≤◌, ℕ, Bool, true, false, Option, Some, List, length, take, slice_get}
+use Rattle.history.specs.Seats.{count_of, AreOfSeats}
 use Rattle.versioned_map.specs.declared.command.Record.{Record}
 use Rattle.history_row.specs.Rows.{IsRowOf}
 use Rattle.store_step.specs.master.Keeps.{Keeps}
@@ -9,10 +9,6 @@ use Rattle.store_seat.specs.declared.account.Account.{Account}
 use Rattle.locked_log.specs.Held.{Held, history, durable}
 use Rattle.store_seat.specs.Made.{Made}
 use Rattle.locked_log.specs.Made.{IsMade}
-
--- how many records are a seat's
-abbrev pub count_of : ℕ → List Record → ℕ
-count_of seat records = count_by (λ (r : Record). r.seat == seat) records
 
 -- The row is the history, record by record, up to a cell that refused its record.
 pub record IsWritten (row : List (Option Record)) (records : List Record) (is_refused : Bool) : Type 0 where
@@ -37,7 +33,7 @@ pub record IsState (h : Held) (made : Made) : Type 0 where
   -- its second number is the count of its records
   pub counts : (k : ℕ) (a : Account) → slice_get h.book k ≡ Some a → a.count ≡ count_of k (history h)
   -- the history has no records of others
-  pub no_others : All (λ (r : Record). r.seat < made.seats) (history h)
+  pub no_others : AreOfSeats made.seats (history h)
   -- and is as long as the ledger's total
   pub total : h.total ≡ length (history h)
 

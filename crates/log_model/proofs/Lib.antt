@@ -6,5 +6,4 @@ pub mod Counts
 pub mod Fronts
 pub mod PastHeads
 pub mod Rolling
-pub mod Fleets
 pub mod LoadedObjects

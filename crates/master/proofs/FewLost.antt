@@ -36,7 +36,7 @@ use Rattle.master_core.specs.failover_model.Text.{Text, Replica as ModelReplica}
 use Rattle.master_core.specs.failover_model.Data.{Head, IsHome, IsNew, opening_for, front_entries, new_of}
 use Rattle.master_core.specs.failover_model.Data.{state_after}
 use Rattle.master_core.specs.failover_model.Log.{Texts, IsBase, IsReplica, IsLogHeld}
-use Rattle.master_core.specs.failover_bytes.Choice.{Counts, IsNewestCounted, is_opened as is_counted, greater}
+use Rattle.master_core.specs.failover_bytes.Choice.{IsOpenedHead, IsNewestOpenedOrNone, is_opened as is_counted, greater}
 use Rattle.master_core.specs.failover_bytes.Choice.{greatest_opened, newest_opened}
 use Rattle.master_core.specs.failover_bytes.Spelled.{read_replica}
 use Rattle.master_core.proofs.failover_bytes.NewestHomes.{taker}
@@ -286,7 +286,7 @@ module _ (d : MasterData) (f : FleetState) (kept : IsWellKept d f) (keep : ℕ �
 
     head_there : IsHeadLeft (shown_for (log_of d) f) d.config.master keep newest_left.t
     head_there =
-        let counts = subst (λ (o : Option ℕ). IsNewestCounted (Counts (log_of d) d.config.master (shown_for (log_of d) f))
+        let counts = subst (λ (o : Option ℕ). IsNewestOpenedOrNone (IsOpenedHead (log_of d) d.config.master (shown_for (log_of d) f))
         (f.least d.config.master) o) newest_left.newest (kept_is_sound (log_of d) (memory_of d) f kept.kept).1 in
         let home = newest_left.left in (
           home.0,

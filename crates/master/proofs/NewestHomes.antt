@@ -9,7 +9,7 @@ use Rattle.master_core.specs.failover_model.Shown.{Shown as ModelShown, HoldsHea
 use Rattle.master_core.specs.failover_model.Choice.{IsNewestOpened}
 use Rattle.master_core.specs.failover_model.Data.{FailData, HasTaken, IsHome, bare_replica}
 use Rattle.master_core.specs.failover_model.Log.{Texts, IsReplica, IsLogHeld}
-use Rattle.master_core.specs.failover_bytes.Choice.{Counts}
+use Rattle.master_core.specs.failover_bytes.Choice.{IsOpenedHead}
 use Rattle.master_core.specs.failover_bytes.Spelled.{IsSpelled}
 use Rattle.master_core.proofs.failover_bytes.Choosing.{head_there, head_back}
 use Rattle.master_core.proofs.failover_bytes.NewestHomes.{taker, head_bears}
@@ -33,7 +33,7 @@ module _ (master : ℕ) (d : FailData) (texts : Texts) (shown : Shown) (p : Mode
       heads p b id is.0 is.1
       (head_bears master d texts shown p spelled held b is.0 (held.mirrored.each b id is.0 is.1)) usable
 
-  module _ (s b : ℕ) (is : IsNewestOpened (Counts d master shown) shown.least s) (home : IsHome d s b) where
+  module _ (s b : ℕ) (is : IsNewestOpened (IsOpenedHead d master shown) shown.least s) (home : IsHome d s b) where
     usable : p.least ≤ s
     usable = let le = is.usable in let least = spelled.least in omega arith
 

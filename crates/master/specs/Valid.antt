@@ -4,7 +4,7 @@ use Rattle.entry.specs.Bag.{IsAmong}
 use Rattle.replica.specs.Picture.{FleetState}
 use Rattle.versioned_map.specs.History.{IsLegal}
 use Rattle.master_core.specs.failover_model.Data.{Mends, durable_of}
-use Rattle.master_core.specs.failover_bytes.Choice.{Counts, IsNewestCounted, newest_opened}
+use Rattle.master_core.specs.failover_bytes.Choice.{IsOpenedHead, IsNewestOpenedOrNone, newest_opened}
 use Rattle.master_core.specs.failover_bytes.Sound.{IsSoundInBytes}
 use Rattle.master_core.specs.failover_clean.Covered.{IsCovered}
 use Rattle.master_core.specs.failover_clean.Fleet.{CountsDurable, read_of, shown_for}
@@ -44,7 +44,7 @@ pub record IsValid (d : MasterData) (f : FleetState) : Type 0 where
   -- whatever backups are left, they hold a prefix that has each durable command, or a loss is named
   pub sound : IsSoundInBytes d.config.master (log_of d) (shown_for (log_of d) f)
   -- the newest head that was opened on all its backups
-  pub newest : IsNewestCounted (Counts (log_of d) d.config.master (shown_for (log_of d) f)) (f.least d.config.master)
+  pub newest : IsNewestOpenedOrNone (IsOpenedHead (log_of d) d.config.master (shown_for (log_of d) f)) (f.least d.config.master)
       (newest_opened (log_of d))
   -- a segment's replicas go to its homes
   pub placed : IsPlaced d

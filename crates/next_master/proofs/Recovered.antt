@@ -20,7 +20,7 @@ use Rattle.node.specs.recovery.recovery_plan.declared.fault.PlanFault.TheVariant
 use Rattle.node.specs.master.log_model.Ids.{has}
 use Rattle.node.specs.master.failover_model.Data.{IsHome}
 use Rattle.node.proofs.of_master.failover_model.Lists.{without_has}
-use Rattle.node.specs.master.failover_bytes.Choice.{Counts, IsNewestCounted, newest_opened}
+use Rattle.node.specs.master.failover_bytes.Choice.{IsOpenedHead, IsNewestOpenedOrNone, newest_opened}
 use Rattle.node.specs.master.failover_bytes.Sound.{IsSoundInBytes}
 use Rattle.node.specs.master.master_state.declared.config.Config.{Config}
 use Rattle.node.specs.master.master_state.Data.{MasterData}
@@ -124,10 +124,10 @@ module _ (node : Node) (fleet : MemoryFleet) (config : Config) (d : MasterData) 
     opened = newest_opened (log_of d)
 
     -- the newest head that counts, of what was left
-    newest : IsNewestCounted (Counts (log_of d) master left.0.shown) left.0.shown.least opened
+    newest : IsNewestOpenedOrNone (IsOpenedHead (log_of d) master left.0.shown) left.0.shown.least opened
     newest =
-        subst (λ (n : ℕ). IsNewestCounted (Counts (log_of d) n left.0.shown) left.0.shown.least opened) of_master
-        (subst (λ (x : Shown). IsNewestCounted (Counts (log_of d) d.config.master x) x.least opened)
+        subst (λ (n : ℕ). IsNewestOpenedOrNone (IsOpenedHead (log_of d) n left.0.shown) left.0.shown.least opened) of_master
+        (subst (λ (x : Shown). IsNewestOpenedOrNone (IsOpenedHead (log_of d) d.config.master x) x.least opened)
         (sym left.2.shown) left.2.valid.newest)
 
     is_home : (s b : ℕ) → IsHomeOf left.0 s b → IsHome (log_of d) s b

@@ -8,7 +8,7 @@ use Rattle.replica.specs.declared.holding.Holding.{Holding}
 use Rattle.replica.specs.Picture.{FleetState, Shown, left_on, shown_of, survivors, IsHeld}
 use Rattle.replica.specs.Survival.{BothSurvive}
 use Rattle.replay.specs.master.failover_model.Data.{IsHome}
-use Rattle.replay.specs.master.failover_bytes.Choice.{Counts, IsNewestCounted, newest_opened}
+use Rattle.replay.specs.master.failover_bytes.Choice.{IsOpenedHead, IsNewestOpenedOrNone, newest_opened}
 use Rattle.replay.specs.master.failover_bytes.Sound.{IsSoundInBytes}
 use Rattle.replay.specs.master.master_state.declared.config.Config.{Config}
 use Rattle.replay.specs.master.master_state.declared.step.Refusal.{Refusal}
@@ -60,10 +60,10 @@ module _ (start stop : World) (steps : List Step) (kept : List ℕ) (will : List
   sound_left : IsSoundInBytes start.knows.config.master (log_of stop.knows) shown_last
   sound_left = subst (λ (n : ℕ). IsSoundInBytes n (log_of stop.knows) shown_last) of_master valid.sound
 
-  newest_left : IsNewestCounted (Counts (log_of stop.knows) start.knows.config.master shown_last) shown_last.least
+  newest_left : IsNewestOpenedOrNone (IsOpenedHead (log_of stop.knows) start.knows.config.master shown_last) shown_last.least
       (newest_opened (log_of stop.knows))
   newest_left =
-      subst (λ (n : ℕ). IsNewestCounted (Counts (log_of stop.knows) n shown_last) shown_last.least
+      subst (λ (n : ℕ). IsNewestOpenedOrNone (IsOpenedHead (log_of stop.knows) n shown_last) shown_last.least
       (newest_opened (log_of stop.knows))) of_master valid.newest
 
   covers_stop : Covers start.knows.config.tablets will → Covers stop.knows.config.tablets will

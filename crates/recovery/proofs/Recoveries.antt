@@ -24,7 +24,7 @@ use Rattle.recovery_plan.specs.Planned.{IsPlan, IsChoiceOf, IsPlanOf, IsFirstBad
 use Rattle.entry.proofs.BagLemmas.{among_right}
 use Rattle.versioned_map.specs.History.{commands_of}
 use Rattle.replay.specs.master.failover_model.Data.{FailData, IsHome, state_after}
-use Rattle.replay.specs.master.failover_bytes.Choice.{Counts, IsNewestCounted}
+use Rattle.replay.specs.master.failover_bytes.Choice.{IsOpenedHead, IsNewestOpenedOrNone}
 use Rattle.replay.specs.master.failover_bytes.Sound.{IsSoundInBytes}
 use Rattle.versioned_map.specs.Versioned.{IsSafeAfter}
 use Rattle.versioned_map.proofs.Meanings.{one_contents}
@@ -88,7 +88,7 @@ module _ (hs : List Holding) (least m : ℕ) (d : FailData) (shown : Shown) (kee
       (inl refl)) in
       first.is_bad (shown-good hs least m shown keep old shows d sound first.bad first.of_master there)
 
-  module _ (opened : Option ℕ) (counted : IsNewestCounted (Counts d m shown) shown.least opened) where
+  module _ (opened : Option ℕ) (counted : IsNewestOpenedOrNone (IsOpenedHead d m shown) shown.least opened) where
     -- if there is nothing to choose, not both survive
     not-both : ((c : Choice) → IsChoiceOf hs least m c → ⊥) → BothSurvive (IsHome d) opened shown m keep → ⊥
     not-both none both =

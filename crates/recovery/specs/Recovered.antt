@@ -15,7 +15,7 @@ use Rattle.rebuilding.specs.Rebuilds.{IsRebuildFault, NamesEach, count_of}
 use Rattle.rebuilding.specs.Turns.{replayed}
 use Rattle.rebuilding.specs.Orders.{order_for}
 use Rattle.replay.specs.master.failover_model.Data.{FailData, IsHome, durable_of}
-use Rattle.replay.specs.master.failover_bytes.Choice.{Counts, IsNewestCounted}
+use Rattle.replay.specs.master.failover_bytes.Choice.{IsOpenedHead, IsNewestOpenedOrNone}
 use Rattle.replay.specs.master.failover_bytes.Sound.{IsSoundInBytes}
 use Rattle.recovery.specs.declared.recovery.RecoveryFault.{RecoveryFault}
 use Rattle.recovery.specs.declared.recovery.RecoveryFault.TheVariants as fault
@@ -56,7 +56,7 @@ IsSomePrefix inventory least master r = (d : FailData) (shown : Shown) (keep : �
 -- survive. The will covers the tablets, and the order names each group once.
 abbrev pub IsSomeLoss : List Holding → ℕ → ℕ → List Part → GroupOrder → RecoveryFault → Type 0
 IsSomeLoss inventory least master will order e = (d : FailData) (shown : Shown) (keep : ℕ → Bool) (newest : Option ℕ)
-    → IsSoundInBytes master d shown → IsNewestCounted (Counts d master shown) shown.least newest
+    → IsSoundInBytes master d shown → IsNewestOpenedOrNone (IsOpenedHead d master shown) shown.least newest
     → d.config.master ≡ master → shown.least ≡ least
     → Shows inventory (survivors keep shown) master
     → Covers d.config.tablets will → NamesGroups inventory least master will order

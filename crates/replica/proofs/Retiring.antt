@@ -11,16 +11,20 @@ use Rattle.replica.specs.declared.op.TakeFault.{TakeFault}
 use Rattle.replica.specs.declared.op.TakeFault.TheVariants as take_fault
 use Rattle.replica.specs.declared.spot.Spot.{Spot}
 use Rattle.replica.specs.Op.{OpValue}
+use Rattle.replica.specs.Acks.{acked, Grows}
 use Rattle.replica.specs.Picture.{Replica, Picture, FleetState, with_replica, is_same_place}
 use Rattle.replica.specs.Take.{effect, taken, with_effect, Takes, Refuses}
 use Rattle.replica.specs.Retire.{AreOthers, freeing, TakesEach, FreesEach, EndsAt, Retires}
+use Rattle.replica.proofs.Acks.{grows_not, grows_one, grows_twice, acked_apart}
 
--- What an op leaves as it is: the backups, the count but for one, the least heads, and other masters' replicas.
+-- What an op leaves as it is: the backups, the count but for one, the least heads, and other masters' replicas and acks.
 pub record IsOneMore (f : FleetState) (master : ℕ) (g : FleetState) : Type 0 where
   pub backups : g.backups ≡ f.backups
   pub least : g.least ≡ f.least
   pub takes : g.takes ≡ f.takes + 1
   pub others : (b m s : ℕ) → (master ≡ m → ⊥) → g.picture b m s ≡ f.picture b m s
+  pub acked : (b m s : ℕ) → (master ≡ m → ⊥) → acked g.acks b m s ≡ acked f.acks b m s
+  pub grows : Grows f.acks g.acks
 
 other_master : (p : Picture) (b m s : ℕ) (r : Option Replica) (c n t : ℕ) → (m ≡ n → ⊥)
     → with_replica p b m s r c n t ≡ p c n t
@@ -40,6 +44,8 @@ effect_more f b op (Some r) g is =
       least = refl;
       takes = refl;
       others = λ c n t other. other_master f.picture b op.master op.segment r c n t other;
+      acked = λ c n t other. acked_apart f.acks (record { backup = b; op = op }) c n t other;
+      grows = grows_one f.acks (record { backup = b; op = op });
     })
 
 taken_more : (f : FleetState) (b : ℕ) (op : OpValue) (g : FleetState) → taken f b op ≡ Some g
@@ -74,27 +80,43 @@ frees_more old mid new spots x freed takes =
     let len = length_more spots x in
     record { each = each_more old mid new spots x freed.each takes; takes = omega arith }
 
--- What stays the same of a fleet: the backups, the least heads, and the replicas of this master.
+-- What stays the same of a fleet: the backups, the least heads, and the replicas and acks of this master.
 pub record IsSparing (f : FleetState) (keep : ℕ) (g : FleetState) : Type 0 where
   pub backups : g.backups ≡ f.backups
   pub least : g.least ≡ f.least
   pub same : (b s : ℕ) → g.picture b keep s ≡ f.picture b keep s
+  pub acked : (b s : ℕ) → acked g.acks b keep s ≡ acked f.acks b keep s
+  pub grows : Grows f.acks g.acks
 
 spares_all : (f : FleetState) (keep : ℕ) → IsSparing f keep f
-spares_all f keep = record { backups = refl; least = refl; same = λ b s. refl }
+spares_all f keep = record {
+  backups = refl;
+  least = refl;
+  same = λ b s. refl;
+  acked = λ b s. refl;
+  grows = grows_not f.acks;
+}
 
 sparing_after : (f g h : FleetState) (keep : ℕ) → IsSparing f keep g → IsSparing g keep h → IsSparing f keep h
 sparing_after f g h keep one two = record {
   backups = two.backups ∙ one.backups;
   least = two.least ∙ one.least;
   same = λ b s. two.same b s ∙ one.same b s;
+  acked = λ b s. two.acked b s ∙ one.acked b s;
+  grows = grows_twice f.acks g.acks h.acks one.grows two.grows;
 }
 
 takes_sparing : (f g : FleetState) (keep : ℕ) (x : Spot) → (x.master ≡ keep → ⊥) → Takes f x.backup (freeing x) g
     → IsSparing f keep g
 takes_sparing f g keep x other takes =
     let one = taken_more f x.backup (freeing x) g takes.1 in
-    record { backups = one.backups; least = one.least; same = λ b s. one.others b keep s other }
+    record {
+      backups = one.backups;
+      least = one.least;
+      same = λ b s. one.others b keep s other;
+      acked = λ b s. one.acked b keep s other;
+      grows = one.grows;
+    }
 
 each_sparing : (f g : FleetState) (keep : ℕ) (spots : List Spot)
     → ((x : Spot) → IsAmong x spots → x.master ≡ keep → ⊥) → TakesEach f spots g → IsSparing f keep g
@@ -112,11 +134,17 @@ refuses_sparing f g keep x take_fault.Wrong other is =
     subst (λ (h : FleetState). IsSparing f keep h) (sym is.1) (spares_all f keep)
 refuses_sparing f g keep x take_fault.Fault other (inl is) =
     subst (λ (h : FleetState). IsSparing f keep h) (sym is)
-    (record { backups = refl; least = refl; same = λ b s. refl })
+    (record { backups = refl; least = refl; same = λ b s. refl; acked = λ b s. refl; grows = grows_not f.acks })
 refuses_sparing f g keep x take_fault.Fault other (inr took) =
     let one = takes_sparing f took.0 keep x other took.1 in
     subst (λ (h : FleetState). IsSparing f keep h) (sym took.2)
-    (record { backups = one.backups; least = one.least; same = one.same })
+    (record {
+      backups = one.backups;
+      least = one.least;
+      same = one.same;
+      acked = λ b s. refl;
+      grows = grows_not f.acks;
+    })
 refuses_sparing f g keep x take_fault.Spent other is =
     subst (λ (h : FleetState). IsSparing f keep h) (sym is.1) (spares_all f keep)
 

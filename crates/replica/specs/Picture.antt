@@ -3,6 +3,7 @@ use Rattle.std.specs.Prelude.{◌≡◌, ◌↔◌, ℕ, ◌==◌, ◌&&◌, Lis
 use Rattle.entry.specs.Bag.{IsAmong}
 use Rattle.replica.specs.declared.holding.Holding.{Holding}
 use Rattle.replica.specs.declared.label.Label.{Label}
+use Rattle.replica.specs.Op.{OpValue}
 
 pub record Replica : Type 0 where
   pub bytes : List ℕ
@@ -63,8 +64,14 @@ abbrev pub IsOnce : List Holding → Type 0
 IsOnce [] = Unit {0}
 IsOnce (h ∷ hs) = (IsAmong h hs → ⊥) × IsOnce hs
 
+-- An op that a backup took and answered Ok.
+pub record Ack : Type 0 where
+  pub backup : ℕ
+  pub op : OpValue
+
 -- A fleet: how many backups it has, numbered from 0, what they hold, how many ops were taken, after how many it is
--- spent, how many takes ended in a fault, and of each master the least id of a head that a recovery may use.
+-- spent, how many takes ended in a fault, of each master the least id of a head that a recovery may use, and all ops
+-- that were answered Ok, the last one first.
 pub record FleetState : Type 0 where
   pub backups : ℕ
   pub picture : Picture
@@ -72,6 +79,7 @@ pub record FleetState : Type 0 where
   pub end : ℕ
   pub faults : ℕ
   pub least : ℕ → ℕ
+  pub acks : List Ack
 
 -- what the fleet shows a recovery of this master
 abbrev pub shown_of : FleetState → ℕ → Shown

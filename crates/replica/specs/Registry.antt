@@ -3,7 +3,7 @@ use Rattle.std.specs.Prelude.{◌≡◌, ℕ, ◌+◌, ◌<◌, ◌⊎◌, ◌==
 use Rattle.replica.specs.declared.op.TakeFault.{TakeFault}
 use Rattle.replica.specs.declared.op.TakeFault.TheVariants as take_fault
 use Rattle.replica.specs.Picture.{FleetState}
-use Rattle.replica.specs.Take.{faulted}
+use Rattle.replica.specs.Take.{faulted, unanswered}
 
 -- the least head of this master becomes the greater of both, and of other masters nothing changes
 abbrev pub with_least : (ℕ → ℕ) → ℕ → ℕ → ℕ → ℕ
@@ -22,7 +22,7 @@ abbrev pub RefusesRaise : FleetState → ℕ → ℕ → TakeFault → FleetStat
 RefusesRaise old master id take_fault.NoMemory new = new ≡ old
 RefusesRaise old master id take_fault.Wrong new = ⊥
 RefusesRaise old master id take_fault.Fault new =
-    (new ≡ faulted old) ⊎ ((mid : FleetState) × Raises old master id mid × (new ≡ faulted mid))
+    (new ≡ faulted old) ⊎ ((mid : FleetState) × Raises old master id mid × (new ≡ unanswered old mid))
 RefusesRaise old master id take_fault.Spent new = (old.takes ≡ old.end) × (new ≡ old)
 
 -- what a raise does, by its answer

@@ -1,5 +1,5 @@
 -- What an op does to a fleet.
-use Rattle.std.specs.Prelude.{◌≡◌, ℕ, ◌+◌, ◌-◌, ◌^◌, ◌<◌, ◌⊎◌, ◌==◌, ◌&&◌, ◌++◌, length, min, true}
+use Rattle.std.specs.Prelude.{◌≡◌, ℕ, ◌+◌, ◌-◌, ◌^◌, ◌<◌, ◌⊎◌, ◌==◌, ◌&&◌, ◌∷◌, ◌++◌, length, min, true}
 use Rattle.std.specs.Prelude.{false, Option, Some, None, Result, Ok, Err, nat_lt, if◌then◌else◌}
 use Rattle.replica.specs.declared.op.TakeFault.{TakeFault}
 use Rattle.replica.specs.declared.op.TakeFault.TheVariants as take_fault
@@ -21,6 +21,7 @@ effect (Seal bytes) (Some r) = None
 effect Free None = None
 effect Free (Some r) = Some None
 
+-- the fleet once the op was taken and answered Ok, if it fits
 abbrev pub with_effect : FleetState → ℕ → OpValue → Option (Option Replica) → Option FleetState
 with_effect f b op None = None
 with_effect f b op (Some r) = Some (record {
@@ -30,6 +31,7 @@ with_effect f b op (Some r) = Some (record {
   end = f.end;
   faults = f.faults;
   least = f.least;
+  acks = record { backup = b; op = op } ∷ f.acks;
 })
 
 -- the fleet after the op; None if there is no such backup or the op doesn't fit
@@ -41,16 +43,20 @@ taken f b op =
 abbrev pub faulted : FleetState → FleetState
 faulted f = record f { faults = f.faults + 1 }
 
+-- the fleet that was left, with one more fault: what it took since the other one was answered by nobody
+abbrev pub unanswered : FleetState → FleetState → FleetState
+unanswered old left = record left { faults = left.faults + 1; acks = old.acks }
+
 -- the fleet was not spent, and took the op
 abbrev pub Takes : FleetState → ℕ → OpValue → FleetState → Type 0
 Takes old b op new = (old.takes < old.end) × (taken old b op ≡ Some new)
 
--- A refused op is not taken; after a fault nobody knows whether it was.
+-- A refused op is not taken; after a fault nobody knows whether it was. It isn't answered Ok.
 abbrev pub Refuses : FleetState → ℕ → OpValue → TakeFault → FleetState → Type 0
 Refuses old b op take_fault.NoMemory new = new ≡ old
 Refuses old b op take_fault.Wrong new = (taken old b op ≡ None) × (new ≡ old)
 Refuses old b op take_fault.Fault new =
-    (new ≡ faulted old) ⊎ ((mid : FleetState) × Takes old b op mid × (new ≡ faulted mid))
+    (new ≡ faulted old) ⊎ ((mid : FleetState) × Takes old b op mid × (new ≡ unanswered old mid))
 Refuses old b op take_fault.Spent new = (old.takes ≡ old.end) × (new ≡ old)
 
 -- what a take does, by its answer

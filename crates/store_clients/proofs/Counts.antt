@@ -10,8 +10,8 @@ use Rattle.counted_calls.specs.master.master_state.Data.{MasterData}
 use Rattle.counted_calls.specs.locked_log.store_seat.declared.fault.CallFault.{CallFault}
 use Rattle.counted_calls.specs.locked_log.Ends.{AreServed}
 use Rattle.counted_calls.specs.locked_log.store_seat.Seats.{SeatValue}
-use Rattle.counted_calls.specs.locked_log.Sharing.{AreOfSeats, AreSeatsAfter, seat_after}
-use Rattle.counted_calls.specs.locked_log.States.{count_of}
+use Rattle.counted_calls.specs.locked_log.Sharing.{AreSeatsAfter, seat_after}
+use Rattle.history.specs.Seats.{count_of, AreOfSeats}
 use Rattle.store_clients.specs.declared.client.Client.{Client}
 use Rattle.store_clients.specs.Clients.{Matches, IsClient, HasMade, IsSeatOf}
 use Rattle.store_clients.specs.Workloads.{AreAccepted, HasServed, IsBack}

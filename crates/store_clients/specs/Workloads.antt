@@ -1,9 +1,8 @@
 -- What clients make of a master.
 use Rattle.std.specs.Prelude.{◌≡◌, ◌≤◌, ◌<◌, ℕ, ◌+◌, ◌*◌, List, Some, IsOk}
 use Rattle.versioned_map.specs.declared.command.Record.{Record}
+use Rattle.history.specs.Seats.{count_of, AreOfSeats}
 use Rattle.counted_calls.specs.locked_log.store_seat.Seats.{SeatValue}
-use Rattle.counted_calls.specs.locked_log.Sharing.{AreOfSeats}
-use Rattle.counted_calls.specs.locked_log.States.{count_of}
 use Rattle.store_clients.specs.declared.client.Client.{Client}
 
 -- Each of so many clients, whose seats are numbered from 1, made twice the rounds as records. No other seat made one.

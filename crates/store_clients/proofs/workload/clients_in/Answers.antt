@@ -1,7 +1,8 @@
 use Rattle.std.proofs.Common.{ℕ, arith, ap, refl, sym, subst}
 use Rattle.counted_calls.specs.locked_log.store_seat.Made.{Made}
 use Rattle.counted_calls.specs.locked_log.Made.{IsMade, made_now}
-use Rattle.counted_calls.specs.locked_log.Sharing.{AreOfSeats, AreSeatsAfter}
+use Rattle.history.specs.Seats.{AreOfSeats}
+use Rattle.counted_calls.specs.locked_log.Sharing.{AreSeatsAfter}
 use Rattle.counted_calls.proofs.of_locked_log.Lasting.{made_at_first}
 use Rattle.counted_calls.specs.master.World.{MasterValue, world}
 use Rattle.store_clients.proofs.Counts.{accepted, fits}

@@ -9,7 +9,7 @@ within c = omega (arith, c.in-Some.ensures.variant.0 refl)
 pub returns-in-Some-clause-lost : goal.returns-in-Some-clause-lost
 returns-in-Some-clause-lost c =
     let fleet = c.args.self.now in
-    lost_by fleet.backups.items c.args.backup c.clear.new.self fleet.takes fleet.end fleet.faults _
+    lost_by fleet.backups.items c.args.backup c.clear.new.self fleet.takes fleet.end fleet.faults _ _
     (within (goal.at.returns-in-Some-clause-lost c).In-Some) c.clear.ensures
 
 pub returns-in-Some-clause-none : goal.returns-in-Some-clause-none

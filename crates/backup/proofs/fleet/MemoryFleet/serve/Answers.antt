@@ -25,9 +25,13 @@ pub returns-clause-serves : goal.returns-clause-serves
 returns-clause-serves c =
     let fleet = c.args.self.now in
     let after = (goal.at.returns-clause-serves c).After-take in (
-      left after,
-      taken_by _ c.args.backup _ _ (shown_op c.args.op.now) fleet.takes fleet.end fleet.faults _
-          (changed after) c.in_ok-take.ensures.named,
+      _,
+      (
+        left after,
+        taken_by _ c.args.backup _ _ (shown_op c.args.op.now) fleet.takes fleet.end fleet.faults _ _
+            (changed after) c.in_ok-take.ensures.named,
+      ),
+      refl,
     )
 
 pub returns-in_err-take-clause-serves : goal.returns-in_err-take-clause-serves
@@ -35,5 +39,5 @@ returns-in_err-take-clause-serves c =
     let fleet = c.args.self.now in
     let after = (goal.at.returns-in_err-take-clause-serves c).After-take in
     let p = err_from_is_err_and c.from_residual.result c.from_residual.ensures.1 in
-    rw (p.1, p.2) (served_by _ c.args.backup _ _ (shown_op c.args.op.now) fleet.takes fleet.end fleet.faults _
+    rw (p.1, p.2) (served_by _ c.args.backup _ _ (shown_op c.args.op.now) fleet.takes fleet.end fleet.faults _ _
     (changed after) c.in_err-take.field-0.0 (left after) c.in_err-take.ensures.named)

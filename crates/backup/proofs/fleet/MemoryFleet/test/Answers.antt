@@ -25,7 +25,7 @@ pub returns-then-fits-clause-serves : goal.returns-then-fits-clause-serves
 returns-then-fits-clause-serves c =
     let fleet = c.args.self.now in
     let after = (goal.at.returns-then-fits-clause-serves c).After-fits in
-    fits_fleet fleet.backups.items c.args.backup _ _ (shown_op c.args.op.now) fleet.takes fleet.end fleet.faults _
+    fits_fleet fleet.backups.items c.args.backup _ _ (shown_op c.args.op.now) fleet.takes fleet.end fleet.faults _ _
     (changed after) (left after) (sym c.if-fits.ensures.fits)
 
 pub returns-then-fits-clause-same : goal.returns-then-fits-clause-same
@@ -33,7 +33,7 @@ returns-then-fits-clause-same c =
     let fleet = c.args.self.now in
     let after = (goal.at.returns-then-fits-clause-same c).After-fits in
     let place : Place = (c.args.op.now.master, c.args.op.now.segment) in
-    same_fleet fleet.backups.items c.args.backup _ _ (shown_op c.args.op.now) fleet.takes fleet.end fleet.faults _
+    same_fleet fleet.backups.items c.args.backup _ _ (shown_op c.args.op.now) fleet.takes fleet.end fleet.faults _ _
     (changed after) (ap (λ (slots : Slots). found_in slots place) c.fits.ensures.same)
 
 pub returns-else-fits-clause-serves : goal.returns-else-fits-clause-serves
@@ -43,7 +43,7 @@ returns-else-fits-clause-serves c =
       _,
       (
         wrong_fleet fleet.backups.items c.args.backup _ _ (shown_op c.args.op.now) fleet.takes fleet.end
-            fleet.faults _ (changed after) (left after) (sym c.if-fits.ensures.fits),
+            fleet.faults _ _ (changed after) (left after) (sym c.if-fits.ensures.fits),
         refl,
       ),
     )
@@ -53,5 +53,5 @@ returns-else-fits-clause-same c =
     let fleet = c.args.self.now in
     let after = (goal.at.returns-else-fits-clause-same c).After-fits in
     let place : Place = (c.args.op.now.master, c.args.op.now.segment) in
-    same_fleet fleet.backups.items c.args.backup _ _ (shown_op c.args.op.now) fleet.takes fleet.end fleet.faults _
+    same_fleet fleet.backups.items c.args.backup _ _ (shown_op c.args.op.now) fleet.takes fleet.end fleet.faults _ _
     (changed after) (ap (λ (slots : Slots). found_in slots place) c.fits.ensures.same)

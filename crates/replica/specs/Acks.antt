@@ -1,0 +1,28 @@
+-- What a backup answered Ok to, of one segment.
+use Rattle.std.specs.Prelude.{◌≡◌, ℕ, List, [], ◌∷◌, ◌++◌, if◌then◌else◌}
+use Rattle.replica.specs.Op.{ActValue, Open, Extend, Close, Seal, Free}
+use Rattle.replica.specs.Picture.{Ack, is_same_place}
+
+-- the bytes after this act
+abbrev pub bytes_after : ActValue → List ℕ → List ℕ
+bytes_after (Open bytes) before = bytes
+bytes_after (Extend at bytes) before = before ++ bytes
+bytes_after Close before = before
+bytes_after (Seal bytes) before = bytes
+bytes_after Free before = before
+
+-- the bytes that this backup answered Ok to, of this master's segment: those of the last Open or Seal, and of each
+-- Extend after it
+abbrev pub acked : List Ack → ℕ → ℕ → ℕ → List ℕ
+acked [] b m s = []
+acked (a ∷ before) b m s =
+    if is_same_place a.backup a.op.master a.op.segment b m s then bytes_after a.op.act (acked before b m s)
+    else acked before b m s
+
+-- nothing that was answered is forgotten
+abbrev pub Grows : List Ack → List Ack → Type 0
+Grows old new = (more : List Ack) × (new ≡ more ++ old)
+
+-- at some time the bytes that the backup had answered Ok to were just these
+abbrev pub WasAcked : List Ack → ℕ → ℕ → ℕ → List ℕ → Type 0
+WasAcked acks b m s bytes = (old : List Ack) × Grows old acks × (acked old b m s ≡ bytes)
