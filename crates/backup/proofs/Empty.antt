@@ -1,7 +1,7 @@
 -- Backups that hold nothing.
 use Rattle.std.proofs.Common.{◌≡◌, ℕ, zero, suc, List, [], ◌∷◌, ◌++◌, length, None, refl}
 use Rattle.std.proofs.Common.{subst, sym, ap, ◌+◌, ◌∙◌, length-append, arith}
-use Rattle.replica.specs.Picture.{FleetState}
+use Rattle.replica.specs.Picture.{Ack, FleetState}
 use Rattle.replica.specs.Take.{no_limit}
 use Rattle.backup.specs.declared.memory.MemoryBackup.{MemoryBackup}
 use Rattle.backup.specs.Registry.{Heads, least_in}
@@ -27,20 +27,20 @@ pub pushed_empty : (backups new : List MemoryBackup) (x : MemoryBackup) → new 
 pushed_empty backups new x is held fresh = subst AreEmpty (sym is) (more_empty backups x held fresh)
 
 -- what a fleet of such backups is
-abbrev fleet_of : List MemoryBackup → Heads → FleetState
-fleet_of backups heads = record {
+abbrev fleet_of : List MemoryBackup → Heads → List Ack → FleetState
+fleet_of backups heads acks = record {
   backups = length backups;
   picture = picture_of backups;
   takes = 0;
   end = no_limit;
   faults = 0;
   least = least_in heads;
-  acks = [];
+  acks = acks;
 }
 
-pub empty_fleet : (n : ℕ) (backups : List MemoryBackup) (heads : Heads) → length backups ≡ n → AreEmpty backups
-    → heads ≡ [] → fleet_of backups heads ≡ new_fleet n
-empty_fleet n backups heads count empty none =
+pub empty_fleet : (n : ℕ) (backups : List MemoryBackup) (heads : Heads) (acks : List Ack) → length backups ≡ n
+    → AreEmpty backups → heads ≡ [] → acks ≡ [] → fleet_of backups heads acks ≡ new_fleet n
+empty_fleet n backups heads acks count empty none unanswered =
     λ i. record {
       backups = count i;
       picture = λ b m s. empty b m s i;
@@ -48,7 +48,7 @@ empty_fleet n backups heads count empty none =
       end = no_limit;
       faults = 0;
       least = least_in (none i);
-      acks = [];
+      acks = unanswered i;
     }
 
 pub pushed_count : (backups new : List MemoryBackup) (x : MemoryBackup) (n : ℕ) → new ≡ backups ++ x ∷ []

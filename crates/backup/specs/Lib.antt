@@ -1,3 +1,4 @@
+pub mod Acks
 pub mod Acts
 pub mod Faults
 pub mod Inventory

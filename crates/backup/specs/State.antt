@@ -1,10 +1,8 @@
 -- What a fleet in memory holds.
 use Rattle.std.specs.Prelude.{ℕ, ◌==◌, List, [], length, Option, Some, None, IsSome, not}
 use Rattle.std.specs.List.{slice_get}
-use Rattle.replica.specs.Op.{shown_op}
-use Rattle.replica.specs.Picture.{Replica, Picture, Ack, FleetState, left_on}
+use Rattle.replica.specs.Picture.{Replica, Picture, FleetState, left_on}
 use Rattle.replica.specs.Take.{no_limit}
-use Rattle.backup.specs.declared.acks.Handed.{Handed}
 use Rattle.backup.specs.declared.memory.MemoryBackup.{MemoryBackup}
 use Rattle.backup.specs.declared.fleet.MemoryFleet.{MemoryFleet}
 use Rattle.backup.specs.Registry.{least_in}
@@ -18,10 +16,6 @@ replica_on (Some memory) m s = replica_at memory m s
 -- the backups are numbered by their order
 abbrev pub picture_of : List MemoryBackup → Picture
 picture_of backups = λ b m s. replica_on (slice_get backups b) m s
-
--- the ack of an op
-abbrev pub ack_of : Handed → Ack
-ack_of handed = record { backup = handed.backup; op = shown_op handed.op }
 
 -- the fleet as the contract of a fleet sees it
 abbrev pub fleet_state : MemoryFleet → FleetState

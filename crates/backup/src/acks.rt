@@ -3,7 +3,7 @@
 ghost use Rattle.std.specs.Prelude.{◌≡◌, List, [], ◌∷◌};
 ghost use Rattle.std.specs.Borrow.{ftrue};
 ghost use Rattle.replica.specs.Picture.{Ack};
-ghost use Rattle.backup.specs.State.{ack_of};
+ghost use Rattle.backup.specs.Acks.{ack_of};
 
 use replica::Op;
 use std::marker::Model;

@@ -22,7 +22,7 @@ use Rattle.failover_bytes.proofs.Texts.{length_is, header_for}
 -- ---- one replica
 
 -- a text with more at its end
-longer : (master s : ℕ) (t : Text) (more : List Entry)
+pub longer : (master s : ℕ) (t : Text) (more : List Entry)
     → bytes_for master s t ++ text_of more ≡ bytes_for master s (record t { entries = t.entries ++ more })
 longer master s t more =
     sym (text_of-append (entries_for master s t) more)

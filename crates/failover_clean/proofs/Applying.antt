@@ -169,35 +169,38 @@ module _ (d : FailData) (m : FailMemory) (p : Shown) (segment : ℕ) (r : Record
   text_same s survivor = text_still d m old_texts i.log.held.logged unit s (not_head s survivor)
 
 pub apply_keeps : ApplyKeeps
-apply_keeps d m p segment r i may named = record {
-  log = log d m p segment r i may named;
-  tracked = tracked d m p segment r i may named;
-  passing = (stage d m p segment r i may named).passing;
-  around = around d m p segment r i may named;
-  images = images d m p segment r i may named;
-  repaired = repaired d m p segment r i may named;
-  whole = record { one = i.whole.one; failed = i.whole.failed };
-  chosen = i.chosen;
-  sealing = still_sealed d (applied d segment r) m i.log.texts (log d m p segment r i may named).texts p p
-      (recorded d m segment r).images (recorded d m segment r).index m.commits i.sealing
-      (image_same d m p segment r i may named) (text_same d m p segment r i may named) (λ s survivor. refl)
-      (λ b s survivor. refl) (λ s b survivor took. took);
-  rolling = i.rolling;
-  committed = λ c.
-      let was = i.committed c in
-      record {
-        real = was.real;
-        done = was.done;
-        images = λ s survivor.
-            ap (λ (t : Text). t.entries) (text_same d m p segment r i may named s survivor) ∙ was.images s survivor
-            ∙ sym (ap (filter is_data) (image_same d m p segment r i may named s survivor));
-      };
-  waiting = record { out = i.waiting.out; below = i.waiting.below; real = i.waiting.real };
-  recorded = λ n is. subst (λ (st : State). st.safe ≤ n.safe)
-      (sym (same_state d m p segment r i may named (new_quiet d m p segment r i may named n is))) (i.recorded n is);
-  repairs = λ is. subst (λ (st : State). st.safe ≤ d.head.start.safe)
-      (sym (same_state d m p segment r i may named (repair_quiet d m p segment r i may named is))) (i.repairs is);
-  real = i.real;
-  past = i.past;
-  before = applied_past d p segment r i.log i.past may i.before;
-}
+apply_keeps d m p segment r i may named = (
+  record {
+    log = log d m p segment r i may named;
+    tracked = tracked d m p segment r i may named;
+    passing = (stage d m p segment r i may named).passing;
+    around = around d m p segment r i may named;
+    images = images d m p segment r i may named;
+    repaired = repaired d m p segment r i may named;
+    whole = record { one = i.whole.one; failed = i.whole.failed };
+    chosen = i.chosen;
+    sealing = still_sealed d (applied d segment r) m i.log.texts (log d m p segment r i may named).texts p p
+        (recorded d m segment r).images (recorded d m segment r).index m.commits i.sealing
+        (image_same d m p segment r i may named) (text_same d m p segment r i may named) (λ s survivor. refl)
+        (λ b s survivor. refl) (λ s b survivor took. took);
+    rolling = i.rolling;
+    committed = λ c.
+        let was = i.committed c in
+        record {
+          real = was.real;
+          done = was.done;
+          images = λ s survivor.
+              ap (λ (t : Text). t.entries) (text_same d m p segment r i may named s survivor) ∙ was.images s survivor
+              ∙ sym (ap (filter is_data) (image_same d m p segment r i may named s survivor));
+        };
+    waiting = record { out = i.waiting.out; below = i.waiting.below; real = i.waiting.real };
+    recorded = λ n is. subst (λ (st : State). st.safe ≤ n.safe)
+        (sym (same_state d m p segment r i may named (new_quiet d m p segment r i may named n is))) (i.recorded n is);
+    repairs = λ is. subst (λ (st : State). st.safe ≤ d.head.start.safe)
+        (sym (same_state d m p segment r i may named (repair_quiet d m p segment r i may named is))) (i.repairs is);
+    real = i.real;
+    past = i.past;
+    before = applied_past d p segment r i.log i.past may i.before;
+  },
+  refl,
+)

@@ -30,7 +30,7 @@ use Rattle.failover_bytes.proofs.failover_model.NewIds.{id_taken_is_held, id_tak
 use Rattle.failover_bytes.proofs.failover_model.Replicas.{next_of}
 use Rattle.failover_bytes.proofs.failover_model.Texts.{new_there, new_none, new_other, new_images}
 use Rattle.failover_clean.specs.Covered.{map_of}
-use Rattle.failover_clean.specs.Intact.{IsSealed, AreSealed, AreRepaired, IsIntact}
+use Rattle.failover_clean.specs.Intact.{IsSealed, AreSealed, AreRepaired, IsIntact, IsIntactWith}
 use Rattle.failover_clean.specs.Laws.{BeginKeeps}
 use Rattle.failover_clean.specs.Memory.{FailMemory, entries_in, log_ids, log_set_of, AreImages}
 use Rattle.failover_clean.specs.Steps.{ids_taken, pass_opened, survivor_added, pass_begun, MayBeginClean}
@@ -79,50 +79,52 @@ module _ (d : FailData) (m : FailMemory) (p : Shown) (victims : List ℕ) (i : I
     carried = λ x t victim at named. inl (places_all victims m.images x (Tombstone t) victim at);
   }
 
-  pub opened : IsIntact d memory p
+  pub opened : IsIntactWith i.past d memory p
   opened =
-      let around = around_none in
-      record {
-        log = i.log;
-        tracked = begun_tracked log m.index (map_of d) tracked_none memory.pass;
-        passing = passing;
-        around = record {
-          below = around.below;
-          named_below = around.named_below;
-          versions = around.versions;
-          texted = around.texted;
-        };
-        images = λ s c. i.images s (subst (λ (ids : List ℕ). IsAmong s ids) (sym same_ids) c);
-        repaired = i.repaired;
-        whole = i.whole;
-        chosen = record {
-          victims = may.older;
-          some = λ s never. absurd never;
-          outside = λ s never c. never;
-          not_new = λ s n never is same. never;
-        };
-        sealing = record {
-          bare = λ s never. absurd never;
-          one = λ s never. absurd never;
-          each = λ s b r never. absurd never;
-          held = λ s b never. absurd never;
-        };
-        rolling = λ n is. (
-          (i.rolling n is).0,
-          λ c. let never : true ≡ false = sym c ∙ may.no_commit in absurd (cc),
-        );
-        committed = λ c. let never : true ≡ false = sym c ∙ may.no_commit in absurd (cc);
-        waiting = record {
-          out = λ w at c. i.waiting.out w at (subst (λ (ids : List ℕ). IsAmong w.segment ids) (sym same_ids) c);
-          below = i.waiting.below;
-          real = i.waiting.real;
-        };
-        recorded = i.recorded;
-        repairs = i.repairs;
-        real = i.real;
-        past = i.past;
-        before = i.before;
-      }
+      let around = around_none in (
+        record {
+          log = i.log;
+          tracked = begun_tracked log m.index (map_of d) tracked_none memory.pass;
+          passing = passing;
+          around = record {
+            below = around.below;
+            named_below = around.named_below;
+            versions = around.versions;
+            texted = around.texted;
+          };
+          images = λ s c. i.images s (subst (λ (ids : List ℕ). IsAmong s ids) (sym same_ids) c);
+          repaired = i.repaired;
+          whole = i.whole;
+          chosen = record {
+            victims = may.older;
+            some = λ s never. absurd never;
+            outside = λ s never c. never;
+            not_new = λ s n never is same. never;
+          };
+          sealing = record {
+            bare = λ s never. absurd never;
+            one = λ s never. absurd never;
+            each = λ s b r never. absurd never;
+            held = λ s b never. absurd never;
+          };
+          rolling = λ n is. (
+            (i.rolling n is).0,
+            λ c. let never : true ≡ false = sym c ∙ may.no_commit in absurd (cc),
+          );
+          committed = λ c. let never : true ≡ false = sym c ∙ may.no_commit in absurd (cc);
+          waiting = record {
+            out = λ w at c. i.waiting.out w at (subst (λ (ids : List ℕ). IsAmong w.segment ids) (sym same_ids) c);
+            below = i.waiting.below;
+            real = i.waiting.real;
+          };
+          recorded = i.recorded;
+          repairs = i.repairs;
+          real = i.real;
+          past = i.past;
+          before = i.before;
+        },
+        refl,
+      )
 
 -- ---- one survivor more
 
@@ -363,45 +365,48 @@ module _ (d : FailData) (m : FailMemory) (p : Shown) (i : IsIntact d m p) (some 
         (subst (λ (es : List Entry). IsAmong f es) (image_same s other) l)
   ]
 
-  pub added : IsIntact e more_memory p
-  added = record {
-    log = record {
-      texts = now;
-      held = id_taken_is_held d old p i.log.held;
-      standing = id_taken_is_standing d old p i.log.held i.log.standing;
-    };
-    tracked = tracked_then;
-    passing = passing_then;
-    around = record {
-      below = around_more.below;
-      named_below = around_more.named_below;
-      versions = around_more.versions;
-      texted = λ s f k c not. around_more.texted s f k c (λ survivor. not (still_survivor s survivor));
-    };
-    images = images;
-    repaired = repaired;
-    whole = record { one = whole; failed = i.whole.failed };
-    chosen = chosen;
-    sealing = sealing;
-    rolling = λ n is. (
-      (i.rolling n is).0,
-      λ c. let never : true ≡ false = sym c ∙ no_commit in absurd (cc),
-    );
-    committed = λ c. let never : true ≡ false = sym c ∙ no_commit in absurd (cc);
-    waiting = record {
-      out = λ w at c. elim (either_id w.segment c) as (λ _. ⊥) [
-        | inl l ↦ i.waiting.out w at l
-        | inr same ↦ (let lt = i.waiting.below w at in omega arith)
-      ];
-      below = λ w at. let lt = i.waiting.below w at in omega arith;
-      real = i.waiting.real;
-    };
-    recorded = i.recorded;
-    repairs = i.repairs;
-    real = i.real;
-    past = i.past;
-    before = id_taken_past d p i.log i.past i.before;
-  }
+  pub added : IsIntactWith i.past e more_memory p
+  added = (
+    record {
+      log = record {
+        texts = now;
+        held = id_taken_is_held d old p i.log.held;
+        standing = id_taken_is_standing d old p i.log.held i.log.standing;
+      };
+      tracked = tracked_then;
+      passing = passing_then;
+      around = record {
+        below = around_more.below;
+        named_below = around_more.named_below;
+        versions = around_more.versions;
+        texted = λ s f k c not. around_more.texted s f k c (λ survivor. not (still_survivor s survivor));
+      };
+      images = images;
+      repaired = repaired;
+      whole = record { one = whole; failed = i.whole.failed };
+      chosen = chosen;
+      sealing = sealing;
+      rolling = λ n is. (
+        (i.rolling n is).0,
+        λ c. let never : true ≡ false = sym c ∙ no_commit in absurd (cc),
+      );
+      committed = λ c. let never : true ≡ false = sym c ∙ no_commit in absurd (cc);
+      waiting = record {
+        out = λ w at c. elim (either_id w.segment c) as (λ _. ⊥) [
+          | inl l ↦ i.waiting.out w at l
+          | inr same ↦ (let lt = i.waiting.below w at in omega arith)
+        ];
+        below = λ w at. let lt = i.waiting.below w at in omega arith;
+        real = i.waiting.real;
+      };
+      recorded = i.recorded;
+      repairs = i.repairs;
+      real = i.real;
+      past = i.past;
+      before = id_taken_past d p i.log i.past i.before;
+    },
+    refl,
+  )
 
 -- ---- both
 
@@ -418,5 +423,7 @@ begun_commits d m victims (suc n) = begun_commits d m victims n
 pub begin_keeps : BeginKeeps
 begin_keeps d m p victims zero i may = opened d m p victims i may
 begin_keeps d m p victims (suc n) i may =
-    added (ids_taken n d) (pass_begun d m victims n) p (begin_keeps d m p victims n i may)
-    (λ none. may.some (sym (begun_victims d m victims n) ∙ none)) (begun_commits d m victims n ∙ may.no_commit)
+    let first = begin_keeps d m p victims n i may in
+    let more = added (ids_taken n d) (pass_begun d m victims n) p first.0
+    (λ none. may.some (sym (begun_victims d m victims n) ∙ none)) (begun_commits d m victims n ∙ may.no_commit) in
+    (more.0, more.1 ∙ first.1)

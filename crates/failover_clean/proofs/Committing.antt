@@ -30,7 +30,7 @@ use Rattle.failover_bytes.proofs.failover_model.Images.{between_stands}
 use Rattle.failover_bytes.proofs.failover_model.Lengths.{lens_known, len_known}
 use Rattle.failover_bytes.proofs.failover_model.Lists.{some_is, some_member, without_has}
 use Rattle.failover_clean.specs.Covered.{map_of}
-use Rattle.failover_clean.specs.Intact.{IsIntact}
+use Rattle.failover_clean.specs.Intact.{IsIntact, IsIntactWith}
 use Rattle.failover_clean.specs.Laws.{CommitKeeps, FinishKeeps}
 use Rattle.failover_clean.specs.Memory.{FailMemory, entries_in, log_ids, log_set_of, data_of}
 use Rattle.failover_clean.specs.Past.{past_after}
@@ -256,59 +256,62 @@ module _ (d : FailData) (m : FailMemory) (p : Shown) (n : Start) (mode : Mode) (
   never_new : (x : Start) → new_of mode ≡ Some x → ⊥
   never_new x is = let never : None ≡ Some x = sym (no_new d m p n mode i known ends) ∙ is in cc
 
-  done : IsIntact e f p
-  done = record {
-    log = record {
-      texts = i.log.texts;
-      held = ending_is_held d i.log.texts p n mode i.log.held known ends;
-      standing = ending_is_standing d i.log.texts p n mode i.log.held i.log.standing known ends;
-    };
-    tracked = committed (log_set_of d m i.log.texts) m.pass m.index (map_of d) left i.tracked passing_end left_less;
-    passing = none_passing _ _ _ _;
-    around = record {
-      below = λ s c. i.around.below s (left_less.from s c);
-      named_below = λ s t c. i.around.named_below s t (left_less.from s c);
-      versions = λ k h s g l. i.around.versions k h s g
-          (record { counts = left_less.from s l.counts; among = l.among });
-      texted = λ s g k c not at l. elim (among_tells s m.pass.survivors)
-          as (λ _. IsAmong g (entries_in i.log.texts s)) [
-            | inl survivor ↦ subst (λ (es : List Entry). IsAmong g es)
-                (sym ((i.committed commits).images s survivor)) (data_in g k (m.images s) at l)
-            | inr other ↦ i.around.texted s g k (left_less.from s c) other at l
-          ];
-    };
-    images = λ s c. i.images s (left_less.from s c);
-    repaired = i.repaired;
-    whole = record {
-      one = i.whole.one;
-      failed = λ fails. i.whole.failed (was_failing d m p n mode i known ends fails);
-    };
-    chosen = none_chosen _ _;
-    sealing = record {
-      bare = λ s never. absurd never;
-      one = λ s never. absurd never;
-      each = λ s b r never. absurd never;
-      held = λ s b never. absurd never;
-    };
-    rolling = λ x is. absurd (never_new x is);
-    committed = λ never. absurd (cc);
-    waiting = record {
-      out = λ w at c. elim (among_either w (spots_of d m.pass.victims) m.waiting at) as (λ _. ⊥) [
-        | inl spot ↦ left_less.gone w.segment c (spots_out d m.pass.victims w spot).0
-        | inr old ↦ i.waiting.out w old (left_less.from w.segment c)
-      ];
-      below = λ w at. elim (among_either w (spots_of d m.pass.victims) m.waiting at) as (λ _. w.segment < d.next) [
-        | inl spot ↦ i.around.below w.segment (victim_other w.segment (spots_out d m.pass.victims w spot).0)
-        | inr old ↦ i.waiting.below w old
-      ];
-      real = λ w at. real_new;
-    };
-    recorded = λ x is. absurd (never_new x is);
-    repairs = λ _. i.recorded n new_was;
-    real = λ _. real_new;
-    past = past_after d i.past;
-    before = ended_past d p n mode i.log i.past ends i.before;
-  }
+  done : IsIntactWith (past_after d i.past) e f p
+  done = (
+    record {
+      log = record {
+        texts = i.log.texts;
+        held = ending_is_held d i.log.texts p n mode i.log.held known ends;
+        standing = ending_is_standing d i.log.texts p n mode i.log.held i.log.standing known ends;
+      };
+      tracked = committed (log_set_of d m i.log.texts) m.pass m.index (map_of d) left i.tracked passing_end left_less;
+      passing = none_passing _ _ _ _;
+      around = record {
+        below = λ s c. i.around.below s (left_less.from s c);
+        named_below = λ s t c. i.around.named_below s t (left_less.from s c);
+        versions = λ k h s g l. i.around.versions k h s g
+            (record { counts = left_less.from s l.counts; among = l.among });
+        texted = λ s g k c not at l. elim (among_tells s m.pass.survivors)
+            as (λ _. IsAmong g (entries_in i.log.texts s)) [
+              | inl survivor ↦ subst (λ (es : List Entry). IsAmong g es)
+                  (sym ((i.committed commits).images s survivor)) (data_in g k (m.images s) at l)
+              | inr other ↦ i.around.texted s g k (left_less.from s c) other at l
+            ];
+      };
+      images = λ s c. i.images s (left_less.from s c);
+      repaired = i.repaired;
+      whole = record {
+        one = i.whole.one;
+        failed = λ fails. i.whole.failed (was_failing d m p n mode i known ends fails);
+      };
+      chosen = none_chosen _ _;
+      sealing = record {
+        bare = λ s never. absurd never;
+        one = λ s never. absurd never;
+        each = λ s b r never. absurd never;
+        held = λ s b never. absurd never;
+      };
+      rolling = λ x is. absurd (never_new x is);
+      committed = λ never. absurd (cc);
+      waiting = record {
+        out = λ w at c. elim (among_either w (spots_of d m.pass.victims) m.waiting at) as (λ _. ⊥) [
+          | inl spot ↦ left_less.gone w.segment c (spots_out d m.pass.victims w spot).0
+          | inr old ↦ i.waiting.out w old (left_less.from w.segment c)
+        ];
+        below = λ w at. elim (among_either w (spots_of d m.pass.victims) m.waiting at) as (λ _. w.segment < d.next) [
+          | inl spot ↦ i.around.below w.segment (victim_other w.segment (spots_out d m.pass.victims w spot).0)
+          | inr old ↦ i.waiting.below w old
+        ];
+        real = λ w at. real_new;
+      };
+      recorded = λ x is. absurd (never_new x is);
+      repairs = λ _. i.recorded n new_was;
+      real = λ _. real_new;
+      past = past_after d i.past;
+      before = ended_past d p n mode i.log i.past ends i.before;
+    },
+    refl,
+  )
 
 pub finish_keeps : FinishKeeps
 finish_keeps d m p n mode i known ends commits = done d m p n mode i known ends commits

@@ -61,37 +61,39 @@ module _ (d : FailData) (m : FailMemory) (p : Shown) (s : ℕ) (i : IsIntact d m
 pub compact_keeps : CompactKeeps
 compact_keeps d m p s i may =
     let does = kept_is (log_ids d m) m.images m.index s in
-    let image = with_image m.images s (es d m p s i may) in
-    record {
-      log = i.log;
-      tracked = compacted_tracked (log d m p s i may) m.pass m.index (moved d m p s i may) (map_of d) s
-          (es d m p s i may) i.tracked does i.passing.survivors_count may.no_survivor;
-      passing = compacted_passing (log d m p s i may) m.pass m.index (moved d m p s i may) (map_of d) s
-          (es d m p s i may) i.tracked does i.passing.survivors_count may.no_survivor m.rest i.passing
-          may.no_victim;
-      around = around_fewer (log d m p s i may) image m.pass (map_of d) (state_of d).safe d.next i.around
-          (fewer d m p s i may);
-      images = one_image d m i.log.texts s (es d m p s i may) i.images
-          (λ c. kept_image (log_ids d m) m.index s d.config.master (i.log.texts.text s) (m.images s)
-          (i.images s c));
-      repaired = λ z xs k e sealed at l. i.repaired z xs k e sealed at (fewer d m p s i may z e l);
-      whole = i.whole;
-      chosen = i.chosen;
-      sealing = still_sealed d d m i.log.texts i.log.texts p p image (moved d m p s i may) m.commits i.sealing
-          (same_image d m p s i may) (λ z survivor. refl) (λ z survivor. refl) (λ b z survivor. refl)
-          (λ z b survivor took. took);
-      rolling = i.rolling;
-      committed = λ c.
-          let was = i.committed c in
-          record {
-            real = was.real;
-            done = was.done;
-            images = λ z survivor. was.images z survivor ∙ sym (ap (filter is_data) (same_image d m p s i may z survivor));
-          };
-      waiting = record { out = i.waiting.out; below = i.waiting.below; real = i.waiting.real };
-      recorded = i.recorded;
-      repairs = i.repairs;
-      real = i.real;
-      past = i.past;
-      before = i.before;
-    }
+    let image = with_image m.images s (es d m p s i may) in (
+      record {
+        log = i.log;
+        tracked = compacted_tracked (log d m p s i may) m.pass m.index (moved d m p s i may) (map_of d) s
+            (es d m p s i may) i.tracked does i.passing.survivors_count may.no_survivor;
+        passing = compacted_passing (log d m p s i may) m.pass m.index (moved d m p s i may) (map_of d) s
+            (es d m p s i may) i.tracked does i.passing.survivors_count may.no_survivor m.rest i.passing
+            may.no_victim;
+        around = around_fewer (log d m p s i may) image m.pass (map_of d) (state_of d).safe d.next i.around
+            (fewer d m p s i may);
+        images = one_image d m i.log.texts s (es d m p s i may) i.images
+            (λ c. kept_image (log_ids d m) m.index s d.config.master (i.log.texts.text s) (m.images s)
+            (i.images s c));
+        repaired = λ z xs k e sealed at l. i.repaired z xs k e sealed at (fewer d m p s i may z e l);
+        whole = i.whole;
+        chosen = i.chosen;
+        sealing = still_sealed d d m i.log.texts i.log.texts p p image (moved d m p s i may) m.commits i.sealing
+            (same_image d m p s i may) (λ z survivor. refl) (λ z survivor. refl) (λ b z survivor. refl)
+            (λ z b survivor took. took);
+        rolling = i.rolling;
+        committed = λ c.
+            let was = i.committed c in
+            record {
+              real = was.real;
+              done = was.done;
+              images = λ z survivor. was.images z survivor ∙ sym (ap (filter is_data) (same_image d m p s i may z survivor));
+            };
+        waiting = record { out = i.waiting.out; below = i.waiting.below; real = i.waiting.real };
+        recorded = i.recorded;
+        repairs = i.repairs;
+        real = i.real;
+        past = i.past;
+        before = i.before;
+      },
+      refl,
+    )

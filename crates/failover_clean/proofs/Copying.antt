@@ -20,7 +20,7 @@ use Rattle.failover_bytes.proofs.clean_model.TrackedBags.{found_at, one_object}
 use Rattle.failover_bytes.specs.failover_model.Shown.{Shown}
 use Rattle.failover_bytes.specs.failover_model.Data.{FailData, new_of, state_of}
 use Rattle.failover_clean.specs.Covered.{map_of}
-use Rattle.failover_clean.specs.Intact.{AreSealed, AreRepaired, IsRollOf, IsIntact}
+use Rattle.failover_clean.specs.Intact.{AreSealed, AreRepaired, IsRollOf, IsIntact, IsIntactWith}
 use Rattle.failover_clean.specs.Laws.{CopyKeeps}
 use Rattle.failover_clean.specs.Memory.{FailMemory, log_ids, log_set_of}
 use Rattle.failover_clean.specs.Steps.{with_copy}
@@ -101,87 +101,95 @@ module _ (d : FailData) (m : FailMemory) (p : Shown) (i : IsIntact d m p) (first
 
   -- a live object
   moved : (o : ObjectValue) → StandsAt m.images first (Object o) → m.index o.key ≡ Some first
-      → IsIntact d (with_copy m rest s (Object o)) p
+      → IsIntactWith i.past d (with_copy m rest s (Object o)) p
   moved o at named =
       let contents = map_of d in
       let f = found_at log m.pass m.index contents i.tracked o.key first named in
       let it : object_at o.key f.has ≡ Object o =
       at_one (m.images first.segment) first.position (object_at o.key f.has) (Object o) f.stands at in
       let index = with_place m.index o.key (Some (next_place m.images s)) in
-      let to = place_set m.index o.key (Some (next_place m.images s)) in
-      record {
-        log = i.log;
-        tracked = subst (λ (e : Entry). IsTracked (copied log s e) m.pass index contents) it
-            (live_copied log m.pass m.index contents first rest i.tracked passing_first victim s survivor o.key f.has
-            f.present named index to);
-        passing = subst (λ (e : Entry). IsPassing (log_ids d m) (grown m.images s e) m.pass index rest) it
-            (live_passing log m.pass m.index contents first rest i.tracked passing_first victim s survivor o.key f.has
-            f.present named index to);
-        around = around_copied (Object o) (among_at _ _ _ at);
-        images = images_copied (Object o) refl;
-        repaired = repaired_then (Object o) index;
-        whole = i.whole;
-        chosen = i.chosen;
-        sealing = sealing_then (grown m.images s (Object o)) index;
-        rolling = rolling_then (grown m.images s (Object o)) index;
-        committed = λ c. absurd (not_done (i.committed c).done);
-        waiting = record { out = i.waiting.out; below = i.waiting.below; real = i.waiting.real };
-        recorded = i.recorded;
-        repairs = i.repairs;
-        real = i.real;
-        past = i.past;
-        before = i.before;
-      }
+      let to = place_set m.index o.key (Some (next_place m.images s)) in (
+        record {
+          log = i.log;
+          tracked = subst (λ (e : Entry). IsTracked (copied log s e) m.pass index contents) it
+              (live_copied log m.pass m.index contents first rest i.tracked passing_first victim s survivor o.key f.has
+              f.present named index to);
+          passing = subst (λ (e : Entry). IsPassing (log_ids d m) (grown m.images s e) m.pass index rest) it
+              (live_passing log m.pass m.index contents first rest i.tracked passing_first victim s survivor o.key f.has
+              f.present named index to);
+          around = around_copied (Object o) (among_at _ _ _ at);
+          images = images_copied (Object o) refl;
+          repaired = repaired_then (Object o) index;
+          whole = i.whole;
+          chosen = i.chosen;
+          sealing = sealing_then (grown m.images s (Object o)) index;
+          rolling = rolling_then (grown m.images s (Object o)) index;
+          committed = λ c. absurd (not_done (i.committed c).done);
+          waiting = record { out = i.waiting.out; below = i.waiting.below; real = i.waiting.real };
+          recorded = i.recorded;
+          repairs = i.repairs;
+          real = i.real;
+          past = i.past;
+          before = i.before;
+        },
+        refl,
+      )
 
   carried : (t : TombstoneValue) → StandsAt m.images first (Tombstone t)
-      → IsIntact d (with_copy m rest s (Tombstone t)) p
-  carried t at = record {
-    log = i.log;
-    tracked = grave_copied log m.pass m.index (map_of d) first rest i.tracked passing_first victim s survivor t at;
-    passing = grave_passing log m.pass m.index (map_of d) first rest i.tracked passing_first victim s survivor t at;
-    around = around_copied (Tombstone t) (among_at _ _ _ at);
-    images = images_copied (Tombstone t) refl;
-    repaired = repaired_then (Tombstone t) m.index;
-    whole = i.whole;
-    chosen = i.chosen;
-    sealing = sealing_then (grown m.images s (Tombstone t)) m.index;
-    rolling = rolling_then (grown m.images s (Tombstone t)) m.index;
-    committed = λ c. absurd (not_done (i.committed c).done);
-    waiting = record { out = i.waiting.out; below = i.waiting.below; real = i.waiting.real };
-    recorded = i.recorded;
-    repairs = i.repairs;
-    real = i.real;
-    past = i.past;
-    before = i.before;
-  }
+      → IsIntactWith i.past d (with_copy m rest s (Tombstone t)) p
+  carried t at = (
+    record {
+      log = i.log;
+      tracked = grave_copied log m.pass m.index (map_of d) first rest i.tracked passing_first victim s survivor t at;
+      passing = grave_passing log m.pass m.index (map_of d) first rest i.tracked passing_first victim s survivor t at;
+      around = around_copied (Tombstone t) (among_at _ _ _ at);
+      images = images_copied (Tombstone t) refl;
+      repaired = repaired_then (Tombstone t) m.index;
+      whole = i.whole;
+      chosen = i.chosen;
+      sealing = sealing_then (grown m.images s (Tombstone t)) m.index;
+      rolling = rolling_then (grown m.images s (Tombstone t)) m.index;
+      committed = λ c. absurd (not_done (i.committed c).done);
+      waiting = record { out = i.waiting.out; below = i.waiting.below; real = i.waiting.real };
+      recorded = i.recorded;
+      repairs = i.repairs;
+      real = i.real;
+      past = i.past;
+      before = i.before;
+    },
+    refl,
+  )
 
   dropped : (e : Entry) → StandsAt m.images first e
       → ((o : ObjectValue) → e ≡ Object o → m.index o.key ≡ Some first → ⊥)
       → ((t : TombstoneValue) → e ≡ Tombstone t → IsAmong t.segment (log_ids d m) → ⊥)
-      → IsIntact d (record m { rest = rest }) p
-  dropped e at unnamed gone = record {
-    log = i.log;
-    tracked = i.tracked;
-    passing = dropped_passing log m.pass m.index (map_of d) first rest i.tracked passing_first victim e at unnamed gone;
-    around = i.around;
-    images = i.images;
-    repaired = i.repaired;
-    whole = i.whole;
-    chosen = i.chosen;
-    sealing = sealing_then m.images m.index;
-    rolling = rolling_then m.images m.index;
-    committed = λ c. absurd (not_done (i.committed c).done);
-    waiting = record { out = i.waiting.out; below = i.waiting.below; real = i.waiting.real };
-    recorded = i.recorded;
-    repairs = i.repairs;
-    real = i.real;
-    past = i.past;
-    before = i.before;
-  }
+      → IsIntactWith i.past d (record m { rest = rest }) p
+  dropped e at unnamed gone = (
+    record {
+      log = i.log;
+      tracked = i.tracked;
+      passing = dropped_passing log m.pass m.index (map_of d) first rest i.tracked passing_first victim e at unnamed gone;
+      around = i.around;
+      images = i.images;
+      repaired = i.repaired;
+      whole = i.whole;
+      chosen = i.chosen;
+      sealing = sealing_then m.images m.index;
+      rolling = rolling_then m.images m.index;
+      committed = λ c. absurd (not_done (i.committed c).done);
+      waiting = record { out = i.waiting.out; below = i.waiting.below; real = i.waiting.real };
+      recorded = i.recorded;
+      repairs = i.repairs;
+      real = i.real;
+      past = i.past;
+      before = i.before;
+    },
+    refl,
+  )
 
   -- the entry at the cursor, whichever it is
   treated : (e : Entry) (b : Bool) → is_copied (log_ids d m) m.index first e ≡ b → StandsAt m.images first e
-      → IsIntact d (cond b (with_copy m rest s e) (record m { rest = rest })) p
+      → IsIntactWith i.past d (cond b (with_copy m rest s e) (record m { rest = rest })) p
   treated (Object o) true is at = moved o at (place_true (m.index o.key) first is)
   treated (Object o) false is at = dropped (Object o) at
       (λ q same named. place_false (m.index o.key) first is

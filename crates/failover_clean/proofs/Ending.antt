@@ -12,7 +12,7 @@ use Rattle.failover_bytes.specs.failover_model.Log.{IsKept}
 use Rattle.failover_bytes.specs.failover_model.Steps.{ids_now, ended, EndsRoll, IsKnown}
 use Rattle.failover_bytes.proofs.failover_model.Ending.{ending_is_held, ending_is_standing}
 use Rattle.failover_clean.specs.Covered.{map_of}
-use Rattle.failover_clean.specs.Intact.{IsIntact}
+use Rattle.failover_clean.specs.Intact.{IsIntact, IsIntactWith}
 use Rattle.failover_clean.specs.Laws.{EndKeeps}
 use Rattle.failover_clean.specs.Memory.{FailMemory, log_ids, log_set_of}
 use Rattle.failover_clean.specs.Past.{past_after}
@@ -100,42 +100,45 @@ module _ (d : FailData) (m : FailMemory) (p : Shown) (n : Start) (mode : Mode) (
     never_new : (x : Start) → new_of mode ≡ Some x → ⊥
     never_new x is = let never : None ≡ Some x = sym no_new ∙ is in cc
 
-    done : IsIntact e m p
-    done = record {
-      log = then_log;
-      tracked = more_tracked log new more m.pass i.passing.survivors_count m.index (map_of d) i.tracked;
-      passing = more_passing log new more m.pass i.passing.survivors_count m.index m.rest i.passing
-          (λ q t victim at named. from_last t.segment named);
-      around = more_around log new more m.pass i.passing.survivors_count (map_of d) (state_of d).safe d.next d.next
-          i.around (omega arith) (λ s c. inl (from_last s c));
-      images = λ s c. i.images s (from_last s c);
-      repaired = i.repaired;
-      whole = record { one = i.whole.one; failed = λ fails. i.whole.failed (was_failing fails) };
-      chosen = record {
-        victims = λ s victim. subst (IsAmong s) (sym others_are)
-            (now_others d.head.start s i.log.held.logged.head.below (i.chosen.victims s victim));
-        some = i.chosen.some;
-        outside = λ s survivor c. elim (among_push s n.others n.id c) as (λ _. ⊥) [
-          | inl l ↦ i.chosen.outside s survivor (now_out d.head.start s (subst (IsAmong s) others_are l)).0
-          | inr is ↦ i.chosen.not_new s n survivor is_new is
-        ];
-        not_new = λ s x survivor is. absurd (never_new x is);
-      };
-      sealing = still_sealed d e m i.log.texts i.log.texts p p m.images m.index m.commits i.sealing
-          (λ s c. refl) (λ s c. refl) (λ s c. refl) (λ b s c. refl) (λ s b c took. took);
-      rolling = λ x is. absurd (never_new x is);
-      committed = λ c. let never : true ≡ false = sym c ∙ ordinary in absurd (cc);
-      waiting = record {
-        out = λ w at c. i.waiting.out w at (from_last w.segment c);
-        below = i.waiting.below;
-        real = λ w at. some;
-      };
-      recorded = λ x is. absurd (never_new x is);
-      repairs = λ _. i.recorded n is_new;
-      real = λ _. some;
-      past = past_after d i.past;
-      before = ended_past d p n mode i.log i.past ends i.before;
-    }
+    done : IsIntactWith (past_after d i.past) e m p
+    done = (
+      record {
+        log = then_log;
+        tracked = more_tracked log new more m.pass i.passing.survivors_count m.index (map_of d) i.tracked;
+        passing = more_passing log new more m.pass i.passing.survivors_count m.index m.rest i.passing
+            (λ q t victim at named. from_last t.segment named);
+        around = more_around log new more m.pass i.passing.survivors_count (map_of d) (state_of d).safe d.next d.next
+            i.around (omega arith) (λ s c. inl (from_last s c));
+        images = λ s c. i.images s (from_last s c);
+        repaired = i.repaired;
+        whole = record { one = i.whole.one; failed = λ fails. i.whole.failed (was_failing fails) };
+        chosen = record {
+          victims = λ s victim. subst (IsAmong s) (sym others_are)
+              (now_others d.head.start s i.log.held.logged.head.below (i.chosen.victims s victim));
+          some = i.chosen.some;
+          outside = λ s survivor c. elim (among_push s n.others n.id c) as (λ _. ⊥) [
+            | inl l ↦ i.chosen.outside s survivor (now_out d.head.start s (subst (IsAmong s) others_are l)).0
+            | inr is ↦ i.chosen.not_new s n survivor is_new is
+          ];
+          not_new = λ s x survivor is. absurd (never_new x is);
+        };
+        sealing = still_sealed d e m i.log.texts i.log.texts p p m.images m.index m.commits i.sealing
+            (λ s c. refl) (λ s c. refl) (λ s c. refl) (λ b s c. refl) (λ s b c took. took);
+        rolling = λ x is. absurd (never_new x is);
+        committed = λ c. let never : true ≡ false = sym c ∙ ordinary in absurd (cc);
+        waiting = record {
+          out = λ w at c. i.waiting.out w at (from_last w.segment c);
+          below = i.waiting.below;
+          real = λ w at. some;
+        };
+        recorded = λ x is. absurd (never_new x is);
+        repairs = λ _. i.recorded n is_new;
+        real = λ _. some;
+        past = past_after d i.past;
+        before = ended_past d p n mode i.log i.past ends i.before;
+      },
+      refl,
+    )
 
 pub end_keeps : EndKeeps
 end_keeps d m p n mode i known ends ordinary = done d m p n mode i known ends ordinary

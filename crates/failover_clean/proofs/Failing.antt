@@ -15,7 +15,7 @@ use Rattle.failover_bytes.specs.failover_model.Data.{Calm, FailData, new_of, sta
 use Rattle.failover_bytes.specs.failover_model.Steps.{failing, MayFail}
 use Rattle.failover_bytes.proofs.failover_model.Failing.{failing_is_held, failing_is_standing, mended_is_held, mended_is_standing}
 use Rattle.failover_clean.specs.Covered.{map_of}
-use Rattle.failover_clean.specs.Intact.{IsIntact}
+use Rattle.failover_clean.specs.Intact.{IsIntact, IsIntactWith}
 use Rattle.failover_clean.specs.Laws.{FailKeeps, MendKeeps}
 use Rattle.failover_clean.specs.Memory.{FailMemory, entries_in, log_ids, log_set_of}
 use Rattle.failover_clean.specs.Steps.{stopped}
@@ -110,48 +110,51 @@ module _ (d : FailData) (m : FailMemory) (p : Shown) (b : ℕ) (i : IsIntact d m
   some : b ∷ d.failed ≡ [] → ⊥
   some none = cc
 
-  failed : IsIntact e (stopped m) p
-  failed = record {
-    log = record {
-      texts = i.log.texts;
-      held = failing_is_held d i.log.texts p b i.log.held may;
-      standing = failing_is_standing d i.log.texts p b i.log.held i.log.standing may;
-    };
-    tracked = left_tracked log left within stays m.pass m.index (map_of d) i.tracked;
-    passing = record {
-      victims_count = λ s victim. in_digest e (stopped m) s
-          (now_others d.head.start s i.log.held.logged.head.below (i.chosen.victims s victim));
-      survivors_count = λ s survivor. in_survivors e (stopped m) s survivor;
-      disjoint = i.passing.disjoint;
-      copies = i.passing.copies;
-      live = i.passing.live;
-      carried = λ q t victim at named. i.passing.carried q t victim at (within t.segment named);
-    };
-    around = left_around log left within stays m.pass (map_of d) (state_of d).safe d.next i.around;
-    images = λ s c. i.images s (within s c);
-    repaired = i.repaired;
-    whole = record { one = λ none. absurd (some none); failed = λ fails none. some none };
-    chosen = record {
-      victims = i.chosen.victims;
-      some = i.chosen.some;
-      outside = i.chosen.outside;
-      not_new = λ s n survivor never. absurd (cc);
-    };
-    sealing = still_sealed d e m i.log.texts i.log.texts p p m.images m.index false i.sealing
-        (λ s c. refl) (λ s c. refl) (λ s c. refl) (λ c s at. refl) (λ s c at took. took);
-    rolling = λ n never. absurd (cc);
-    committed = λ never. absurd (cc);
-    waiting = record {
-      out = λ w at c. i.waiting.out w at (within w.segment c);
-      below = i.waiting.below;
-      real = i.waiting.real;
-    };
-    recorded = λ n never. absurd (cc);
-    repairs = λ never. absurd (cc);
-    real = λ is. absurd (elim is as (λ _. ⊥) [ inl calm ↦ cc | inr repairs ↦ cc ]);
-    past = i.past;
-    before = failing_past d i.log.texts b i.past i.before;
-  }
+  failed : IsIntactWith i.past e (stopped m) p
+  failed = (
+    record {
+      log = record {
+        texts = i.log.texts;
+        held = failing_is_held d i.log.texts p b i.log.held may;
+        standing = failing_is_standing d i.log.texts p b i.log.held i.log.standing may;
+      };
+      tracked = left_tracked log left within stays m.pass m.index (map_of d) i.tracked;
+      passing = record {
+        victims_count = λ s victim. in_digest e (stopped m) s
+            (now_others d.head.start s i.log.held.logged.head.below (i.chosen.victims s victim));
+        survivors_count = λ s survivor. in_survivors e (stopped m) s survivor;
+        disjoint = i.passing.disjoint;
+        copies = i.passing.copies;
+        live = i.passing.live;
+        carried = λ q t victim at named. i.passing.carried q t victim at (within t.segment named);
+      };
+      around = left_around log left within stays m.pass (map_of d) (state_of d).safe d.next i.around;
+      images = λ s c. i.images s (within s c);
+      repaired = i.repaired;
+      whole = record { one = λ none. absurd (some none); failed = λ fails none. some none };
+      chosen = record {
+        victims = i.chosen.victims;
+        some = i.chosen.some;
+        outside = i.chosen.outside;
+        not_new = λ s n survivor never. absurd (cc);
+      };
+      sealing = still_sealed d e m i.log.texts i.log.texts p p m.images m.index false i.sealing
+          (λ s c. refl) (λ s c. refl) (λ s c. refl) (λ c s at. refl) (λ s c at took. took);
+      rolling = λ n never. absurd (cc);
+      committed = λ never. absurd (cc);
+      waiting = record {
+        out = λ w at c. i.waiting.out w at (within w.segment c);
+        below = i.waiting.below;
+        real = i.waiting.real;
+      };
+      recorded = λ n never. absurd (cc);
+      repairs = λ never. absurd (cc);
+      real = λ is. absurd (elim is as (λ _. ⊥) [ inl calm ↦ cc | inr repairs ↦ cc ]);
+      past = i.past;
+      before = failing_past d i.log.texts b i.past i.before;
+    },
+    refl,
+  )
 
 pub fail_keeps : FailKeeps
 fail_keeps d m p b i may = failed d m p b i may

@@ -1,14 +1,19 @@
 -- What a fleet keeps of a master by the answer of each op.
-use Rattle.std.proofs.Common.{◌≡◌, ℕ, inl, inr, sym, ap, subst, ◌∙◌}
+use Rattle.std.proofs.Common.{◌≡◌, ℕ, inl, inr, List, ◌∷◌, Some, refl, sym, ap, subst, ◌∙◌}
+use Rattle.std.specs.Prelude.{None}
 use Rattle.std.proofs.lemmas.Option.{same_Some}
-use Rattle.replica.specs.Picture.{FleetState, shown_of}
-use Rattle.failover_bytes.specs.failover_model.Shown.{Shown, Op}
-use Rattle.failover_bytes.specs.failover_model.Data.{FailConfig, FailData}
-use Rattle.failover_bytes.specs.failover_model.Log.{Texts}
+use Rattle.replica.specs.declared.op.TakeFault.TheVariants as take_fault
+use Rattle.replica.specs.Picture.{Ack, FleetState, shown_of}
+use Rattle.failover_bytes.specs.failover_model.Shown.{Shown, Seal, Free, Op}
+use Rattle.failover_bytes.specs.failover_model.Data.{FailConfig, FailData, new_of}
+use Rattle.failover_bytes.specs.failover_model.Durable.{TakenHead}
+use Rattle.failover_bytes.specs.failover_model.Log.{Texts, IsLogHeld}
 use Rattle.failover_bytes.specs.failover_model.Runs.{IsThere, IsFaulted}
-use Rattle.failover_bytes.specs.failover_model.Steps.{with_taken, Reseals, Seals}
+use Rattle.failover_bytes.specs.failover_model.Steps.{with_taken, failing, MayRepair, Reseals, Seals}
+use Rattle.failover_bytes.proofs.failover_model.Placing.{other_apart}
 use Rattle.failover_bytes.proofs.failover_model.Runs.{elsewhere}
 use Rattle.failover_bytes.specs.Keeping.{IsFreedThere, IsAsked}
+use Rattle.failover_bytes.specs.Ops.{TakesOp, RefusesOp}
 use Rattle.failover_bytes.specs.Runs.{read_fleet}
 use Rattle.failover_bytes.specs.Segments.{SealsSegment, IsHeldOp}
 use Rattle.failover_bytes.specs.Spelled.{IsSpelled}
@@ -17,10 +22,12 @@ use Rattle.failover_bytes.proofs.Keeping.{ok_is_spelled, fault_is_either, held_o
 use Rattle.failover_bytes.proofs.Reading.{spelled_is_read}
 use Rattle.failover_clean.specs.Fleet.{read_of, KeepsAll, OkHoldsAll, FaultKeepsAll}
 use Rattle.failover_clean.specs.Fleet.{FaultFailsOver, OpIsNeverWrong}
-use Rattle.failover_clean.specs.Intact.{IsIntact, Knows}
-use Rattle.failover_clean.specs.Memory.{FailMemory}
+use Rattle.failover_clean.specs.Acked.{AreAcked}
+use Rattle.failover_clean.specs.Intact.{IsIntact, IsIntactWith, Knows}
+use Rattle.failover_clean.specs.Memory.{FailMemory, text_in}
 use Rattle.failover_clean.specs.Ops.{IsHeadOp, IsOp}
 use Rattle.failover_clean.specs.Steps.{stopped}
+use Rattle.failover_clean.proofs.Acking.{ack_for, acked_on, head_acked, acked_sealed, acked_freed, acked_failing, fault_acks}
 use Rattle.failover_clean.proofs.Failing.{fail_keeps}
 use Rattle.failover_clean.proofs.Freeing.{spot_is_free}
 use Rattle.failover_clean.proofs.KeptFleets.{holds_at}
@@ -28,6 +35,7 @@ use Rattle.failover_clean.proofs.Knowing.{fail_knows}
 use Rattle.failover_clean.proofs.OpsKeep.{op_keeps, op_fits}
 use Rattle.failover_clean.proofs.Repairing.{image_is_repair}
 use Rattle.failover_clean.proofs.Sealing.{seals_image}
+use Rattle.failover_clean.proofs.Taking.{survivor_no_head}
 
 -- ---- the op, as bytes have it
 
@@ -137,6 +145,18 @@ asked d e m n f o keeps is =
       seals = may.seals;
     }
 
+-- ---- what was answered Ok
+
+-- a repair is on a segment that is no head
+pub repair_acked : (d : FailData) (m : FailMemory) (f : FleetState) (past : List TakenHead)
+    → AreAcked d.config.master d f.acks past → (texts : Texts) (p : Shown) → IsLogHeld d texts p → (s b : ℕ)
+    → MayRepair d s b → AreAcked d.config.master (record d { took = with_taken d.took s b })
+    (ack_for d.config.master b s (Seal (text_in m s)) ∷ f.acks) past
+repair_acked d m f past acked texts p held s b may =
+    acked_sealed d.config.master d f.acks past acked texts p held b s (text_in m s)
+    (λ same. other_apart d texts held.logged s (inl may.listed) same)
+    (λ n new same. let never : None ≡ Some n = sym (ap new_of may.mode) ∙ new in cc)
+
 -- ---- the answers
 
 -- what a fleet spells is what is read of it
@@ -149,6 +169,24 @@ op_is_never_wrong d e m n f g o holds is on refused =
     held_op_is_never_wrong d.config.master d e holds.keeps.intact.log.texts f g (read_of d f) o
     (asked d e m n f o holds.keeps is) holds.knows.log on (freed_there d e m n (read_of d f) o holds.knows is) refused
 
+-- what was answered Ok, once the op was
+ok_acked : (d e : FailData) (m n : FailMemory) (f g : FleetState) (o : Op) (i : IsIntact d m (read_of d f))
+    → IsOp d m o e n → TakesOp d.config.master f o g → AreAcked d.config.master d f.acks i.past
+    → AreAcked d.config.master e g.acks i.past
+ok_acked d e m n f g o i (inl (op, same)) took acked =
+    head_acked d.config.master d f g i.past acked i.log.texts (read_of d f) i.log.held o e op took
+ok_acked d e m n f g o i (inr (inl (op, same))) took acked =
+    let no_head = survivor_no_head d m (read_of d f) i op.s op.may.survivor in
+    acked_on d.config.master d f g i.past acked i.log.texts (read_of d f) i.log.held o op.b op.s _ e _ op.op op.gives
+    took (acked_sealed d.config.master d f.acks i.past acked i.log.texts (read_of d f) i.log.held op.b op.s _
+    no_head.head no_head.new)
+ok_acked d e m n f g o i (inr (inr (inl (op, same)))) took acked =
+    acked_on d.config.master d f g i.past acked i.log.texts (read_of d f) i.log.held o op.b op.s _ e _ op.op op.gives
+    took (repair_acked d m f i.past acked i.log.texts (read_of d f) i.log.held op.s op.b op.may)
+ok_acked d e m n f g o i (inr (inr (inr (op, same)))) took acked =
+    acked_on d.config.master d f g i.past acked i.log.texts (read_of d f) i.log.held o op.b op.s Free e d op.op same
+    took (acked_freed d.config.master d f.acks i.past acked i.log.texts (read_of d f) i.log.held op.b op.s)
+
 pub ok_holds_all : OkHoldsAll
 ok_holds_all d e m n f g o holds is at took =
     let master = d.config.master in
@@ -160,17 +198,27 @@ ok_holds_all d e m n f g o holds is at took =
     let fits = op_fits d e m n p o i holds.knows is in
     let known : Knows e n then.0 =
     subst (Knows e n) (same_Some fits.0 then.0 (sym fits.1 ∙ then.1)) fits.2 in
+    let after : IsIntactWith i.past e n (read_fleet master g) = subst (IsIntactWith i.past e n) read both.1 in
     holds_at master e n g (ap (λ (c : FailConfig). c.master) (askable d e m n p o i is).config) (record {
       spelled = subst (IsSpelled master (shown_of g master)) read then.2;
       heads = then.3;
-      intact = subst (IsIntact e n) read both.1;
+      intact = after.0;
+      acked = subst (AreAcked master e g.acks) (sym after.1) (ok_acked d e m n f g o i is took holds.keeps.acked);
       knows = subst (Knows e n) read known;
     })
 
+-- after a fault it is as before
+pub fault_acked : (d : FailData) (f g : FleetState) (o : Op) (past : List TakenHead)
+    → RefusesOp d.config.master f o take_fault.Fault g → AreAcked d.config.master d f.acks past
+    → AreAcked d.config.master d g.acks past
+fault_acked d f g o past refused acked =
+    subst (λ (acks : List Ack). AreAcked d.config.master d acks past) (sym (fault_acks d.config.master f g o refused))
+    acked
+
 -- after a fault all is intact of the master as it was
-faulted : (d e : FailData) (m n : FailMemory) (p q : Shown) (o : Op) → IsIntact d m p → IsOp d m o e n
-    → IsThere d.config o → IsFaulted p o q → IsIntact d m q
-faulted d e m n p q o i is at (inl same) = subst (IsIntact d m) (sym same) i
+faulted : (d e : FailData) (m n : FailMemory) (p q : Shown) (o : Op) (i : IsIntact d m p) → IsOp d m o e n
+    → IsThere d.config o → IsFaulted p o q → IsIntactWith i.past d m q
+faulted d e m n p q o i is at (inl same) = subst (IsIntactWith i.past d m) (sym same) (i, refl)
 faulted d e m n p q o i is at (inr took) = (op_keeps d e m n p q o i is at took).0
 
 pub fault_keeps_all : FaultKeepsAll
@@ -180,10 +228,13 @@ fault_keeps_all d e m n f g o holds is at refused =
     let i = holds.keeps.intact in
     let then = fault_is_either master d e i.log.texts f g p o (asked d e m n f o holds.keeps is) refused in
     let read = same_picture master g then.0 then.2 in
+    let after : IsIntactWith i.past d m (read_fleet master g) =
+    subst (IsIntactWith i.past d m) read (faulted d e m n p then.0 o i is at then.1) in
     record {
       spelled = subst (IsSpelled master (shown_of g master)) read then.2;
       heads = holds.keeps.heads;
-      intact = subst (IsIntact d m) read (faulted d e m n p then.0 o i is at then.1);
+      intact = after.0;
+      acked = subst (AreAcked master d g.acks) (sym after.1) (fault_acked d f g o i.past refused holds.keeps.acked);
     }
 
 pub fault_fails_over : FaultFailsOver
@@ -194,11 +245,16 @@ fault_fails_over d e m n f g o b holds is at on may refused =
     let then = fault_is_either master d e i.log.texts f g p o (asked d e m n f o holds.keeps is) refused in
     let read = same_picture master g then.0 then.2 in
     let left = faulted d e m n p then.0 o i is at then.1 in
+    let failed = fail_keeps d m then.0 b left.0 may in
+    let after : IsIntactWith i.past (failing d b) (stopped m) (read_fleet master g) =
+    subst (IsIntactWith i.past (failing d b) (stopped m)) read (failed.0, failed.1 ∙ left.1) in
     record {
       keeps = record {
         spelled = subst (IsSpelled master (shown_of g master)) read then.2;
         heads = (others_have_segments master d holds.keeps.heads).1 b;
-        intact = subst (IsIntact _ (stopped m)) read (fail_keeps d m then.0 b left may);
+        intact = after.0;
+        acked = subst (AreAcked master (failing d b) g.acks) (sym after.1)
+            (acked_failing master d g.acks i.past (fault_acked d f g o i.past refused holds.keeps.acked) b);
       };
       knows = subst (Knows _ (stopped m)) read
           (fail_knows d m p then.0 b holds.knows (elsewhere p then.0 o b on then.1));

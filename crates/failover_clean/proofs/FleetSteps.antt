@@ -1,5 +1,5 @@
 -- A fleet holds all after each step that takes no op.
-use Rattle.std.proofs.Common.{◌≡◌, ℕ, zero, suc, ◌⊎◌, inl, inr, Bool, true, false, cond, List, Some, refl, ap}
+use Rattle.std.proofs.Common.{◌≡◌, ℕ, zero, suc, ◌⊎◌, inl, inr, Bool, true, false, cond, List, Some, refl, sym, ap, subst}
 use Rattle.std.specs.Prelude.{None}
 use Rattle.entry.specs.declared.entry.Entry.{Entry}
 use Rattle.replica.specs.Picture.{FleetState}
@@ -7,7 +7,7 @@ use Rattle.failover_bytes.specs.log_model.Data.{Start}
 use Rattle.failover_bytes.specs.clean_model.Memory.{Place}
 use Rattle.failover_bytes.specs.clean_model.Steps.{is_copied}
 use Rattle.failover_bytes.specs.failover_model.Data.{Mode, Calm, Rolls, Mends, Opens, Closes, Repairs, FailConfig, FailData, new_of}
-use Rattle.failover_bytes.specs.failover_model.Steps.{next_start}
+use Rattle.failover_bytes.specs.failover_model.Steps.{fresh, next_start, applied, rolling, ended, mended}
 use Rattle.failover_bytes.specs.Segments.{HeadsAreSegments}
 use Rattle.failover_bytes.proofs.Heads.{rolling_has_segments, ended_has_segments, others_have_segments}
 use Rattle.failover_bytes.proofs.Keeping.{new_holds_log}
@@ -15,9 +15,11 @@ use Rattle.failover_bytes.specs.Runs.{read_fleet}
 use Rattle.failover_clean.specs.Fleet.{read_of, KeepsAll, HoldsAll, FreshHoldsAll, ApplyHoldsAll, CompactHoldsAll}
 use Rattle.failover_clean.specs.Fleet.{BeginHoldsAll, CopyHoldsAll, RollHoldsAll, CommitHoldsAll, EndHoldsAll}
 use Rattle.failover_clean.specs.Fleet.{FinishHoldsAll, MendHoldsAll, SameHoldsAll}
-use Rattle.failover_clean.specs.Intact.{IsIntact}
+use Rattle.failover_clean.specs.Acked.{AreAcked}
+use Rattle.failover_clean.specs.Intact.{IsIntactWith}
 use Rattle.failover_clean.specs.Memory.{FailMemory, log_ids}
 use Rattle.failover_clean.specs.Steps.{compacted, ids_taken, with_copy, copy_done}
+use Rattle.failover_clean.proofs.Acking.{acked_restored, acked_applied, acked_begun, acked_rolling, acked_ended, acked_mended}
 use Rattle.failover_clean.proofs.Applying.{apply_keeps}
 use Rattle.failover_clean.proofs.Beginning.{begin_keeps}
 use Rattle.failover_clean.proofs.Committing.{commit_keeps, finish_keeps}
@@ -33,31 +35,42 @@ use Rattle.failover_clean.proofs.Rolling.{roll_keeps}
 use Rattle.failover_clean.proofs.SameMemories.{same_is_intact, same_knows}
 
 pub fresh_holds_all : FreshHoldsAll
-fresh_holds_all c f begins heads = record {
-  keeps = record {
-    spelled = (new_holds_log c.master c f begins heads).keeps.spelled;
-    heads = heads;
-    intact = fresh_is_intact c (read_fleet c.master f) begins;
-  };
-  knows = fresh_knows c (read_fleet c.master f) begins;
-}
+fresh_holds_all c f begins heads =
+    let is = fresh_is_intact c (read_fleet c.master f) begins in record {
+      keeps = record {
+        spelled = (new_holds_log c.master c f begins heads).keeps.spelled;
+        heads = heads;
+        intact = is.0;
+        acked = subst (AreAcked c.master (fresh c) f.acks) (sym is.1) (acked_restored c 1 f.acks);
+      };
+      knows = fresh_knows c (read_fleet c.master f) begins;
+    }
 
 pub apply_holds_all : ApplyHoldsAll
-apply_holds_all d m f segment r holds may named whole = record {
-  keeps = record {
-    spelled = holds.keeps.spelled;
-    heads = record { head = whole; new = holds.keeps.heads.new };
-    intact = apply_keeps d m (read_of d f) segment r holds.keeps.intact may named;
-  };
-  knows = apply_knows d m (read_of d f) segment r holds.keeps.intact holds.knows may;
-}
+apply_holds_all d m f segment r holds may named whole =
+    let i = holds.keeps.intact in
+    let is = apply_keeps d m (read_of d f) segment r i may named in record {
+      keeps = record {
+        spelled = holds.keeps.spelled;
+        heads = record { head = whole; new = holds.keeps.heads.new };
+        intact = is.0;
+        acked = subst (AreAcked d.config.master (applied d segment r) f.acks) (sym is.1)
+            (acked_applied d.config.master d f.acks i.past holds.keeps.acked segment r i.log.held.logged.counted);
+      };
+      knows = apply_knows d m (read_of d f) segment r holds.keeps.intact holds.knows may;
+    }
 
 -- ---- memory alone changes
 
-still_all : (d : FailData) (m n : FailMemory) (f : FleetState) → HoldsAll d m f → IsIntact d n (read_of d f)
-    → n.waiting ≡ m.waiting → HoldsAll d n f
-still_all d m n f holds intact same = record {
-  keeps = record { spelled = holds.keeps.spelled; heads = holds.keeps.heads; intact = intact };
+still_all : (d : FailData) (m n : FailMemory) (f : FleetState) (holds : HoldsAll d m f)
+    → IsIntactWith holds.keeps.intact.past d n (read_of d f) → n.waiting ≡ m.waiting → HoldsAll d n f
+still_all d m n f holds is same = record {
+  keeps = record {
+    spelled = holds.keeps.spelled;
+    heads = holds.keeps.heads;
+    intact = is.0;
+    acked = subst (AreAcked d.config.master d f.acks) (sym is.1) holds.keeps.acked;
+  };
   knows = waiting_knows d m n (read_of d f) holds.knows same;
 }
 
@@ -84,11 +97,14 @@ same_holds_all d m n f same = (
   keeps_then,
 ) where
   keeps_then : KeepsAll d m f → KeepsAll d n f
-  keeps_then keeps = record {
-    spelled = keeps.spelled;
-    heads = keeps.heads;
-    intact = same_is_intact d m n (read_of d f) keeps.intact same;
-  }
+  keeps_then keeps =
+      let is = same_is_intact d m n (read_of d f) keeps.intact same in
+      record {
+        spelled = keeps.spelled;
+        heads = keeps.heads;
+        intact = is.0;
+        acked = subst (AreAcked d.config.master d f.acks) (sym is.1) keeps.acked;
+      }
 
 -- ---- a pass begins
 
@@ -103,11 +119,15 @@ begun_heads master d (suc n) heads =
 
 pub begin_holds_all : BeginHoldsAll
 begin_holds_all d m f victims count holds may =
+    let i = holds.keeps.intact in
+    let is = begin_keeps d m (read_of d f) victims count i may in
     holds_at d.config.master (ids_taken count d) _ f
     (ap (λ (c : FailConfig). c.master) (begun_config d count)) (record {
       spelled = holds.keeps.spelled;
       heads = begun_heads d.config.master d count holds.keeps.heads;
-      intact = begin_keeps d m (read_of d f) victims count holds.keeps.intact may;
+      intact = is.0;
+      acked = subst (AreAcked d.config.master (ids_taken count d) f.acks) (sym is.1)
+          (acked_begun d.config.master d f.acks i.past count holds.keeps.acked);
       knows = begin_knows d m (read_of d f) victims count holds.keeps.intact holds.knows may;
     })
 
@@ -120,25 +140,34 @@ begins_new now mode n (inl both) = ap new_of both.1
 begins_new now mode n (inr both) = ap new_of both.1
 
 pub roll_holds_all : RollHoldsAll
-roll_holds_all d m f mode holds may whole = record {
-  keeps = record {
-    spelled = holds.keeps.spelled;
-    heads = rolling_has_segments d.config.master d (next_start d) mode holds.keeps.heads
-        (begins_new d.mode mode (next_start d) may.may) whole;
-    intact = roll_keeps d m (read_of d f) mode holds.keeps.intact may;
-  };
-  knows = roll_knows d m (read_of d f) mode holds.keeps.intact holds.knows may;
-}
+roll_holds_all d m f mode holds may whole =
+    let i = holds.keeps.intact in
+    let new = begins_new d.mode mode (next_start d) may.may in
+    let is = roll_keeps d m (read_of d f) mode i may in record {
+      keeps = record {
+        spelled = holds.keeps.spelled;
+        heads = rolling_has_segments d.config.master d (next_start d) mode holds.keeps.heads new whole;
+        intact = is.0;
+        acked = subst (AreAcked d.config.master (rolling d (next_start d) mode) f.acks) (sym is.1)
+            (acked_rolling d.config.master d f.acks i.past holds.keeps.acked (next_start d) mode new);
+      };
+      knows = roll_knows d m (read_of d f) mode holds.keeps.intact holds.knows may;
+    }
 
 pub commit_holds_all : CommitHoldsAll
-commit_holds_all d m f n mode holds may whole = record {
-  keeps = record {
-    spelled = holds.keeps.spelled;
-    heads = rolling_has_segments d.config.master d n mode holds.keeps.heads (begins_new d.mode mode n may.may) whole;
-    intact = commit_keeps d m (read_of d f) n mode holds.keeps.intact may;
-  };
-  knows = commit_knows d m (read_of d f) n mode holds.keeps.intact holds.knows may;
-}
+commit_holds_all d m f n mode holds may whole =
+    let i = holds.keeps.intact in
+    let new = begins_new d.mode mode n may.may in
+    let is = commit_keeps d m (read_of d f) n mode i may in record {
+      keeps = record {
+        spelled = holds.keeps.spelled;
+        heads = rolling_has_segments d.config.master d n mode holds.keeps.heads new whole;
+        intact = is.0;
+        acked = subst (AreAcked d.config.master (rolling d n mode) f.acks) (sym is.1)
+            (acked_rolling d.config.master d f.acks i.past holds.keeps.acked n mode new);
+      };
+      knows = commit_knows d m (read_of d f) n mode holds.keeps.intact holds.knows may;
+    }
 
 -- the new head of a roll that ends, after which there is none
 pub ends_new : (now mode : Mode) (n : Start)
@@ -150,11 +179,15 @@ ends_new now mode n (inr both) = (ap new_of both.0, ap new_of both.1)
 pub end_holds_all : EndHoldsAll
 end_holds_all d m f n mode holds ends ordinary =
     let new = ends_new d.mode mode n ends.may in
+    let i = holds.keeps.intact in
+    let is = end_keeps d m (read_of d f) n mode i holds.knows.log ends ordinary in
     record {
       keeps = record {
         spelled = holds.keeps.spelled;
         heads = ended_has_segments d.config.master d n mode holds.keeps.heads new.0 new.1;
-        intact = end_keeps d m (read_of d f) n mode holds.keeps.intact holds.knows.log ends ordinary;
+        intact = is.0;
+        acked = subst (AreAcked d.config.master (ended d n mode) f.acks) (sym is.1)
+            (acked_ended d.config.master d f.acks i.past holds.keeps.acked n mode new.0 new.1);
       };
       knows = end_knows d m (read_of d f) n mode holds.keeps.intact holds.knows ends ordinary;
     }
@@ -162,11 +195,15 @@ end_holds_all d m f n mode holds ends ordinary =
 pub finish_holds_all : FinishHoldsAll
 finish_holds_all d m f n mode holds ends commits =
     let new = ends_new d.mode mode n ends.may in
+    let i = holds.keeps.intact in
+    let is = finish_keeps d m (read_of d f) n mode i holds.knows.log ends commits in
     record {
       keeps = record {
         spelled = holds.keeps.spelled;
         heads = ended_has_segments d.config.master d n mode holds.keeps.heads new.0 new.1;
-        intact = finish_keeps d m (read_of d f) n mode holds.keeps.intact holds.knows.log ends commits;
+        intact = is.0;
+        acked = subst (AreAcked d.config.master (ended d n mode) f.acks) (sym is.1)
+            (acked_ended d.config.master d f.acks i.past holds.keeps.acked n mode new.0 new.1);
       };
       knows = finish_knows d m (read_of d f) n mode holds.keeps.intact holds.knows ends commits;
     }
@@ -174,11 +211,15 @@ finish_holds_all d m f n mode holds ends commits =
 -- ---- a failover ends
 
 pub mend_holds_all : MendHoldsAll
-mend_holds_all d m f holds repairs = record {
-  keeps = record {
-    spelled = holds.keeps.spelled;
-    heads = (others_have_segments d.config.master d holds.keeps.heads).2;
-    intact = mend_keeps d m (read_of d f) holds.keeps.intact holds.knows.log repairs;
-  };
-  knows = mend_knows d m (read_of d f) holds.knows;
-}
+mend_holds_all d m f holds repairs =
+    let i = holds.keeps.intact in
+    let is = mend_keeps d m (read_of d f) i holds.knows.log repairs in record {
+      keeps = record {
+        spelled = holds.keeps.spelled;
+        heads = (others_have_segments d.config.master d holds.keeps.heads).2;
+        intact = is.0;
+        acked = subst (AreAcked d.config.master (mended d) f.acks) (sym is.1)
+            (acked_mended d.config.master d f.acks i.past holds.keeps.acked);
+      };
+      knows = mend_knows d m (read_of d f) holds.knows;
+    }

@@ -14,7 +14,7 @@ use Rattle.failover_bytes.specs.failover_model.Steps.{IsFree, Frees}
 use Rattle.failover_bytes.proofs.failover_model.Pictures.{is_taken, unchanged}
 use Rattle.failover_bytes.proofs.failover_model.Spares.{frees_held}
 use Rattle.failover_bytes.proofs.failover_model.States.{settled_if}
-use Rattle.failover_clean.specs.Intact.{IsIntact}
+use Rattle.failover_clean.specs.Intact.{IsIntact, IsIntactWith}
 use Rattle.failover_clean.specs.Laws.{FreeKeeps}
 use Rattle.failover_clean.specs.Memory.{Spot, FailMemory, log_ids}
 use Rattle.failover_clean.specs.Steps.{free_op, is_spot, freed, MayFree}
@@ -82,39 +82,42 @@ module _ (d : FailData) (m : FailMemory) (p : Shown) (s b : ℕ) (i : IsIntact d
 
     -- with less that waits
     without_it : (left : List Spot) → ((w : Spot) → IsAmong w left → IsAmong w m.waiting)
-        → IsIntact d (record m { waiting = left }) q
-    without_it left within = record {
-      log = record { texts = i.log.texts; held = held; standing = i.log.standing };
-      tracked = i.tracked;
-      passing = i.passing;
-      around = i.around;
-      images = i.images;
-      repaired = i.repaired;
-      whole = i.whole;
-      chosen = i.chosen;
-      sealing = record {
-        bare = i.sealing.bare;
-        one = i.sealing.one;
-        each = λ z c r survivor there.
-            let at = i.sealing.each z c r survivor (sym (still_survivor c z survivor) ∙ there) in
-            record { done = at.done; image = at.image; text = at.text; closed = at.closed };
-        held = λ z c survivor has_it. subst (λ (o : Option Replica). IsSome o) (sym (still_survivor c z survivor))
-            (i.sealing.held z c survivor has_it);
-      };
-      rolling = i.rolling;
-      committed = λ its.
-          let was = i.committed its in record { real = was.real; done = was.done; images = was.images };
-      waiting = record {
-        out = λ w l. i.waiting.out w (within w l);
-        below = λ w l. i.waiting.below w (within w l);
-        real = λ w l. i.waiting.real w (within w l);
-      };
-      recorded = i.recorded;
-      repairs = i.repairs;
-      real = i.real;
-      past = i.past;
-      before = i.before;
-    }
+        → IsIntactWith i.past d (record m { waiting = left }) q
+    without_it left within = (
+      record {
+        log = record { texts = i.log.texts; held = held; standing = i.log.standing };
+        tracked = i.tracked;
+        passing = i.passing;
+        around = i.around;
+        images = i.images;
+        repaired = i.repaired;
+        whole = i.whole;
+        chosen = i.chosen;
+        sealing = record {
+          bare = i.sealing.bare;
+          one = i.sealing.one;
+          each = λ z c r survivor there.
+              let at = i.sealing.each z c r survivor (sym (still_survivor c z survivor) ∙ there) in
+              record { done = at.done; image = at.image; text = at.text; closed = at.closed };
+          held = λ z c survivor has_it. subst (λ (o : Option Replica). IsSome o) (sym (still_survivor c z survivor))
+              (i.sealing.held z c survivor has_it);
+        };
+        rolling = i.rolling;
+        committed = λ its.
+            let was = i.committed its in record { real = was.real; done = was.done; images = was.images };
+        waiting = record {
+          out = λ w l. i.waiting.out w (within w l);
+          below = λ w l. i.waiting.below w (within w l);
+          real = λ w l. i.waiting.real w (within w l);
+        };
+        recorded = i.recorded;
+        repairs = i.repairs;
+        real = i.real;
+        past = i.past;
+        before = i.before;
+      },
+      refl,
+    )
 
 pub free_keeps : FreeKeeps
 free_keeps d m p q s b i may took =

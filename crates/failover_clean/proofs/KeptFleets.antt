@@ -1,13 +1,15 @@
 -- What a fleet shows that keeps all of a master.
-use Rattle.std.proofs.Common.{◌≡◌, ℕ, ◌⊎◌, inl, inr, false, List, [], length, sym, ap, subst, ◌∙◌, arith}
+use Rattle.std.proofs.Common.{◌≡◌, ℕ, ◌⊎◌, inl, inr, List, length, refl, sym, ap, subst, ◌∙◌, arith}
 use Rattle.entry.specs.declared.entry.Entry.{Entry}
 use Rattle.entry.specs.Bag.{IsAmong}
+use Rattle.entry.proofs.BagLemmas.{among_push}
 use Rattle.entry.specs.Meaning.{among}
 use Rattle.entry.specs.Text.{data_in}
+use Rattle.replica.specs.Acks.{acked, Grows, WasAcked}
 use Rattle.replica.specs.Picture.{FleetState, shown_of}
 use Rattle.failover_bytes.specs.failover_model.Text.{Text}
 use Rattle.failover_bytes.specs.failover_model.Data.{front, front_entries, FailData, IsHome}
-use Rattle.failover_bytes.specs.failover_model.Durable.{TakenHead}
+use Rattle.failover_bytes.specs.failover_model.Durable.{TakenHead, head_now}
 use Rattle.failover_bytes.specs.failover_model.Log.{Texts, IsOther, HoldsCopy}
 use Rattle.failover_bytes.proofs.failover_model.Durable.{past_is_durable}
 use Rattle.failover_bytes.proofs.failover_model.Holding.{homes_hold_copies}
@@ -21,10 +23,12 @@ use Rattle.failover_bytes.proofs.Held.{units_are_held}
 use Rattle.failover_bytes.proofs.Keeping.{keeping_is_sound, same_read, still_keeps}
 use Rattle.failover_bytes.proofs.Reading.{spelled_held}
 use Rattle.failover_bytes.proofs.Texts.{reads_data}
-use Rattle.failover_clean.specs.Fleet.{read_of, shown_for, KeepsAll, HoldsAll, HoldsPast, KeptIsSound, KeptIsCovered}
+use Rattle.failover_clean.specs.Acked.{bytes_up_to, AreAcked}
+use Rattle.failover_clean.specs.Fleet.{read_of, shown_for, KeepsAll, HoldsAll, IsSealedImage, HoldsPast, KeptIsSound, KeptIsCovered}
 use Rattle.failover_clean.specs.Fleet.{KeptIsDurable, OthersLeaveAll}
-use Rattle.failover_clean.specs.Intact.{IsIntact, Knows}
+use Rattle.failover_clean.specs.Intact.{IsIntact, IsIntactWith, Knows}
 use Rattle.failover_clean.specs.Memory.{FailMemory}
+use Rattle.failover_clean.proofs.Acking.{acked_head, acked_still}
 use Rattle.failover_clean.proofs.Coverage.{intact_is_covered}
 
 -- ---- a master whose number is known by an equation
@@ -34,6 +38,7 @@ pub record HoldsAt (master : ℕ) (d : FailData) (m : FailMemory) (f : FleetStat
   pub spelled : IsSpelled master (shown_of f master) (read_fleet master f)
   pub heads : HeadsAreSegments master d
   pub intact : IsIntact d m (read_fleet master f)
+  pub acked : AreAcked master d f.acks intact.past
   pub knows : Knows d m (read_fleet master f)
 
 pub holds_at : (master : ℕ) (d : FailData) (m : FailMemory) (f : FleetState) → d.config.master ≡ master
@@ -41,7 +46,7 @@ pub holds_at : (master : ℕ) (d : FailData) (m : FailMemory) (f : FleetState) �
 holds_at master d m f same at =
     let own = subst (λ (x : ℕ). HoldsAt x d m f) (sym same) at in
     record {
-      keeps = record { spelled = own.spelled; heads = own.heads; intact = own.intact };
+      keeps = record { spelled = own.spelled; heads = own.heads; intact = own.intact; acked = own.acked };
       knows = own.knows;
     }
 
@@ -104,28 +109,27 @@ module _ (d : FailData) (m : FailMemory) (f : FleetState) (keeps : KeepsAll d m 
       subst (λ (t : Text). among t.entries e) text_is
       (i.log.held.logged.images s copy.0.text.entries e image (subst (λ (es : List Entry). among es e) read l))
 
-  abbrev made : ((bytes_for d.config.master s copy.0.text ≡ bytes_for d.config.master s (front h.head units))
-      ⊎ ((d.failed ≡ [] → ⊥) × (copy.0.is_open ≡ false)
-      × ((e : Entry) → among (data_in (bytes_for d.config.master s copy.0.text)) e
-      → among (front_entries h.head units) e))) → HoldsPast d (shown_for d f) b h
+  abbrev made : (bytes_for d.config.master s copy.0.text ≡ bytes_for d.config.master s (front h.head units))
+      ⊎ IsSealedImage d m h.head (spelled_replica d.config.master s copy.0) → HoldsPast d m f b h.head
   made text = record {
     r = spelled_replica d.config.master s copy.0;
     held = spelled_held d.config.master (shown_for d f) (read_of d f) keeps.spelled b s copy.0 copy.1;
     text = text;
   }
 
-  whole : copy.0.text ≡ texts.text s → HoldsPast d (shown_for d f) b h
+  whole : copy.0.text ≡ texts.text s → HoldsPast d m f b h.head
   whole same = made (inl (ap (bytes_for d.config.master s) (same ∙ text_is)))
 
-  pub holds_past : HoldsPast d (shown_for d f) b h
-  holds_past = elim copy.2.0 as (λ _. HoldsPast d (shown_for d f) b h) [
+  pub holds_past : HoldsPast d m f b h.head
+  holds_past = elim copy.2.0 as (λ _. HoldsPast d m f b h.head) [
     | inl text ↦ whole (λ j. record { opening = opening_is j; entries = text j })
-    | inr image ↦ elim copy.2.1 as (λ _. HoldsPast d (shown_for d f) b h) [
-      | inl shut ↦ made (inr (
-        λ none. subst (λ (l : List (List Entry)). IsAmong copy.0.text.entries l) (i.whole.one none s) image,
-        shut,
-        within image,
-      ))
+    | inr image ↦ elim copy.2.1 as (λ _. HoldsPast d m f b h.head) [
+      | inl shut ↦ made (inr (record {
+        failed = λ none. subst (λ (l : List (List Entry)). IsAmong copy.0.text.entries l) (i.whole.one none s) image;
+        shut = shut;
+        within = within image;
+        whole = λ k e of l. subst (IsAmong e) (sym read) (i.repaired s copy.0.text.entries k e image of l);
+      }))
       | inr text ↦ whole text
     ]
   ]
@@ -140,6 +144,13 @@ kept_is_durable d m f keeps few =
       older = i.before.older;
       counted = durable.0;
       taken = durable.1;
+      acked = λ h b l took. elim (among_push h i.past (head_now d) l)
+          as (λ _. WasAcked f.acks b d.config.master h.head.start.id
+          (bytes_up_to d.config.master h.head (h.counts b))) [
+            | inl before ↦ keeps.acked.before h b before took
+            | inr same ↦ acked_head d.config.master d f.acks i.past keeps.acked h b same took
+          ];
+      put = keeps.acked.took;
       units = λ place b u at lt took.
           units_are_held d.config.master d (shown_for d f) (read_of d f) place b u keeps.spelled i.log at lt took;
       heads = λ h b before other home. holds_past d m f keeps h b before other home;
@@ -149,20 +160,27 @@ kept_is_durable d m f keeps few =
 
 module _ (d : FailData) (m : FailMemory) (f g : FleetState)
     (same : (b s : ℕ) → g.picture b d.config.master s ≡ f.picture b d.config.master s)
-    (least : g.least d.config.master ≡ f.least d.config.master) where
+    (least : g.least d.config.master ≡ f.least d.config.master) (grows : Grows f.acks g.acks)
+    (acks : (b s : ℕ) → acked g.acks b d.config.master s ≡ acked f.acks b d.config.master s) where
   abbrev read_same : read_of d f ≡ read_of d g
   read_same = same_read d.config.master d f g same least
 
   keeps_still : KeepsAll d m f → KeepsAll d m g
-  keeps_still keeps = record {
-    spelled = (still_keeps d.config.master d f g same least (keeps_log d m f keeps)).spelled;
-    heads = keeps.heads;
-    intact = subst (IsIntact d m) read_same keeps.intact;
-  }
+  keeps_still keeps =
+      let intact : IsIntactWith keeps.intact.past d m (read_of d g) =
+      subst (IsIntactWith keeps.intact.past d m) read_same (keeps.intact, refl) in
+      record {
+        spelled = (still_keeps d.config.master d f g same least (keeps_log d m f keeps)).spelled;
+        heads = keeps.heads;
+        intact = intact.0;
+        acked = subst (AreAcked d.config.master d g.acks) (sym intact.1)
+            (acked_still d.config.master d f.acks keeps.intact.past keeps.acked g.acks grows acks);
+      }
 
   holds_still : HoldsAll d m f → HoldsAll d m g
   holds_still holds =
       record { keeps = keeps_still holds.keeps; knows = subst (Knows d m) read_same holds.knows }
 
 pub others_leave_all : OthersLeaveAll
-others_leave_all d m f g same least = (keeps_still d m f g same least, holds_still d m f g same least)
+others_leave_all d m f g same least grows acks =
+    (keeps_still d m f g same least grows acks, holds_still d m f g same least grows acks)

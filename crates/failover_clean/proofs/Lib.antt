@@ -4,6 +4,7 @@ pub mod Coverage
 pub mod Sealed
 pub mod TextsIn
 pub mod Pasts
+pub mod Acking
 pub mod Compacting
 pub mod Copying
 pub mod Appending

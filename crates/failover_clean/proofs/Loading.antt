@@ -13,7 +13,7 @@ use Rattle.failover_bytes.specs.failover_model.Shown.{Shown}
 use Rattle.failover_bytes.specs.failover_model.Data.{Calm, Repairs, FailData, HasTaken, new_of, state_of}
 use Rattle.failover_bytes.specs.failover_model.Steps.{IsLoaded, adopted}
 use Rattle.failover_bytes.proofs.failover_model.Adopting.{adopted_logged, adopted_mirrored, adopted_standing, adopted_known}
-use Rattle.failover_clean.specs.Intact.{AreSealed, IsIntact}
+use Rattle.failover_clean.specs.Intact.{AreSealed, IsIntactWith}
 use Rattle.failover_clean.specs.Loading.{IsLoading, SameIsLoading, FinishIsIntact}
 use Rattle.failover_clean.specs.Memory.{Spot, FailMemory, log_ids, log_set_of}
 use Rattle.failover_clean.specs.Same.{IsSameMemory}
@@ -117,40 +117,43 @@ module _ (d : FailData) (m : FailMemory) (p : Shown) (i : IsLoading d m p) (calm
     held = λ s b survivor. absurd (none_survives s survivor);
   }
 
-  finished : IsIntact then_master m p
-  finished = record {
-    log = record {
-      texts = i.texts;
-      held = record {
-        some = i.held.some;
-        logged = adopted_logged d p d.opening loaded;
-        mirrored = adopted_mirrored d p d.opening loaded;
+  finished : IsIntactWith [] then_master m p
+  finished = (
+    record {
+      log = record {
+        texts = i.texts;
+        held = record {
+          some = i.held.some;
+          logged = adopted_logged d p d.opening loaded;
+          mirrored = adopted_mirrored d p d.opening loaded;
+        };
+        standing = adopted_standing d p d.opening loaded;
       };
-      standing = adopted_standing d p d.opening loaded;
-    };
-    tracked = i.tracked;
-    passing = subst (λ (x : Pass). IsPassing (log_ids d m) m.images x m.index m.rest) (sym i.idle.pass)
-        (none_passing (log_ids d m) m.images m.index m.rest);
-    around = i.around;
-    images = i.images;
-    repaired = i.repaired;
-    whole = record { one = i.whole.one; failed = i.whole.failed };
-    chosen = subst (λ (x : Pass). IsPassOf d.head.start (new_of d.mode) x) (sym i.idle.pass)
-        (none_chosen d.head.start (new_of d.mode));
-    sealing = sealing;
-    rolling = λ n is. absurd (no_new n is);
-    committed = λ its. absurd (let never : false ≡ true = sym i.idle.commits ∙ its in cc);
-    waiting = record {
-      out = λ w c. absurd (none_waits d m p i w c);
-      below = λ w c. absurd (none_waits d m p i w c);
-      real = λ w c. absurd (none_waits d m p i w c);
-    };
-    recorded = λ n is. absurd (no_new n is);
-    repairs = λ never. absurd (let other : Calm ≡ Repairs = sym calm ∙ never in cc);
-    real = λ _. some;
-    past = [];
-    before = adopted_past d p d.opening i.texts loaded;
-  }
+      tracked = i.tracked;
+      passing = subst (λ (x : Pass). IsPassing (log_ids d m) m.images x m.index m.rest) (sym i.idle.pass)
+          (none_passing (log_ids d m) m.images m.index m.rest);
+      around = i.around;
+      images = i.images;
+      repaired = i.repaired;
+      whole = record { one = i.whole.one; failed = i.whole.failed };
+      chosen = subst (λ (x : Pass). IsPassOf d.head.start (new_of d.mode) x) (sym i.idle.pass)
+          (none_chosen d.head.start (new_of d.mode));
+      sealing = sealing;
+      rolling = λ n is. absurd (no_new n is);
+      committed = λ its. absurd (let never : false ≡ true = sym i.idle.commits ∙ its in cc);
+      waiting = record {
+        out = λ w c. absurd (none_waits d m p i w c);
+        below = λ w c. absurd (none_waits d m p i w c);
+        real = λ w c. absurd (none_waits d m p i w c);
+      };
+      recorded = λ n is. absurd (no_new n is);
+      repairs = λ never. absurd (let other : Calm ≡ Repairs = sym calm ∙ never in cc);
+      real = λ _. some;
+      past = [];
+      before = adopted_past d p d.opening i.texts loaded;
+    },
+    refl,
+  )
 
 pub finish_is_intact : FinishIsIntact
 finish_is_intact d m p i knows calm whole = (

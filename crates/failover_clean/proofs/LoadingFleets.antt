@@ -1,11 +1,11 @@
 -- What a fleet holds of a master that is loading.
-use Rattle.std.proofs.Common.{◌≡◌, ℕ, inl, inr, refl, sym, ap, subst, ◌∙◌}
+use Rattle.std.proofs.Common.{◌≡◌, ℕ, inl, inr, [], refl, sym, ap, subst, ◌∙◌}
 use Rattle.std.proofs.lemmas.Option.{same_Some}
 use Rattle.replica.specs.Picture.{FleetState, shown_of}
 use Rattle.failover_bytes.specs.failover_model.Shown.{Shown as ModelShown, Op}
 use Rattle.failover_bytes.specs.failover_model.Data.{FailConfig, FailData}
 use Rattle.failover_bytes.specs.failover_model.Runs.{IsThere, IsFaulted}
-use Rattle.failover_bytes.specs.failover_model.Steps.{with_taken, next_start, failing, Reseals}
+use Rattle.failover_bytes.specs.failover_model.Steps.{with_taken, next_start, adopted, ended, failing, Reseals}
 use Rattle.failover_bytes.proofs.failover_model.Runs.{elsewhere}
 use Rattle.failover_bytes.specs.Keeping.{IsFreedThere, IsAsked}
 use Rattle.failover_bytes.specs.Runs.{read_fleet}
@@ -19,12 +19,16 @@ use Rattle.failover_clean.specs.Fleet.{read_of, HoldsLoading, RestoredHoldsLoadi
 use Rattle.failover_clean.specs.Fleet.{LoadingIsNeverWrong, RollHoldsLoading, EndHoldsLoading, SameHoldsLoading}
 use Rattle.failover_clean.specs.Fleet.{RepairHoldsLoading, RepairIsNeverWrong, FaultFailsLoading, MendHoldsLoading}
 use Rattle.failover_clean.specs.Fleet.{FinishedHoldsAll}
+use Rattle.failover_clean.specs.Acked.{AreAcked}
 use Rattle.failover_clean.specs.Intact.{Knows}
 use Rattle.failover_clean.specs.Loading.{IsLoadingOp, IsLoading}
 use Rattle.failover_clean.specs.Memory.{FailMemory}
 use Rattle.failover_clean.specs.Ops.{IsHeadOp, RepairsImage}
+use Rattle.failover_clean.specs.Past.{past_after}
 use Rattle.failover_clean.specs.Steps.{stopped}
-use Rattle.failover_clean.proofs.FleetAnswers.{head_held, head_plain}
+use Rattle.failover_clean.proofs.Acking.{acked_restored, acked_loaded, acked_rolling, acked_ended, acked_failing, acked_mended}
+use Rattle.failover_clean.proofs.Acking.{acked_adopted, acked_forgotten, acked_on, head_acked}
+use Rattle.failover_clean.proofs.FleetAnswers.{head_held, head_plain, repair_acked, fault_acked}
 use Rattle.failover_clean.proofs.FleetSteps.{begins_new, ends_new}
 use Rattle.failover_clean.proofs.Knowing.{fail_knows}
 use Rattle.failover_clean.proofs.LoadedObjects.{load_keeps}
@@ -43,6 +47,7 @@ record IsLoadingAt (master : ℕ) (d : FailData) (m : FailMemory) (f : FleetStat
   spelled : IsSpelled master (shown_of f master) p
   heads : HeadsAreSegments master d
   loading : IsLoading d m p
+  acked : AreAcked master d f.acks []
   knows : Knows d m p
 
 loading_at : (master : ℕ) (d : FailData) (m : FailMemory) (f : FleetState) (p : ModelShown) → d.config.master ≡ master
@@ -51,7 +56,13 @@ loading_at master d m f p same at =
     let read = (spelled_is_read master (shown_of f master) p at.spelled).0 in
     let own = subst (λ (x : ℕ). IsLoadingAt x d m f (read_fleet x f)) (sym same)
     (subst (IsLoadingAt master d m f) (sym read) at) in
-    record { spelled = own.spelled; heads = own.heads; loading = own.loading; knows = own.knows }
+    record {
+      spelled = own.spelled;
+      heads = own.heads;
+      loading = own.loading;
+      acked = own.acked;
+      knows = own.knows;
+    }
 
 -- ---- it begins, and an object is loaded
 
@@ -62,6 +73,7 @@ restored_holds_loading c safe f begins heads =
       spelled = nothing_spelled c.master f begins.nothing;
       heads = heads;
       loading = is.0;
+      acked = acked_restored c safe f.acks;
       knows = is.1;
     }
 
@@ -72,6 +84,7 @@ load_holds_loading d m f o holds may whole =
       spelled = holds.spelled;
       heads = record { head = whole; new = holds.heads.new };
       loading = is.0;
+      acked = acked_loaded d.config.master d f.acks [] holds.acked o holds.loading.held.logged.counted;
       knows = is.1 holds.knows;
     }
 
@@ -118,6 +131,7 @@ ok_holds_loading d e m f g o holds op there took =
       spelled = then.2;
       heads = then.3;
       loading = (loading_op_keeps d e m p then.0 o i op there then.1).1;
+      acked = head_acked d.config.master d f g [] holds.acked i.texts p i.held o e op took;
       knows = subst (Knows e m) one fits.2;
     })
 
@@ -139,6 +153,8 @@ repair_holds_loading d e m f g o holds is there took =
       spelled = then.2;
       heads = then.3;
       loading = (loading_repair_keeps d e m p then.0 o i is there then.1).1;
+      acked = acked_on d.config.master d f g [] holds.acked i.texts p i.held o is.b is.s _ e _ is.op is.gives took
+          (repair_acked d m f [] holds.acked i.texts p i.held is.s is.b is.may);
       knows = subst (Knows e m) one fits.2;
     })
 
@@ -170,6 +186,7 @@ fault_fails_loading d e m f g o b holds op at on may refused =
       spelled = then.2;
       heads = (others_have_segments d.config.master d holds.heads).1 b;
       loading = loading_fails d m then.0 b (still_loading d e m p then.0 o i op at then.1) may;
+      acked = acked_failing d.config.master d g.acks [] (fault_acked d f g o [] refused holds.acked) b;
       knows = fail_knows d m p then.0 b holds.knows (elsewhere p then.0 o b on then.1);
     })
 
@@ -180,6 +197,7 @@ mend_holds_loading d m f holds repairs =
       spelled = holds.spelled;
       heads = (others_have_segments d.config.master d holds.heads).2;
       loading = is.0;
+      acked = acked_mended d.config.master d f.acks [] holds.acked;
       knows = is.1;
     }
 
@@ -188,11 +206,12 @@ mend_holds_loading d m f holds repairs =
 pub roll_holds_loading : RollHoldsLoading
 roll_holds_loading d m f mode holds may whole =
     let is = loading_roll_keeps d m (read_of d f) mode holds.loading may in
+    let new = begins_new d.mode mode (next_start d) may.may in
     record {
       spelled = holds.spelled;
-      heads = rolling_has_segments d.config.master d (next_start d) mode holds.heads
-          (begins_new d.mode mode (next_start d) may.may) whole;
+      heads = rolling_has_segments d.config.master d (next_start d) mode holds.heads new whole;
       loading = is.0;
+      acked = acked_rolling d.config.master d f.acks [] holds.acked (next_start d) mode new;
       knows = is.1 holds.knows;
     }
 
@@ -204,6 +223,8 @@ end_holds_loading d m f n mode holds ends =
       spelled = holds.spelled;
       heads = ended_has_segments d.config.master d n mode holds.heads new.0 new.1;
       loading = is.0;
+      acked = acked_forgotten d.config.master (ended d n mode) f.acks (past_after d [])
+          (acked_ended d.config.master d f.acks [] holds.acked n mode new.0 new.1);
       knows = is.1;
     }
 
@@ -214,6 +235,7 @@ same_holds_loading d m n f same holds = record {
   spelled = holds.spelled;
   heads = holds.heads;
   loading = same_is_loading d m n (read_of d f) holds.loading same;
+  acked = holds.acked;
   knows = same_knows d m n (read_of d f) holds.knows same;
 }
 
@@ -226,7 +248,9 @@ finished_holds_all d m f holds calm whole =
       keeps = record {
         spelled = holds.spelled;
         heads = (others_have_segments d.config.master d holds.heads).3 d.opening;
-        intact = is.0;
+        intact = is.0.0;
+        acked = subst (AreAcked d.config.master (adopted d d.opening) f.acks) (sym is.0.1)
+            (acked_adopted d.config.master d f.acks [] holds.acked d.opening whole);
       };
       knows = is.1;
     }

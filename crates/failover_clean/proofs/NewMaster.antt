@@ -47,46 +47,49 @@ module _ (c : FailConfig) (p : Shown) (may : MayBegin c p) where
   others_none n is = sym (ap (λ (x : Start). x.others) (same_Some (restored_start c.format 1) n is))
 
 pub fresh_is_intact : FreshIsIntact
-fresh_is_intact c p may = record {
-  log = log c p may;
-  tracked = record {
-    clean = λ o q a b. absurd (no_entry c p may a.0 (Object o) o.key a.1 refl);
-    highest = λ k x h. absurd (cc);
-    found = λ k x h. absurd (cc);
-    unindexed = λ k h. refl;
-    lies = λ k x q h. absurd (cc);
-    buried = λ s o m. absurd (no_entry c p may s (Object o) o.key m refl);
-  };
-  passing = none_passing _ _ _ _;
-  around = record {
-    below = λ s l. let same = one c p may s l in omega arith;
-    named_below = λ s t l m.
-        absurd (no_entry c p may s (Tombstone t) t.key (record { counts = l; among = inl m }) refl);
-    versions = λ k h s f m at. absurd (no_entry c p may s f k m at);
-    texted = λ s e k l not at m. absurd (no_entry c p may s e k (record { counts = l; among = inl m }) at);
-  };
-  images = λ s l. subst (λ (y : ℕ). IsImage c.master y ((log c p may).texts.text y) ((memory c p may).images y))
-      (one c p may s l) (image_bare c.master 1 (bare (first c p may)));
-  repaired = λ s es k e never. absurd never;
-  whole = record { one = λ none s. refl; failed = λ never. absurd (cc) };
-  chosen = none_chosen _ _;
-  sealing = record {
-    bare = λ s never. absurd never;
-    one = λ s never. absurd never;
-    each = λ s b r never. absurd never;
-    held = λ s b never. absurd never;
-  };
-  rolling = λ n is. (λ _. others_none c p may n is, λ never. absurd (cc));
-  committed = λ never. absurd (cc);
-  waiting = record {
-    out = λ w never. absurd never;
-    below = λ w never. absurd never;
-    real = λ w never. absurd never;
-  };
-  recorded = λ n is.
-      let safe = ap (λ (x : Start). x.safe) (same_Some (restored_start c.format 1) n is) in omega arith;
-  repairs = λ never. absurd (cc);
-  real = λ mode none. absurd (elim mode as (λ _. ⊥) [ inl calm ↦ cc | inr repairs ↦ cc ]);
-  past = [];
-  before = fresh_past c (log c p may).texts;
-}
+fresh_is_intact c p may = (
+  record {
+    log = log c p may;
+    tracked = record {
+      clean = λ o q a b. absurd (no_entry c p may a.0 (Object o) o.key a.1 refl);
+      highest = λ k x h. absurd (cc);
+      found = λ k x h. absurd (cc);
+      unindexed = λ k h. refl;
+      lies = λ k x q h. absurd (cc);
+      buried = λ s o m. absurd (no_entry c p may s (Object o) o.key m refl);
+    };
+    passing = none_passing _ _ _ _;
+    around = record {
+      below = λ s l. let same = one c p may s l in omega arith;
+      named_below = λ s t l m.
+          absurd (no_entry c p may s (Tombstone t) t.key (record { counts = l; among = inl m }) refl);
+      versions = λ k h s f m at. absurd (no_entry c p may s f k m at);
+      texted = λ s e k l not at m. absurd (no_entry c p may s e k (record { counts = l; among = inl m }) at);
+    };
+    images = λ s l. subst (λ (y : ℕ). IsImage c.master y ((log c p may).texts.text y) ((memory c p may).images y))
+        (one c p may s l) (image_bare c.master 1 (bare (first c p may)));
+    repaired = λ s es k e never. absurd never;
+    whole = record { one = λ none s. refl; failed = λ never. absurd (cc) };
+    chosen = none_chosen _ _;
+    sealing = record {
+      bare = λ s never. absurd never;
+      one = λ s never. absurd never;
+      each = λ s b r never. absurd never;
+      held = λ s b never. absurd never;
+    };
+    rolling = λ n is. (λ _. others_none c p may n is, λ never. absurd (cc));
+    committed = λ never. absurd (cc);
+    waiting = record {
+      out = λ w never. absurd never;
+      below = λ w never. absurd never;
+      real = λ w never. absurd never;
+    };
+    recorded = λ n is.
+        let safe = ap (λ (x : Start). x.safe) (same_Some (restored_start c.format 1) n is) in omega arith;
+    repairs = λ never. absurd (cc);
+    real = λ mode none. absurd (elim mode as (λ _. ⊥) [ inl calm ↦ cc | inr repairs ↦ cc ]);
+    past = [];
+    before = fresh_past c (log c p may).texts;
+  },
+  refl,
+)

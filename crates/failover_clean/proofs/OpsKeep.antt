@@ -10,6 +10,7 @@ use Rattle.failover_bytes.specs.log_model.Ids.{has}
 use Rattle.failover_bytes.specs.failover_model.Text.{Replica}
 use Rattle.failover_bytes.specs.failover_model.Shown.{Holds, Shown, Act, Open, Extend, Close, Seal, Free, Op, On, Raise, effect, taken}
 use Rattle.failover_bytes.specs.failover_model.Data.{FailConfig, FailData}
+use Rattle.failover_bytes.specs.failover_model.Durable.{TakenHead}
 use Rattle.failover_bytes.specs.failover_model.Laws.{Fits}
 use Rattle.failover_bytes.specs.failover_model.Log.{Texts}
 use Rattle.failover_bytes.specs.failover_model.Runs.{IsThere}
@@ -17,7 +18,7 @@ use Rattle.failover_bytes.specs.failover_model.Steps.{with_taken, Reseals, Frees
 use Rattle.failover_bytes.proofs.failover_model.Knowing.{extends_fits, opens_fits, replaces_fits, raises_fits, closes_fits}
 use Rattle.failover_bytes.proofs.failover_model.Knowing.{reseals_fits, seals_fits, frees_fits}
 use Rattle.failover_bytes.proofs.failover_model.Pictures.{is_taken, unchanged, opened, sealed, closed, extended}
-use Rattle.failover_clean.specs.Intact.{IsIntact, Knows}
+use Rattle.failover_clean.specs.Intact.{IsIntact, IsIntactWith, Knows}
 use Rattle.failover_clean.specs.Laws.{BothIntact}
 use Rattle.failover_clean.specs.Memory.{Spot, FailMemory, data_of}
 use Rattle.failover_clean.specs.Ops.{IsHeadOp, OpKeeps, OpFits}
@@ -54,16 +55,16 @@ pub repair_image : (d e : FailData) (m : FailMemory) (texts : Texts) (s b : ℕ)
     → is.image ≡ data_of m is.s
 repair_image d e m texts s b is = sym (ap sealed_entries is.op) ∙ ap (data_of m) (ap segment_of is.op)
 
-module _ (d e : FailData) (m n : FailMemory) (q : Shown) (same : n ≡ m) where
+module _ (past : List TakenHead) (d e : FailData) (m n : FailMemory) (q : Shown) (same : n ≡ m) where
   -- with the memory as it was
-  with_memory : BothIntact d e m q → IsIntact d m q × IsIntact e n q
-  with_memory both = (both.0, subst (λ (x : FailMemory). IsIntact e x q) (sym same) both.1)
+  with_memory : BothIntact past d e m q → IsIntactWith past d m q × IsIntactWith past e n q
+  with_memory both = (both.0, subst (λ (x : FailMemory). IsIntactWith past e x q) (sym same) both.1)
 
-  given : (x : FailData) → e ≡ x → BothIntact d x m q → IsIntact d m q × IsIntact e n q
-  given x is both = with_memory (subst (λ (y : FailData). BothIntact d y m q) (sym is) both)
+  given : (x : FailData) → e ≡ x → BothIntact past d x m q → IsIntactWith past d m q × IsIntactWith past e n q
+  given x is both = with_memory (subst (λ (y : FailData). BothIntact past d y m q) (sym is) both)
 
-head_keeps : (d e : FailData) (m : FailMemory) (p q : Shown) (o : Op) → IsIntact d m p → IsHeadOp d o e
-    → IsThere d.config o → taken p o ≡ Some q → BothIntact d e m q
+head_keeps : (d e : FailData) (m : FailMemory) (p q : Shown) (o : Op) → (i : IsIntact d m p) → IsHeadOp d o e
+    → IsThere d.config o → taken p o ≡ Some q → BothIntact i.past d e m q
 head_keeps d e m p q o i (inl is) at took = extend_keeps d e m p q o i is took
 head_keeps d e m p q o i (inr (inl is)) at took =
     open_keeps d e m p q o i is (there d.config o is.b is.n.id _ is.op at) took
@@ -74,21 +75,21 @@ head_keeps d e m p q o i (inr (inr (inr (inr is)))) at took = close_keeps d e m 
 
 pub op_keeps : OpKeeps
 op_keeps d e m n p q o i (inl (is, same)) at took =
-    with_memory d e m n q same (head_keeps d e m p q o i is at took)
+    with_memory i.past d e m n q same (head_keeps d e m p q o i is at took)
 op_keeps d e m n p q o i (inr (inl (is, same))) at took =
-    given d e m n q same _ is.gives (seal_keeps d m p q is.s is.b i is.may
+    given i.past d e m n q same _ is.gives (seal_keeps d m p q is.s is.b i is.may
     (there d.config o is.b is.s _ is.op at) (taken_so p q o (seal_op m is.s is.b) is.op took))
 op_keeps d e m n p q o i (inr (inr (inl (is, same)))) at took =
     let then : FailData = record d { took = with_taken d.took is.s is.b } in
     let op = image_is_repair d m p is.s is.b i is.may in
-    given d e m n q same then is.gives (repair_keeps d then m p q (seal_op m is.s is.b) i op
+    given i.past d e m n q same then is.gives (repair_keeps d then m p q (seal_op m is.s is.b) i op
     (repair_image d then m i.log.texts is.s is.b op) (there d.config o op.b op.s _ (is.op ∙ op.op) at)
     (taken_so p q o (seal_op m is.s is.b) is.op took))
 op_keeps d e m n p q o i (inr (inr (inr (is, same)))) at took =
     let both = free_keeps d m p q is.s is.b i is.may (taken_so p q o (free_op is.s is.b) is.op took) in (
       both.0,
-      subst (λ (x : FailData). IsIntact x n q) (sym same)
-          (subst (λ (x : FailMemory). IsIntact d x q) (sym is.gives) both.1),
+      subst (λ (x : FailData). IsIntactWith i.past x n q) (sym same)
+          (subst (λ (x : FailMemory). IsIntactWith i.past d x q) (sym is.gives) both.1),
     )
 
 -- ---- the op fits

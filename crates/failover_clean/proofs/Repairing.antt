@@ -24,7 +24,7 @@ use Rattle.failover_bytes.proofs.failover_model.Lists.{taken_either}
 use Rattle.failover_bytes.proofs.failover_model.Resealing.{reseals_held, reseals_standing}
 use Rattle.failover_bytes.proofs.failover_model.States.{own_entries}
 use Rattle.failover_clean.specs.Covered.{map_of}
-use Rattle.failover_clean.specs.Intact.{AreRepaired, IsIntact}
+use Rattle.failover_clean.specs.Intact.{AreRepaired, IsIntact, IsIntactWith}
 use Rattle.failover_clean.specs.Laws.{ImageIsRepair, RepairKeeps}
 use Rattle.failover_clean.specs.Memory.{FailMemory, entries_in, log_ids, log_set_of, data_of, AreImages}
 use Rattle.failover_clean.specs.Past.{ArePast}
@@ -210,33 +210,37 @@ module _ (d e : FailData) (m : FailMemory) (p q : Shown) (o : Op) (i : IsIntact 
   made : (taken_now : ℕ → List ℕ) → IsLogHeld (record d { took = taken_now }) now_texts q
       → IsStanding (record d { took = taken_now }) now_texts
       → ((z b : ℕ) → IsAmong z m.pass.survivors → has (taken_now z) b ≡ true → has (d.took z) b ≡ true)
-      → ArePast (record d { took = taken_now }) now_texts i.past → IsIntact (record d { took = taken_now }) m q
-  made taken_now held standing took_same before = record {
-    log = record { texts = now_texts; held = held; standing = standing };
-    tracked = i.tracked;
-    passing = i.passing;
-    around = i.around;
-    images = i.images;
-    repaired = repaired_now d e m p q o told is of_image within took;
-    whole = record {
-      one = λ none. absurd (i.whole.failed (ap is_failing is.mode) none);
-      failed = i.whole.failed;
-    };
-    chosen = i.chosen;
-    sealing = still_sealed d (record d { took = taken_now }) m i.log.texts now_texts p q m.images m.index m.commits
-        i.sealing (λ z survivor. refl) (λ z survivor. refl)
-        (λ z survivor. images_there d e m p q o told is of_image within took z (survivor_apart z survivor))
-        (λ b z survivor. apart p q is.b is.s _ o is.op took b z (survivor_apart z survivor)) took_same;
-    rolling = i.rolling;
-    committed = λ c.
-        let was = i.committed c in record { real = was.real; done = was.done; images = was.images };
-    waiting = record { out = i.waiting.out; below = i.waiting.below; real = i.waiting.real };
-    recorded = i.recorded;
-    repairs = i.repairs;
-    real = i.real;
-    past = i.past;
-    before = before;
-  }
+      → ArePast (record d { took = taken_now }) now_texts i.past
+      → IsIntactWith i.past (record d { took = taken_now }) m q
+  made taken_now held standing took_same before = (
+    record {
+      log = record { texts = now_texts; held = held; standing = standing };
+      tracked = i.tracked;
+      passing = i.passing;
+      around = i.around;
+      images = i.images;
+      repaired = repaired_now d e m p q o told is of_image within took;
+      whole = record {
+        one = λ none. absurd (i.whole.failed (ap is_failing is.mode) none);
+        failed = i.whole.failed;
+      };
+      chosen = i.chosen;
+      sealing = still_sealed d (record d { took = taken_now }) m i.log.texts now_texts p q m.images m.index m.commits
+          i.sealing (λ z survivor. refl) (λ z survivor. refl)
+          (λ z survivor. images_there d e m p q o told is of_image within took z (survivor_apart z survivor))
+          (λ b z survivor. apart p q is.b is.s _ o is.op took b z (survivor_apart z survivor)) took_same;
+      rolling = i.rolling;
+      committed = λ c.
+          let was = i.committed c in record { real = was.real; done = was.done; images = was.images };
+      waiting = record { out = i.waiting.out; below = i.waiting.below; real = i.waiting.real };
+      recorded = i.recorded;
+      repairs = i.repairs;
+      real = i.real;
+      past = i.past;
+      before = before;
+    },
+    refl,
+  )
 
 pub repair_keeps : RepairKeeps
 repair_keeps d e m p q o i is of_image within took =
@@ -245,7 +249,7 @@ repair_keeps d e m p q o i is of_image within took =
     let now = texts_resealed i.log.texts is in
     let before = resealed_past d e i.log.texts o i.past is i.before in (
       made d e m p q o i is of_image within took d.took held.0 stand.0 (λ z b survivor has_it. has_it) before.0,
-      subst (λ (x : FailData). IsIntact x m q) (sym is.gives)
+      subst (λ (x : FailData). IsIntactWith i.past x m q) (sym is.gives)
           (made d e m p q o i is of_image within took (with_taken d.took is.s is.b)
           (subst (λ (x : FailData). IsLogHeld x now q) is.gives held.1)
           (subst (λ (x : FailData). IsStanding x now) is.gives stand.1)

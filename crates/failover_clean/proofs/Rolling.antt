@@ -26,7 +26,7 @@ use Rattle.failover_bytes.proofs.failover_model.Rolling as rolls
 use Rattle.failover_bytes.proofs.failover_model.Texts.{new_there, new_none, new_other, new_images}
 use Rattle.failover_bytes.proofs.failover_model.Turning.{ordinary_is_roll, ordinary_stands}
 use Rattle.failover_clean.specs.Covered.{map_of}
-use Rattle.failover_clean.specs.Intact.{IsCommitting, AreRepaired, AreUnrepaired, IsRollOf, IsIntact}
+use Rattle.failover_clean.specs.Intact.{IsCommitting, AreRepaired, AreUnrepaired, IsRollOf, IsIntact, IsIntactWith}
 use Rattle.failover_clean.specs.Laws.{RollKeeps}
 use Rattle.failover_clean.specs.Memory.{FailMemory, entries_in, log_ids, log_set_of, AreImages}
 use Rattle.failover_clean.specs.Steps.{rolled}
@@ -161,76 +161,79 @@ module _ (d : FailData) (m : FailMemory) (p : Shown) (i : IsIntact d m p) (n : S
       sym (ap (λ (l : List ℕ). has l b) (rolls.took_other d old p n mode i.log.held.logged i.log.held.mirrored roll s
       (survivor_older s c))) ∙ took
 
-  pub begun : IsIntact e memory p
-  begun = record {
-    log = then_log;
-    tracked = more_tracked log new more m.pass i.passing.survivors_count m.index (map_of d) i.tracked;
-    passing = more_passing log new more m.pass i.passing.survivors_count m.index m.rest i.passing
-        (λ q t victim at named. elim (either_id t.segment named) [
-          | inl l ↦ l
-          | inr same ↦ (
-              let counts = i.passing.victims_count q.segment victim in
-              let lt = i.around.named_below q.segment t counts (among_at _ _ _ at) in
-              let next = roll.next in absurd (omega arith))
-        ]);
-    around = more_around log new more m.pass i.passing.survivors_count (map_of d) (state_of d).safe d.next e.next
-        i.around (omega arith)
-        (λ s c. elim (either_id s c) as (λ _. IsAmong s (log_ids d m) ⊎ (s < e.next)) [
-          | inl l ↦ inl l
-          | inr same ↦ (let next = roll.next in inr (omega arith))
-        ]);
-    images = images;
-    repaired = repaired;
-    whole = whole;
-    chosen = record {
-      victims = i.chosen.victims;
-      some = i.chosen.some;
-      outside = i.chosen.outside;
-      not_new = λ s x survivor is same.
-          survivor_older s survivor (sym same ∙ ap (λ (y : Start). y.id) (sym (same_Some n x (sym is_new ∙ is))));
-    };
-    sealing = still_sealed d e m old now p p memory.images m.index commits i.sealing
-        (λ s c. image_there m.images n.id opening s (survivor_older s c))
-        (λ s c. new_other old n.id (bare n) s (survivor_older s c))
-        (λ s c. new_images old n.id (bare n) s (survivor_older s c)) (λ b s c. refl) took_same;
-    committed = λ c.
-        let was = committed c in
-        record {
-          real = was.real;
-          done = was.done;
-          images = λ s survivor.
-              ap (λ (t : Text). t.entries) (new_other old n.id (bare n) s (survivor_older s survivor))
-              ∙ was.images s survivor
-              ∙ sym (ap (filter is_data) (image_there m.images n.id opening s (survivor_older s survivor)));
-        };
-    rolling = λ x is. subst (λ (y : Start). IsRollOf d memory y) (same_Some n x (sym is_new ∙ is)) which;
-    waiting = record {
-      out = λ w at c. elim (either_id w.segment c) as (λ _. ⊥) [
-        | inl l ↦ i.waiting.out w at l
-        | inr same ↦ (let lt = i.waiting.below w at in let next = roll.next in omega arith)
-      ];
-      below = λ w at. let lt = i.waiting.below w at in omega arith;
-      real = i.waiting.real;
-    };
-    recorded = λ x is.
-        let same = ap (λ (y : Start). y.safe) (same_Some n x (sym is_new ∙ is)) in omega arith;
-    repairs = λ is. absurd (elim roll.may as (λ _. ⊥) [
-      | inl calm ↦ (let never : Rolls n ≡ Repairs = sym calm.1 ∙ is in cc)
-      | inr mends ↦ (let never : Opens n ≡ Repairs = sym mends.1 ∙ is in cc)
-    ]);
-    real = λ is. absurd (elim roll.may as (λ _. ⊥) [
-      | inl calm ↦ elim is as (λ _. ⊥) [
-        | inl at ↦ (let never : Rolls n ≡ Calm = sym calm.1 ∙ at in cc)
-        | inr at ↦ (let never : Rolls n ≡ Repairs = sym calm.1 ∙ at in cc)
-      ]
-      | inr mends ↦ elim is as (λ _. ⊥) [
-        | inl at ↦ (let never : Opens n ≡ Calm = sym mends.1 ∙ at in cc)
-        | inr at ↦ (let never : Opens n ≡ Repairs = sym mends.1 ∙ at in cc)
-      ]
-    ]);
-    past = i.past;
-    before = rolling_past d p n mode i.log i.past roll i.before;
-  }
+  pub begun : IsIntactWith i.past e memory p
+  begun = (
+    record {
+      log = then_log;
+      tracked = more_tracked log new more m.pass i.passing.survivors_count m.index (map_of d) i.tracked;
+      passing = more_passing log new more m.pass i.passing.survivors_count m.index m.rest i.passing
+          (λ q t victim at named. elim (either_id t.segment named) [
+            | inl l ↦ l
+            | inr same ↦ (
+                let counts = i.passing.victims_count q.segment victim in
+                let lt = i.around.named_below q.segment t counts (among_at _ _ _ at) in
+                let next = roll.next in absurd (omega arith))
+          ]);
+      around = more_around log new more m.pass i.passing.survivors_count (map_of d) (state_of d).safe d.next e.next
+          i.around (omega arith)
+          (λ s c. elim (either_id s c) as (λ _. IsAmong s (log_ids d m) ⊎ (s < e.next)) [
+            | inl l ↦ inl l
+            | inr same ↦ (let next = roll.next in inr (omega arith))
+          ]);
+      images = images;
+      repaired = repaired;
+      whole = whole;
+      chosen = record {
+        victims = i.chosen.victims;
+        some = i.chosen.some;
+        outside = i.chosen.outside;
+        not_new = λ s x survivor is same.
+            survivor_older s survivor (sym same ∙ ap (λ (y : Start). y.id) (sym (same_Some n x (sym is_new ∙ is))));
+      };
+      sealing = still_sealed d e m old now p p memory.images m.index commits i.sealing
+          (λ s c. image_there m.images n.id opening s (survivor_older s c))
+          (λ s c. new_other old n.id (bare n) s (survivor_older s c))
+          (λ s c. new_images old n.id (bare n) s (survivor_older s c)) (λ b s c. refl) took_same;
+      committed = λ c.
+          let was = committed c in
+          record {
+            real = was.real;
+            done = was.done;
+            images = λ s survivor.
+                ap (λ (t : Text). t.entries) (new_other old n.id (bare n) s (survivor_older s survivor))
+                ∙ was.images s survivor
+                ∙ sym (ap (filter is_data) (image_there m.images n.id opening s (survivor_older s survivor)));
+          };
+      rolling = λ x is. subst (λ (y : Start). IsRollOf d memory y) (same_Some n x (sym is_new ∙ is)) which;
+      waiting = record {
+        out = λ w at c. elim (either_id w.segment c) as (λ _. ⊥) [
+          | inl l ↦ i.waiting.out w at l
+          | inr same ↦ (let lt = i.waiting.below w at in let next = roll.next in omega arith)
+        ];
+        below = λ w at. let lt = i.waiting.below w at in omega arith;
+        real = i.waiting.real;
+      };
+      recorded = λ x is.
+          let same = ap (λ (y : Start). y.safe) (same_Some n x (sym is_new ∙ is)) in omega arith;
+      repairs = λ is. absurd (elim roll.may as (λ _. ⊥) [
+        | inl calm ↦ (let never : Rolls n ≡ Repairs = sym calm.1 ∙ is in cc)
+        | inr mends ↦ (let never : Opens n ≡ Repairs = sym mends.1 ∙ is in cc)
+      ]);
+      real = λ is. absurd (elim roll.may as (λ _. ⊥) [
+        | inl calm ↦ elim is as (λ _. ⊥) [
+          | inl at ↦ (let never : Rolls n ≡ Calm = sym calm.1 ∙ at in cc)
+          | inr at ↦ (let never : Rolls n ≡ Repairs = sym calm.1 ∙ at in cc)
+        ]
+        | inr mends ↦ elim is as (λ _. ⊥) [
+          | inl at ↦ (let never : Opens n ≡ Calm = sym mends.1 ∙ at in cc)
+          | inr at ↦ (let never : Opens n ≡ Repairs = sym mends.1 ∙ at in cc)
+        ]
+      ]);
+      past = i.past;
+      before = rolling_past d p n mode i.log i.past roll i.before;
+    },
+    refl,
+  )
 
 pub roll_keeps : RollKeeps
 roll_keeps d m p mode i may =

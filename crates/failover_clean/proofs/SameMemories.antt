@@ -18,7 +18,7 @@ use Rattle.failover_bytes.specs.failover_model.Data.{FailData, new_of, state_of}
 use Rattle.failover_bytes.specs.failover_model.Log.{Texts}
 use Rattle.failover_bytes.specs.Text.{entries_for}
 use Rattle.failover_clean.specs.Covered.{map_of}
-use Rattle.failover_clean.specs.Intact.{IsCommitting, AreSealed, IsRollOf, AreGone, AreRepaired, IsIntact}
+use Rattle.failover_clean.specs.Intact.{IsCommitting, AreSealed, IsRollOf, AreGone, AreRepaired, IsIntact, IsIntactWith}
 use Rattle.failover_clean.specs.Memory.{FailMemory, log_ids, log_set_of, data_of, AreImages}
 use Rattle.failover_clean.specs.Same.{IsSameMemory, SameIsIntact, SameKnows}
 use Rattle.failover_clean.proofs.Ids.{in_survivors}
@@ -169,30 +169,33 @@ module _ (d : FailData) (m n : FailMemory) (same : IsSameMemory d m n) where
     repaired : AreRepaired other i.log.texts
     repaired s es k e sealed at l = i.repaired s es k e sealed at (same.fewer s e l)
 
-    intact : IsIntact d other p
-    intact = record {
-      log = i.log;
-      tracked = same_tracked i.log.texts i.passing.survivors_count i.tracked;
-      passing = same_passing i.log.texts i.passing.survivors_count i.passing;
-      around = same_around i.log.texts i.passing.survivors_count (map_of d) (state_of d).safe i.around;
-      images = images_too i.log.texts i.images;
-      repaired = repaired;
-      whole = i.whole;
-      chosen = i.chosen;
-      sealing = sealing;
-      rolling = rolling;
-      committed = committed;
-      waiting = waiting;
-      recorded = i.recorded;
-      repairs = i.repairs;
-      real = i.real;
-      past = i.past;
-      before = i.before;
-    }
+    intact : IsIntactWith i.past d other p
+    intact = (
+      record {
+        log = i.log;
+        tracked = same_tracked i.log.texts i.passing.survivors_count i.tracked;
+        passing = same_passing i.log.texts i.passing.survivors_count i.passing;
+        around = same_around i.log.texts i.passing.survivors_count (map_of d) (state_of d).safe i.around;
+        images = images_too i.log.texts i.images;
+        repaired = repaired;
+        whole = i.whole;
+        chosen = i.chosen;
+        sealing = sealing;
+        rolling = rolling;
+        committed = committed;
+        waiting = waiting;
+        recorded = i.recorded;
+        repairs = i.repairs;
+        real = i.real;
+        past = i.past;
+        before = i.before;
+      },
+      refl,
+    )
 
 pub same_is_intact : SameIsIntact
 same_is_intact d m n p i same =
-    subst (λ (x : Pass). IsIntact d (record n { pass = x }) p) (sym same.pass) (intact d m n same p i)
+    subst (λ (x : Pass). IsIntactWith i.past d (record n { pass = x }) p) (sym same.pass) (intact d m n same p i)
 
 pub same_knows : SameKnows
 same_knows d m n p knows same = record {

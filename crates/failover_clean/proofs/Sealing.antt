@@ -21,7 +21,7 @@ use Rattle.failover_bytes.proofs.failover_model.Spares.{seals_held, seals_standi
 use Rattle.failover_bytes.proofs.failover_model.States.{settled_if}
 use Rattle.failover_bytes.proofs.failover_model.Texts.{new_there, new_none, new_other, new_images}
 use Rattle.failover_clean.specs.Covered.{map_of}
-use Rattle.failover_clean.specs.Intact.{IsSealed, AreRepaired, IsIntact}
+use Rattle.failover_clean.specs.Intact.{IsSealed, AreRepaired, IsIntact, IsIntactWith}
 use Rattle.failover_clean.specs.Laws.{SealKeeps}
 use Rattle.failover_clean.specs.Memory.{FailMemory, entries_in, log_set_of, data_of, text_in}
 use Rattle.failover_clean.specs.Past.{ArePast}
@@ -213,57 +213,61 @@ module _ (d : FailData) (m : FailMemory) (p q : Shown) (s b : ℕ) (i : IsIntact
   made : (taken_now : ℕ → List ℕ) → IsLogHeld (record d { took = taken_now }) now q
       → IsStanding (record d { took = taken_now }) now
       → ((z c : ℕ) → IsAmong z m.pass.survivors → has (taken_now z) c ≡ true → IsSome (q.holds c z))
-      → ArePast (record d { took = taken_now }) now i.past → IsIntact (record d { took = taken_now }) m q
-  made taken_now held standing there before = record {
-    log = record { texts = now; held = held; standing = standing };
-    tracked = texts_changed log (entries_in now) from m.pass m.index (map_of d) i.tracked;
-    passing = i.passing;
-    around = record {
-      below = i.around.below;
-      named_below = i.around.named_below;
-      versions = λ k h z f l. i.around.versions k h z f (told_in log (entries_in now) from z f l);
-      texted = λ z f k c not of l. subst (λ (es : List Entry). IsAmong f es)
-          (sym (ap (λ (t : Text). t.entries) (text_there z (λ same.
-          not (subst (λ (y : ℕ). IsAmong y m.pass.survivors) (sym same) may.survivor)))))
-          (i.around.texted z f k c not of l);
-    };
-    images = λ z c. image_still d.config.master z (old.text z) (now.text z) (m.images z) (m.images z) (opening z) refl
-        (i.images z c);
-    repaired = repaired;
-    whole = record {
-      one = λ none z. elim (cases_eq z s) as (λ _. now.images z ≡ []) [
-        | inl same ↦ ap now.images same ∙ new_none old s text
-        | inr other ↦ new_images old s text z other ∙ i.whole.one none z
-      ];
-      failed = i.whole.failed;
-    };
-    chosen = i.chosen;
-    sealing = record {
-      bare = λ z survivor. elim (cases_eq z s) as (λ _. (now.text z).opening ≡ None) [
-        | inl same ↦ ap (λ (t : Text). t.opening) (text_here z same)
-        | inr other ↦ ap (λ (t : Text). t.opening) (text_there z other) ∙ i.sealing.bare z survivor
-      ];
-      one = λ z survivor. elim (cases_eq z s) as (λ _. now.images z ≡ []) [
-        | inl same ↦ ap now.images same ∙ new_none old s text
-        | inr other ↦ new_images old s text z other ∙ i.sealing.one z survivor
-      ];
-      each = each_then;
-      held = there;
-    };
-    rolling = i.rolling;
-    committed = λ c. let never : true ≡ false = sym c ∙ may.no_commit in absurd (cc);
-    waiting = record { out = i.waiting.out; below = i.waiting.below; real = i.waiting.real };
-    recorded = i.recorded;
-    repairs = i.repairs;
-    real = i.real;
-    past = i.past;
-    before = before;
-  }
+      → ArePast (record d { took = taken_now }) now i.past
+      → IsIntactWith i.past (record d { took = taken_now }) m q
+  made taken_now held standing there before = (
+    record {
+      log = record { texts = now; held = held; standing = standing };
+      tracked = texts_changed log (entries_in now) from m.pass m.index (map_of d) i.tracked;
+      passing = i.passing;
+      around = record {
+        below = i.around.below;
+        named_below = i.around.named_below;
+        versions = λ k h z f l. i.around.versions k h z f (told_in log (entries_in now) from z f l);
+        texted = λ z f k c not of l. subst (λ (es : List Entry). IsAmong f es)
+            (sym (ap (λ (t : Text). t.entries) (text_there z (λ same.
+            not (subst (λ (y : ℕ). IsAmong y m.pass.survivors) (sym same) may.survivor)))))
+            (i.around.texted z f k c not of l);
+      };
+      images = λ z c. image_still d.config.master z (old.text z) (now.text z) (m.images z) (m.images z) (opening z) refl
+          (i.images z c);
+      repaired = repaired;
+      whole = record {
+        one = λ none z. elim (cases_eq z s) as (λ _. now.images z ≡ []) [
+          | inl same ↦ ap now.images same ∙ new_none old s text
+          | inr other ↦ new_images old s text z other ∙ i.whole.one none z
+        ];
+        failed = i.whole.failed;
+      };
+      chosen = i.chosen;
+      sealing = record {
+        bare = λ z survivor. elim (cases_eq z s) as (λ _. (now.text z).opening ≡ None) [
+          | inl same ↦ ap (λ (t : Text). t.opening) (text_here z same)
+          | inr other ↦ ap (λ (t : Text). t.opening) (text_there z other) ∙ i.sealing.bare z survivor
+        ];
+        one = λ z survivor. elim (cases_eq z s) as (λ _. now.images z ≡ []) [
+          | inl same ↦ ap now.images same ∙ new_none old s text
+          | inr other ↦ new_images old s text z other ∙ i.sealing.one z survivor
+        ];
+        each = each_then;
+        held = there;
+      };
+      rolling = i.rolling;
+      committed = λ c. let never : true ≡ false = sym c ∙ may.no_commit in absurd (cc);
+      waiting = record { out = i.waiting.out; below = i.waiting.below; real = i.waiting.real };
+      recorded = i.recorded;
+      repairs = i.repairs;
+      real = i.real;
+      past = i.past;
+      before = before;
+    },
+    refl,
+  )
 
   before : ArePast d now i.past × ArePast e now i.past
   before = sealed_past d old s b text i.past (survivor_free d m p s b i may) (i.sealing.bare s may.survivor) i.before
 
-  both : IsIntact d m q × IsIntact e m q
+  both : IsIntactWith i.past d m q × IsIntactWith i.past e m q
   both = (
     made d.took both_held.0 both_stand.0 (λ z c survivor has_it. kept c z (i.sealing.held z c survivor has_it))
         before.0,

@@ -21,7 +21,7 @@ use Rattle.failover_bytes.proofs.failover_model.Pictures.{is_taken, unchanged, s
 use Rattle.failover_bytes.proofs.failover_model.Replacing.{replaces_held, replaces_standing}
 use Rattle.failover_bytes.specs.Text.{entries_for}
 use Rattle.failover_clean.specs.Covered.{map_of}
-use Rattle.failover_clean.specs.Intact.{IsIntact}
+use Rattle.failover_clean.specs.Intact.{IsIntact, IsIntactWith}
 use Rattle.failover_clean.specs.Laws.{ExtendKeeps, OpenKeeps, ReplaceKeeps, RaiseKeeps, CloseKeeps}
 use Rattle.failover_clean.specs.Memory.{FailMemory, entries_in, data_of}
 use Rattle.failover_clean.specs.Past.{ArePast}
@@ -34,7 +34,7 @@ pub record IsNoHead (d : FailData) (s : ℕ) : Type 0 where
   pub new : (n : Start) → new_of d.mode ≡ Some n → s ≡ n.id → ⊥
 
 module _ (d : FailData) (m : FailMemory) (p : Shown) (i : IsIntact d m p) where
-  survivor_no_head : (s : ℕ) → IsAmong s m.pass.survivors → IsNoHead d s
+  pub survivor_no_head : (s : ℕ) → IsAmong s m.pass.survivors → IsNoHead d s
   survivor_no_head s survivor = record {
     head = λ same. i.chosen.outside s survivor (among_own d.head.start.others s same);
     new = λ n is same. i.chosen.not_new s n survivor is (sym same);
@@ -66,40 +66,43 @@ module _ (d : FailData) (m : FailMemory) (p : Shown) (i : IsIntact d m p) where
         → m.images s ≡ entries_for d.config.master s (record (i.log.texts.text s) { entries = data_of m s })
 
     pub moved_on : IsLogHeld e i.log.texts q → IsStanding e i.log.texts → ArePast e i.log.texts i.past
-        → IsIntact e m q
-    moved_on held standing before = record {
-      log = record { texts = i.log.texts; held = held; standing = standing };
-      tracked = subst (λ (o : Option Start). IsTracked (set_of o) m.pass m.index (map_of d)) (sym new) i.tracked;
-      passing = subst (λ (o : Option Start). IsPassing (ids_of o) m.images m.pass m.index m.rest) (sym new) i.passing;
-      around = subst
-          (λ (o : Option Start). IsAround (set_of o) m.pass (map_of d) (state_of d).safe d.next) (sym new) i.around;
-      images = subst have_images (sym new) i.images;
-      repaired = i.repaired;
-      whole = record { one = i.whole.one; failed = λ failing. i.whole.failed (fails failing) };
-      chosen = subst (λ (o : Option Start). IsPassOf d.head.start o m.pass) (sym new) i.chosen;
-      sealing = still_sealed d e m i.log.texts i.log.texts p q m.images m.index m.commits i.sealing
-          (λ s survivor. refl) (λ s survivor. refl) (λ s survivor. refl)
-          (λ b s survivor. held_same b s (survivor_no_head s survivor))
-          (λ s b survivor has_it. took_same s b (survivor_no_head s survivor) has_it);
-      rolling = λ n is. i.rolling n (sym new ∙ is);
-      committed = λ c.
-          let was = i.committed c in record { real = was.real; done = was.done; images = was.images };
-      waiting = record {
-        out = λ w at c.
-            i.waiting.out w at (subst (λ (o : Option Start). IsAmong w.segment (ids_of o)) new c);
-        below = i.waiting.below;
-        real = i.waiting.real;
-      };
-      recorded = λ n is. i.recorded n (sym new ∙ is);
-      repairs = λ is. i.repairs (repairs is);
-      real = λ is. i.real (real is);
-      past = i.past;
-      before = before;
-    }
+        → IsIntactWith i.past e m q
+    moved_on held standing before = (
+      record {
+        log = record { texts = i.log.texts; held = held; standing = standing };
+        tracked = subst (λ (o : Option Start). IsTracked (set_of o) m.pass m.index (map_of d)) (sym new) i.tracked;
+        passing = subst (λ (o : Option Start). IsPassing (ids_of o) m.images m.pass m.index m.rest) (sym new) i.passing;
+        around = subst
+            (λ (o : Option Start). IsAround (set_of o) m.pass (map_of d) (state_of d).safe d.next) (sym new) i.around;
+        images = subst have_images (sym new) i.images;
+        repaired = i.repaired;
+        whole = record { one = i.whole.one; failed = λ failing. i.whole.failed (fails failing) };
+        chosen = subst (λ (o : Option Start). IsPassOf d.head.start o m.pass) (sym new) i.chosen;
+        sealing = still_sealed d e m i.log.texts i.log.texts p q m.images m.index m.commits i.sealing
+            (λ s survivor. refl) (λ s survivor. refl) (λ s survivor. refl)
+            (λ b s survivor. held_same b s (survivor_no_head s survivor))
+            (λ s b survivor has_it. took_same s b (survivor_no_head s survivor) has_it);
+        rolling = λ n is. i.rolling n (sym new ∙ is);
+        committed = λ c.
+            let was = i.committed c in record { real = was.real; done = was.done; images = was.images };
+        waiting = record {
+          out = λ w at c.
+              i.waiting.out w at (subst (λ (o : Option Start). IsAmong w.segment (ids_of o)) new c);
+          below = i.waiting.below;
+          real = i.waiting.real;
+        };
+        recorded = λ n is. i.recorded n (sym new ∙ is);
+        repairs = λ is. i.repairs (repairs is);
+        real = λ is. i.real (real is);
+        past = i.past;
+        before = before;
+      },
+      refl,
+    )
 
   -- and of the same master
   pub moved : (q : Shown) → ((b s : ℕ) → IsNoHead d s → q.holds b s ≡ p.holds b s) → IsLogHeld d i.log.texts q
-      → IsIntact d m q
+      → IsIntactWith i.past d m q
   moved q held_same held =
       moved_on d.counts d.shut d.took d.mode d.frozen q refl (λ is. is) (λ is. is) (λ is. is) (λ s b no has_it. has_it)
       held_same held i.log.standing i.before
@@ -134,7 +137,7 @@ extend_keeps d e m p q o i op took =
     let before = extends_past d e p o i.log i.past i.before op in
     let counts = with_count d.counts op.b op.to in (
       moved d m p i q same held.0,
-      subst (λ (y : FailData). IsIntact y m q) (sym op.gives)
+      subst (λ (y : FailData). IsIntactWith i.past y m q) (sym op.gives)
           (moved_on d m p i counts d.shut d.took d.mode d.frozen q refl (λ is. is) (λ is. is) (λ is. is)
           (λ s b no has_it. has_it) same (subst (λ (y : FailData). IsLogHeld y texts q) op.gives held.1)
           (subst (λ (y : FailData). IsStanding y texts) op.gives standing)
@@ -156,7 +159,7 @@ open_keeps d e m p q o i op within took =
     let before = opens_past d e p o i.log i.past i.before op in
     let took_now = with_taken d.took n.id op.b in (
       moved d m p i q same held.0,
-      subst (λ (y : FailData). IsIntact y m q) (sym op.gives)
+      subst (λ (y : FailData). IsIntactWith i.past y m q) (sym op.gives)
           (moved_on d m p i d.counts d.shut took_now d.mode d.frozen q refl (λ is. is) (λ is. is) (λ is. is)
           (λ s b no has_it. elim (taken_either d.took n.id op.b s b has_it) as (λ _. has (d.took s) b ≡ true) [
             | inl at ↦ absurd (no.new n new at.0)
@@ -178,7 +181,7 @@ replace_keeps d e m p q o i op within took =
     let took_now = with_taken d.took id op.b in
     let counts = with_count d.counts op.b (length d.head.units) in (
       moved d m p i q same held.0,
-      subst (λ (y : FailData). IsIntact y m q) (sym op.gives)
+      subst (λ (y : FailData). IsIntactWith i.past y m q) (sym op.gives)
           (moved_on d m p i counts d.shut took_now d.mode d.frozen q refl (λ is. is) (λ is. is) (λ is. is)
           (λ s b no has_it. elim (taken_either d.took id op.b s b has_it) as (λ _. has (d.took s) b ≡ true) [
             | inl at ↦ absurd (no.head at.0)
@@ -199,7 +202,7 @@ raise_keeps d e m p q o i op took =
     λ c t no. ap (λ (h : Holds). h c t) holds in
     let before = raises_past d e p o i.log i.past i.before op in (
       moved d m p i q same held.0,
-      subst (λ (y : FailData). IsIntact y m q) (sym op.gives)
+      subst (λ (y : FailData). IsIntactWith i.past y m q) (sym op.gives)
           (moved_on d m p i d.counts d.shut d.took (Closes op.n) d.frozen q (sym (ap new_of op.mode))
           (λ is. absurd (elim is as (λ _. ⊥) [ inl calm ↦ cc | inr repairs ↦ cc ])) (λ never. absurd (cc))
           (λ is. ap is_failing op.mode) (λ s b no has_it. has_it) same
@@ -217,7 +220,7 @@ close_keeps d e m p q o i op took =
     λ c t no. apart p q op.b d.head.start.id _ o op.op took c t no.head in
     let before = closes_past d e p o i.log i.past i.before op in (
       moved d m p i q same held.0,
-      subst (λ (y : FailData). IsIntact y m q) (sym op.gives)
+      subst (λ (y : FailData). IsIntactWith i.past y m q) (sym op.gives)
           (moved_on d m p i d.counts (op.b ∷ d.shut) d.took d.mode d.frozen q refl (λ is. is) (λ is. is) (λ is. is)
           (λ s b no has_it. has_it) same (subst (λ (y : FailData). IsLogHeld y texts q) op.gives held.1)
           (subst (λ (y : FailData). IsStanding y texts) op.gives standing)

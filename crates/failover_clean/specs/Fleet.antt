@@ -5,17 +5,19 @@ use Rattle.std.specs.Ordering.{nat_cmp}
 use Rattle.entry.specs.declared.entry.Object.{Object}
 use Rattle.entry.specs.declared.entry.Entry.{Entry}
 use Rattle.entry.specs.Bag.{IsAmong}
-use Rattle.entry.specs.Meaning.{among}
+use Rattle.entry.specs.declared.key.Key.{Key}
+use Rattle.entry.specs.Meaning.{IsOfKey, among}
 use Rattle.entry.specs.Text.{data_in}
 use Rattle.replica.specs.declared.op.TakeFault.TheVariants as take_fault
+use Rattle.replica.specs.Acks.{acked, Grows, WasAcked, HasPut}
 use Rattle.replica.specs.Picture.{Replica, Shown, FleetState, shown_of}
 use Rattle.versioned_map.specs.declared.command.Record.{Record}
 use Rattle.failover_bytes.specs.log_model.Data.{Start, LogUnit}
 use Rattle.failover_bytes.specs.clean_model.Memory.{Place}
-use Rattle.failover_bytes.specs.failover_model.Data.{front, front_entries, bare, Calm, Repairs, FailConfig, Mode, FailData, HasTaken}
+use Rattle.failover_bytes.specs.failover_model.Data.{Head, front, front_entries, bare, Calm, Repairs, FailConfig, Mode, FailData, HasTaken}
 use Rattle.failover_bytes.specs.failover_model.Data.{IsHome, homes}
 use Rattle.failover_bytes.specs.failover_model.Data.{is_failing, durable_of}
-use Rattle.failover_bytes.specs.failover_model.Durable.{TakenHead, AreTaken, IsDurable}
+use Rattle.failover_bytes.specs.failover_model.Durable.{TakenHead, heads_of, AreTaken, IsDurable}
 use Rattle.failover_bytes.specs.failover_model.Log.{IsOther}
 use Rattle.failover_bytes.specs.failover_model.Runs.{IsOn, IsThere}
 use Rattle.failover_bytes.specs.failover_model.Shown.{Shown as ModelShown, Op}
@@ -29,6 +31,7 @@ use Rattle.failover_bytes.specs.Segments.{HeadsAreSegments}
 use Rattle.failover_bytes.specs.Sound.{IsSoundInBytes}
 use Rattle.failover_bytes.specs.Spelled.{IsSpelled}
 use Rattle.failover_bytes.specs.Text.{bytes_for, IsWholeText}
+use Rattle.failover_clean.specs.Acked.{bytes_up_to, AreAcked}
 use Rattle.failover_clean.specs.Covered.{IsCovered}
 use Rattle.failover_clean.specs.Intact.{IsIntact, Knows}
 use Rattle.failover_clean.specs.Loading.{with_object, object_loaded, MayLoad, IsLoadingOp, IsLoading}
@@ -49,11 +52,12 @@ shown_for d f = shown_of f d.config.master
 
 -- ---- a master
 
--- The fleet spells a log of whole segments, and all is intact.
+-- The fleet spells a log of whole segments, all is intact, and what the master counts was answered Ok.
 pub record KeepsAll (d : FailData) (m : FailMemory) (f : FleetState) : Type 0 where
   pub spelled : IsSpelled d.config.master (shown_for d f) (read_of d f)
   pub heads : HeadsAreSegments d.config.master d
   pub intact : IsIntact d m (read_of d f)
+  pub acked : AreAcked d.config.master d f.acks intact.past
 
 -- And the master knows what backups that haven't failed hold.
 pub record HoldsAll (d : FailData) (m : FailMemory) (f : FleetState) : Type 0 where
@@ -62,34 +66,45 @@ pub record HoldsAll (d : FailData) (m : FailMemory) (f : FleetState) : Type 0 wh
 
 -- ---- durable
 
--- The backup holds the head's whole text; or, after a backup has failed, an image of it that a repair sealed.
-pub record HoldsPast (d : FailData) (shown : Shown) (b : ℕ) (h : TakenHead) : Type 0 where
+-- The replica is an image of the head that a repair sealed after a backup had failed: closed, with nothing but the
+-- head's entries, and with each of them that memory still has.
+pub record IsSealedImage (d : FailData) (m : FailMemory) (h : Head) (r : Replica) : Type 0 where
+  pub failed : d.failed ≡ [] → ⊥
+  pub shut : r.is_open ≡ false
+  pub within : (e : Entry) → among (data_in r.bytes) e → among (front_entries h (length h.units)) e
+  pub whole : (k : Key) (e : Entry) → IsOfKey k e → IsAmong e (m.images h.start.id) → IsAmong e (data_in r.bytes)
+
+-- The backup holds the head's whole text; or an image of it that a repair sealed.
+pub record HoldsPast (d : FailData) (m : FailMemory) (f : FleetState) (b : ℕ) (h : Head) : Type 0 where
   pub r : Replica
-  pub held : shown.holds b d.config.master h.head.start.id ≡ Some r
-  pub text : (r.bytes ≡ bytes_for d.config.master h.head.start.id (front h.head (length h.head.units)))
-      ⊎ ((d.failed ≡ [] → ⊥) × (r.is_open ≡ false)
-      × ((e : Entry) → among (data_in r.bytes) e → among (front_entries h.head (length h.head.units)) e))
+  pub held : f.picture b d.config.master h.start.id ≡ Some r
+  pub text : (r.bytes ≡ bytes_up_to d.config.master h (length h.units)) ⊎ IsSealedImage d m h r
 
 -- The durable count is the most records, from the first on, that are durable: each of their units was taken whole by as
 -- many backups as replicas, by takes that answered Ok. While a failover is open it stays as it was, and all it counts
 -- was so taken.
-pub record CountsDurable (d : FailData) (shown : Shown) : Type 0 where
+pub record CountsDurable (d : FailData) (m : FailMemory) (f : FleetState) : Type 0 where
   -- the heads before the one in force
   pub past : List TakenHead
   pub rising : IsStrictlySortedBy nat_cmp (past_ids past)
   pub older : (h : TakenHead) → IsAmong h past → h.head.start.id < d.head.start.id
   pub counted : is_failing d.mode ≡ false → IsDurable d past (durable_of d)
   pub taken : AreTaken d past (durable_of d)
+  -- a backup that is counted for a head answered Ok to the head's bytes up to just as many units as it is counted to have
+  pub acked : (h : TakenHead) (b : ℕ) → IsAmong h (heads_of past d) → IsAmong b h.took
+      → WasAcked f.acks b d.config.master h.head.start.id (bytes_up_to d.config.master h.head (h.counts b))
+  -- a backup that is counted for any segment answered Ok to an Open or a Seal of it
+  pub put : (s b : ℕ) → HasTaken d s b → HasPut f.acks b d.config.master s
   -- each backup that took the head's Open holds each durable unit of it
   pub units : (place b : ℕ) (u : LogUnit) → slice_get d.head.units place ≡ Some u → u.number < durable_of d
-      → HasTaken d d.head.start.id b → HoldsUnit shown d.config.master b d.head.start.id u
+      → HasTaken d d.head.start.id b → HoldsUnit (shown_for d f) d.config.master b d.head.start.id u
   -- each home of a head that went before holds it, while the segment is of the log
   pub heads : (h : TakenHead) (b : ℕ) → IsAmong h past → IsOther d h.head.start.id → IsHome d h.head.start.id b
-      → HoldsPast d shown b h
+      → HoldsPast d m f b h.head
 
 -- ---- laws of what is kept
 
--- The picture is sound, and the newest head that was opened on as many backups as replicas is the one that counts.
+-- The picture is sound, and the newest opened head is the one that the master names.
 abbrev pub KeptIsSound : Type 0
 KeptIsSound = (d : FailData) (m : FailMemory) (f : FleetState) → KeepsAll d m f
     → IsSoundInBytes d.config.master d (shown_for d f)
@@ -100,13 +115,14 @@ KeptIsCovered = (d : FailData) (m : FailMemory) (f : FleetState) → KeepsAll d 
 
 abbrev pub KeptIsDurable : Type 0
 KeptIsDurable = (d : FailData) (m : FailMemory) (f : FleetState) → KeepsAll d m f
-    → length (homes d d.head.start.id) ≤ d.config.replicas → CountsDurable d (shown_for d f)
+    → length (homes d d.head.start.id) ≤ d.config.replicas → CountsDurable d m f
 
--- Replicas of other masters, and their least heads, don't matter.
+-- Replicas of other masters, their acks and their least heads don't matter.
 abbrev pub OthersLeaveAll : Type 0
 OthersLeaveAll = (d : FailData) (m : FailMemory) (f g : FleetState)
     → ((b s : ℕ) → g.picture b d.config.master s ≡ f.picture b d.config.master s)
-    → g.least d.config.master ≡ f.least d.config.master
+    → g.least d.config.master ≡ f.least d.config.master → Grows f.acks g.acks
+    → ((b s : ℕ) → acked g.acks b d.config.master s ≡ acked f.acks b d.config.master s)
     → (KeepsAll d m f → KeepsAll d m g) × (HoldsAll d m f → HoldsAll d m g)
 
 -- ---- laws of ops
@@ -193,6 +209,7 @@ pub record HoldsLoading (d : FailData) (m : FailMemory) (f : FleetState) : Type 
   pub spelled : IsSpelled d.config.master (shown_for d f) (read_of d f)
   pub heads : HeadsAreSegments d.config.master d
   pub loading : IsLoading d m (read_of d f)
+  pub acked : AreAcked d.config.master d f.acks []
   pub knows : Knows d m (read_of d f)
 
 abbrev pub RestoredHoldsLoading : Type 0

@@ -99,3 +99,7 @@ pub record IsIntact (d : FailData) (m : FailMemory) (p : Shown) : Type 0 where
   -- the heads that went before
   pub past : List TakenHead
   pub before : ArePast d log.texts past
+
+-- all is intact, and just these heads went before
+abbrev pub IsIntactWith : List TakenHead → FailData → FailMemory → Shown → Type 0
+IsIntactWith past d m p = (i : IsIntact d m p) × (i.past ≡ past)

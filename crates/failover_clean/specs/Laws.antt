@@ -1,5 +1,5 @@
 -- What holds through every step.
-use Rattle.std.specs.Prelude.{◌≡◌, ℕ, ◌+◌, ◌<◌, List, Some, true, false}
+use Rattle.std.specs.Prelude.{◌≡◌, ℕ, ◌+◌, ◌<◌, List, [], Some, true, false}
 use Rattle.std.specs.List.{range_with_len}
 use Rattle.entry.specs.declared.entry.Entry.{Entry}
 use Rattle.versioned_map.specs.declared.command.Record.{Record}
@@ -8,12 +8,14 @@ use Rattle.failover_bytes.specs.clean_model.Memory.{Place}
 use Rattle.failover_bytes.specs.clean_model.Steps.{survivors_begun}
 use Rattle.failover_bytes.specs.failover_model.Shown.{Shown, Op, taken}
 use Rattle.failover_bytes.specs.failover_model.Data.{FailConfig, Mode, Repairs, FailData}
+use Rattle.failover_bytes.specs.failover_model.Durable.{TakenHead}
 use Rattle.failover_bytes.specs.failover_model.Steps.{fresh, MayBegin, applied, MayApply, rolling, next_start, MayTurn, ended}
 use Rattle.failover_bytes.specs.failover_model.Steps.{EndsRoll, failing, MayFail, mended, IsKnown, Extends, OpensNew, Replaces, Raises}
 use Rattle.failover_bytes.specs.failover_model.Steps.{ClosesOld, with_taken, MayRepair, Reseals}
 use Rattle.failover_clean.specs.Covered.{IsCovered}
-use Rattle.failover_clean.specs.Intact.{IsIntact}
+use Rattle.failover_clean.specs.Intact.{IsIntact, IsIntactWith}
 use Rattle.failover_clean.specs.Memory.{FailMemory, data_of}
+use Rattle.failover_clean.specs.Past.{past_after}
 use Rattle.failover_clean.specs.Steps.{seal_op, MaySeal, ids_taken, pass_begun, MayBeginClean, first_memory, recorded}
 use Rattle.failover_clean.specs.Steps.{IsNamed, compacted, MayCompact, copy_done, MayCopy, rolled, stopped, MayCommit}
 use Rattle.failover_clean.specs.Steps.{finished, free_op, freed, MayFree}
@@ -28,83 +30,83 @@ IntactIsCovered = (d : FailData) (m : FailMemory) (p : Shown) → IsIntact d m p
 
 -- Of a new master of which nothing is held all is intact.
 abbrev pub FreshIsIntact : Type 0
-FreshIsIntact = (c : FailConfig) (p : Shown) → MayBegin c p → IsIntact (fresh c) (first_memory c 1) p
+FreshIsIntact = (c : FailConfig) (p : Shown) → MayBegin c p → IsIntactWith [] (fresh c) (first_memory c 1) p
 
 -- A command that is applied leaves all intact, while a pass or a failover is open too.
 abbrev pub ApplyKeeps : Type 0
-ApplyKeeps = (d : FailData) (m : FailMemory) (p : Shown) (segment : ℕ) (r : Record) → IsIntact d m p
-    → MayApply d segment r → IsNamed m segment r → IsIntact (applied d segment r) (recorded d m segment r) p
+ApplyKeeps = (d : FailData) (m : FailMemory) (p : Shown) (segment : ℕ) (r : Record) → (i : IsIntact d m p)
+    → MayApply d segment r → IsNamed m segment r → IsIntactWith i.past (applied d segment r) (recorded d m segment r) p
 
 -- ---- compaction and copies
 
 -- Compaction leaves all intact, while a failover is open too.
 abbrev pub CompactKeeps : Type 0
-CompactKeeps = (d : FailData) (m : FailMemory) (p : Shown) (s : ℕ) → IsIntact d m p → MayCompact d m s
-    → IsIntact d (compacted d m s) p
+CompactKeeps = (d : FailData) (m : FailMemory) (p : Shown) (s : ℕ) → (i : IsIntact d m p) → MayCompact d m s
+    → IsIntactWith i.past d (compacted d m s) p
 
 -- A copy of one entry of the victims leaves all intact, whether it is moved, carried or dropped.
 abbrev pub CopyKeeps : Type 0
 CopyKeeps = (d : FailData) (m : FailMemory) (p : Shown) (first : Place) (rest : List Place) (s : ℕ) (e : Entry)
-    → IsIntact d m p → MayCopy d m first rest s e → IsIntact d (copy_done d m first rest s e) p
+    → (i : IsIntact d m p) → MayCopy d m first rest s e → IsIntactWith i.past d (copy_done d m first rest s e) p
 
 -- ---- ops
 
 -- With an op taken all is intact, whether the master knows it or not.
-abbrev pub BothIntact : FailData → FailData → FailMemory → Shown → Type 0
-BothIntact d e m q = IsIntact d m q × IsIntact e m q
+abbrev pub BothIntact : List TakenHead → FailData → FailData → FailMemory → Shown → Type 0
+BothIntact past d e m q = IsIntactWith past d m q × IsIntactWith past e m q
 
 abbrev pub ExtendKeeps : Type 0
-ExtendKeeps = (d e : FailData) (m : FailMemory) (p q : Shown) (o : Op) → IsIntact d m p → Extends d o e
-    → taken p o ≡ Some q → BothIntact d e m q
+ExtendKeeps = (d e : FailData) (m : FailMemory) (p q : Shown) (o : Op) → (i : IsIntact d m p) → Extends d o e
+    → taken p o ≡ Some q → BothIntact i.past d e m q
 
 abbrev pub OpenKeeps : Type 0
-OpenKeeps = (d e : FailData) (m : FailMemory) (p q : Shown) (o : Op) → IsIntact d m p → (is : OpensNew d o e)
-    → is.b < d.config.backups → taken p o ≡ Some q → BothIntact d e m q
+OpenKeeps = (d e : FailData) (m : FailMemory) (p q : Shown) (o : Op) → (i : IsIntact d m p) → (is : OpensNew d o e)
+    → is.b < d.config.backups → taken p o ≡ Some q → BothIntact i.past d e m q
 
 abbrev pub ReplaceKeeps : Type 0
-ReplaceKeeps = (d e : FailData) (m : FailMemory) (p q : Shown) (o : Op) → IsIntact d m p → (is : Replaces d o e)
-    → is.b < d.config.backups → taken p o ≡ Some q → BothIntact d e m q
+ReplaceKeeps = (d e : FailData) (m : FailMemory) (p q : Shown) (o : Op) → (i : IsIntact d m p) → (is : Replaces d o e)
+    → is.b < d.config.backups → taken p o ≡ Some q → BothIntact i.past d e m q
 
 abbrev pub RaiseKeeps : Type 0
-RaiseKeeps = (d e : FailData) (m : FailMemory) (p q : Shown) (o : Op) → IsIntact d m p → Raises d o e
-    → taken p o ≡ Some q → BothIntact d e m q
+RaiseKeeps = (d e : FailData) (m : FailMemory) (p q : Shown) (o : Op) → (i : IsIntact d m p) → Raises d o e
+    → taken p o ≡ Some q → BothIntact i.past d e m q
 
 abbrev pub CloseKeeps : Type 0
-CloseKeeps = (d e : FailData) (m : FailMemory) (p q : Shown) (o : Op) → IsIntact d m p → ClosesOld d o e
-    → taken p o ≡ Some q → BothIntact d e m q
+CloseKeeps = (d e : FailData) (m : FailMemory) (p q : Shown) (o : Op) → (i : IsIntact d m p) → ClosesOld d o e
+    → taken p o ≡ Some q → BothIntact i.past d e m q
 
 -- ---- rolls and failovers
 
 -- An ordinary roll that begins leaves all intact, while a pass is open too, and so does the third part of a failover.
 abbrev pub RollKeeps : Type 0
-RollKeeps = (d : FailData) (m : FailMemory) (p : Shown) (mode : Mode) → IsIntact d m p → MayTurn d mode
-    → IsIntact (rolling d (next_start d) mode) (rolled d m (next_start d) false) p
+RollKeeps = (d : FailData) (m : FailMemory) (p : Shown) (mode : Mode) → (i : IsIntact d m p) → MayTurn d mode
+    → IsIntactWith i.past (rolling d (next_start d) mode) (rolled d m (next_start d) false) p
 
 -- A commit that begins leaves all intact.
 abbrev pub CommitKeeps : Type 0
-CommitKeeps = (d : FailData) (m : FailMemory) (p : Shown) (n : Start) (mode : Mode) → IsIntact d m p
-    → MayCommit d m n mode → IsIntact (rolling d n mode) (rolled d m n true) p
+CommitKeeps = (d : FailData) (m : FailMemory) (p : Shown) (n : Start) (mode : Mode) → (i : IsIntact d m p)
+    → MayCommit d m n mode → IsIntactWith i.past (rolling d n mode) (rolled d m n true) p
 
 -- So does the end of an ordinary roll.
 abbrev pub EndKeeps : Type 0
-EndKeeps = (d : FailData) (m : FailMemory) (p : Shown) (n : Start) (mode : Mode) → IsIntact d m p → IsKnown d p
-    → EndsRoll d n mode → m.commits ≡ false → IsIntact (ended d n mode) m p
+EndKeeps = (d : FailData) (m : FailMemory) (p : Shown) (n : Start) (mode : Mode) → (i : IsIntact d m p) → IsKnown d p
+    → EndsRoll d n mode → m.commits ≡ false → IsIntactWith (past_after d i.past) (ended d n mode) m p
 
 -- With the end of a commit the pass has ended: the victims have left the log.
 abbrev pub FinishKeeps : Type 0
-FinishKeeps = (d : FailData) (m : FailMemory) (p : Shown) (n : Start) (mode : Mode) → IsIntact d m p → IsKnown d p
-    → EndsRoll d n mode → m.commits ≡ true → IsIntact (ended d n mode) (finished d m) p
+FinishKeeps = (d : FailData) (m : FailMemory) (p : Shown) (n : Start) (mode : Mode) → (i : IsIntact d m p) → IsKnown d p
+    → EndsRoll d n mode → m.commits ≡ true → IsIntactWith (past_after d i.past) (ended d n mode) (finished d m) p
 
 -- A backup's failure leaves all intact, whatever the op that it was asked for has done: a roll that was under way is
 -- abandoned, a commit too.
 abbrev pub FailKeeps : Type 0
-FailKeeps = (d : FailData) (m : FailMemory) (p : Shown) (b : ℕ) → IsIntact d m p → MayFail d
-    → IsIntact (failing d b) (stopped m) p
+FailKeeps = (d : FailData) (m : FailMemory) (p : Shown) (b : ℕ) → (i : IsIntact d m p) → MayFail d
+    → IsIntactWith i.past (failing d b) (stopped m) p
 
 -- So does the end of a failover.
 abbrev pub MendKeeps : Type 0
-MendKeeps = (d : FailData) (m : FailMemory) (p : Shown) → IsIntact d m p → IsKnown d p → d.mode ≡ Repairs
-    → IsIntact (mended d) m p
+MendKeeps = (d : FailData) (m : FailMemory) (p : Shown) → (i : IsIntact d m p) → IsKnown d p → d.mode ≡ Repairs
+    → IsIntactWith i.past (mended d) m p
 
 -- ---- repairs
 
@@ -116,30 +118,30 @@ ImageIsRepair = (d : FailData) (m : FailMemory) (p : Shown) (s b : ℕ) (i : IsI
 abbrev pub RepairKeeps : Type 0
 RepairKeeps = (d e : FailData) (m : FailMemory) (p q : Shown) (o : Op) (i : IsIntact d m p)
     → (is : Reseals d i.log.texts o e) → is.image ≡ data_of m is.s → is.b < d.config.backups → taken p o ≡ Some q
-    → BothIntact d e m q
+    → BothIntact i.past d e m q
 
 -- ---- a pass begins
 
 -- A pass that begins leaves all intact, with however many survivors.
 abbrev pub BeginKeeps : Type 0
-BeginKeeps = (d : FailData) (m : FailMemory) (p : Shown) (victims : List ℕ) (count : ℕ) → IsIntact d m p
-    → MayBeginClean d m victims → IsIntact (ids_taken count d) (pass_begun d m victims count) p
+BeginKeeps = (d : FailData) (m : FailMemory) (p : Shown) (victims : List ℕ) (count : ℕ) → (i : IsIntact d m p)
+    → MayBeginClean d m victims → IsIntactWith i.past (ids_taken count d) (pass_begun d m victims count) p
 
 -- ---- seals
 
 -- A replica of a survivor that is sealed leaves all intact, whether the master knows it or not.
 abbrev pub SealKeeps : Type 0
-SealKeeps = (d : FailData) (m : FailMemory) (p q : Shown) (s b : ℕ) → IsIntact d m p → MaySeal d m s b
+SealKeeps = (d : FailData) (m : FailMemory) (p q : Shown) (s b : ℕ) → (i : IsIntact d m p) → MaySeal d m s b
     → b < d.config.backups → taken p (seal_op m s b) ≡ Some q
-    → BothIntact d (record d { took = with_taken d.took s b }) m q
+    → BothIntact i.past d (record d { took = with_taken d.took s b }) m q
 
 -- ---- frees
 
 -- A replica that waits may be freed: whether the master knows it or not, all is intact without it.
 abbrev pub FreeKeeps : Type 0
-FreeKeeps = (d : FailData) (m : FailMemory) (p q : Shown) (s b : ℕ) → IsIntact d m p → MayFree d m s b
+FreeKeeps = (d : FailData) (m : FailMemory) (p q : Shown) (s b : ℕ) → (i : IsIntact d m p) → MayFree d m s b
     → taken p (free_op s b) ≡ Some q
-    → IsIntact d m q × IsIntact d (freed m (record { segment = s; backup = b })) q
+    → IsIntactWith i.past d m q × IsIntactWith i.past d (freed m (record { segment = s; backup = b })) q
 
 -- ---- a pass that has begun
 

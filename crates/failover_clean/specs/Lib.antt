@@ -1,5 +1,6 @@
 pub mod Memory
 pub mod Past
+pub mod Acked
 pub mod Covered
 pub mod Intact
 pub mod Steps

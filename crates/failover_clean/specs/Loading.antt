@@ -19,7 +19,7 @@ use Rattle.failover_bytes.specs.failover_model.Log.{Texts, IsBase, BasesStand, I
 use Rattle.failover_bytes.specs.failover_model.Runs.{IsThere}
 use Rattle.failover_bytes.specs.failover_model.Steps.{restored, MayBegin, ids_now, adopted, rolling, next_start, MayTurn, ended}
 use Rattle.failover_bytes.specs.failover_model.Steps.{EndsRoll, failing, MayFail, mended}
-use Rattle.failover_clean.specs.Intact.{AreRepaired, AreUnrepaired, IsIntact, Knows}
+use Rattle.failover_clean.specs.Intact.{AreRepaired, AreUnrepaired, IsIntactWith, Knows}
 use Rattle.failover_clean.specs.Memory.{FailMemory, log_set_of, AreImages}
 use Rattle.failover_clean.specs.Ops.{IsHeadOp, RepairsImage}
 use Rattle.failover_clean.specs.Same.{IsSameMemory}
@@ -152,4 +152,4 @@ SameIsLoading = (d : FailData) (m n : FailMemory) (p : Shown) → IsLoading d m 
 abbrev pub FinishIsIntact : Type 0
 FinishIsIntact = (d : FailData) (m : FailMemory) (p : Shown) → IsLoading d m p → Knows d m p → d.mode ≡ Calm
     → ((b : ℕ) → HasTaken d d.head.start.id b → d.counts b ≡ length d.head.units)
-    → IsIntact (adopted d d.opening) m p × Knows (adopted d d.opening) m p
+    → IsIntactWith [] (adopted d d.opening) m p × Knows (adopted d d.opening) m p

@@ -5,7 +5,7 @@ use Rattle.failover_bytes.specs.failover_model.Data.{FailData}
 use Rattle.failover_bytes.specs.failover_model.Runs.{IsThere}
 use Rattle.failover_bytes.specs.failover_model.Steps.{with_taken, MayRepair, Extends, OpensNew, Replaces, Raises, ClosesOld}
 use Rattle.failover_bytes.specs.Text.{IsWholeText}
-use Rattle.failover_clean.specs.Intact.{IsIntact, Knows}
+use Rattle.failover_clean.specs.Intact.{IsIntact, IsIntactWith, Knows}
 use Rattle.failover_clean.specs.Memory.{FailMemory, text_in}
 use Rattle.failover_clean.specs.Steps.{seal_op, MaySeal, free_op, freed, MayFree}
 
@@ -51,8 +51,8 @@ IsOp d m o e n =
 
 -- With an op taken all is intact, whether the master knows it or not.
 abbrev pub OpKeeps : Type 0
-OpKeeps = (d e : FailData) (m n : FailMemory) (p q : Shown) (o : Op) → IsIntact d m p → IsOp d m o e n
-    → IsThere d.config o → taken p o ≡ Some q → IsIntact d m q × IsIntact e n q
+OpKeeps = (d e : FailData) (m n : FailMemory) (p q : Shown) (o : Op) → (i : IsIntact d m p) → IsOp d m o e n
+    → IsThere d.config o → taken p o ≡ Some q → IsIntactWith i.past d m q × IsIntactWith i.past e n q
 
 -- The op fits, and then the master knows what is held.
 abbrev pub OpFits : Type 0

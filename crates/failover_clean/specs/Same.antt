@@ -10,7 +10,7 @@ use Rattle.failover_bytes.specs.clean_model.Memory.{Place, StandsAt}
 use Rattle.failover_bytes.specs.failover_model.Data.{FailData}
 use Rattle.failover_bytes.specs.failover_model.Shown.{Shown}
 use Rattle.failover_clean.specs.Covered.{map_of}
-use Rattle.failover_clean.specs.Intact.{IsIntact, Knows}
+use Rattle.failover_clean.specs.Intact.{IsIntact, IsIntactWith, Knows}
 use Rattle.failover_clean.specs.Memory.{Spot, FailMemory, log_ids}
 
 -- Both indexes find the key's object in one segment: it stands at the place that the other one names.
@@ -45,7 +45,8 @@ pub record IsSameMemory (d : FailData) (m n : FailMemory) : Type 0 where
 
 -- What is intact is so of another memory with the same images and pass, whose index leads to the same objects.
 abbrev pub SameIsIntact : Type 0
-SameIsIntact = (d : FailData) (m n : FailMemory) (p : Shown) → IsIntact d m p → IsSameMemory d m n → IsIntact d n p
+SameIsIntact = (d : FailData) (m n : FailMemory) (p : Shown) → (i : IsIntact d m p) → IsSameMemory d m n
+    → IsIntactWith i.past d n p
 
 -- And what the master knows.
 abbrev pub SameKnows : Type 0

@@ -57,7 +57,7 @@ module _ (d : FailData) (texts : Texts) (p : Shown) (log : IsLogged d texts) (mi
   take_less (suc from) (suc to) (u ∷ us) le =
       ap (λ (l : List LogUnit). u ∷ l) (take_less from to us (omega arith))
 
-  up_to : (from to : ℕ) → from ≤ to
+  pub up_to : (from to : ℕ) → from ≤ to
       → entries_of (take from d.head.units) ++ entries_of (units_between d.head.units from to)
       ≡ entries_of (take to d.head.units)
   up_to from to le =

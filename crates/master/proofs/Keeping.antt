@@ -15,7 +15,7 @@ use Rattle.entry.proofs.BagLemmas.{among_last}
 use Rattle.replica.specs.Op.{OpValue}
 use Rattle.replica.specs.Picture.{Replica, FleetState, is_same_place}
 use Rattle.replica.specs.Registry.{Raises, RefusesRaise}
-use Rattle.replica.specs.Take.{Refuses, taken, with_effect, effect, faulted}
+use Rattle.replica.specs.Take.{Refuses, taken, with_effect, effect, unanswered}
 use Rattle.replica.specs.declared.op.TakeFault.TheVariants as take_fault
 use Rattle.versioned_map.specs.declared.command.Command.{Command}
 use Rattle.log_head.specs.log_model.Data.{Start, ids_of}
@@ -132,7 +132,8 @@ elsewhere b m s c n t other = elim (place_tells b m s c n t) as (λ _. is_same_p
 ]
 
 -- a fault is counted besides
-faulted_beside : (master : ℕ) (f mid g : FleetState) → IsBeside master f mid → g ≡ faulted mid → IsBeside master f g
+faulted_beside : (master : ℕ) (f mid g : FleetState) → IsBeside master f mid → g ≡ unanswered f mid
+    → IsBeside master f g
 faulted_beside master f mid g is same =
     subst (IsBeside master f) (sym same) (record { takes = is.takes; others = is.others; least = is.least })
 

@@ -5,7 +5,9 @@ use Rattle.replica.specs.declared.op.TakeFault.{TakeFault}
 use Rattle.replica.specs.declared.op.TakeFault.TheVariants as take_fault
 use Rattle.replica.specs.Picture.{FleetState}
 use Rattle.replica.specs.Retire.{Retires}
-use Rattle.replica.proofs.Retiring.{retire_spares}
+use Rattle.replica.specs.Take.{limited}
+use Rattle.replica.proofs.Acks.{grows_not}
+use Rattle.replica.proofs.Retiring.{IsSparing, retire_spares}
 use Rattle.master_core.proofs.failover_clean.KeptFleets.{others_leave_all}
 use Rattle.master_core.specs.master_state.Data.{MasterData}
 use Rattle.master_core.specs.master_state.Log.{log_of, memory_of}
@@ -21,26 +23,33 @@ pub of_master : (f g : FleetState) (n m : ℕ) (result : Result Unit TakeFault) 
 of_master f g n m result is retires = subst (λ (k : ℕ). Retires f k result g) is retires
 
 -- the other fleet has the same of the master
-pub beside_kept : (d : MasterData) (f g : FleetState) → IsWellKept d f
-    → ((b s : ℕ) → g.picture b d.config.master s ≡ f.picture b d.config.master s) → g.least ≡ f.least
-    → g.backups ≡ f.backups → IsWellKept d g
-beside_kept d f g kept same least backups =
-    let still = others_leave_all (log_of d) (memory_of d) f g same
-    (ap (λ (h : ℕ → ℕ). h d.config.master) least) in
+beside_kept : (d : MasterData) (f g : FleetState) → IsWellKept d f → IsSparing f d.config.master g → IsWellKept d g
+beside_kept d f g kept spares =
+    let still = others_leave_all (log_of d) (memory_of d) f g spares.same
+    (ap (λ (h : ℕ → ℕ). h d.config.master) spares.least) spares.grows spares.acked in
     record {
       core = kept.core;
       placed = kept.placed;
       kept = still.0 kept.kept;
       known = λ going. still.1 (kept.known going);
-      backups = (let le = kept.backups in omega (arith, le, backups));
+      backups = (let le = kept.backups in let same = spares.backups in omega (arith, le, same));
       apart = kept.apart;
     }
+
+-- a limit of takes leaves all of it
+pub limited_kept : (d : MasterData) (f : FleetState) (n : ℕ) → IsWellKept d f → IsWellKept d (limited f n)
+limited_kept d f n kept = beside_kept d f (limited f n) kept (record {
+  backups = refl;
+  least = refl;
+  same = λ b s. refl;
+  acked = λ b s. refl;
+  grows = grows_not f.acks;
+})
 
 pub retired_kept : (d : MasterData) (f g : FleetState) (result : Result Unit TakeFault) → IsWellKept d f
     → Retires f d.config.master result g → IsWellKept d g
 retired_kept d f g result kept retires =
-    let spares = retire_spares f g d.config.master result retires in
-    beside_kept d f g kept spares.same spares.least spares.backups
+    beside_kept d f g kept (retire_spares f g d.config.master result retires)
 
 -- so it does if a fault of a backup halts the master
 pub halted_kept : (d : MasterData) (f : FleetState) → IsWellKept d f → IsWellKept (halted d) f

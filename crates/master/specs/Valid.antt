@@ -54,7 +54,8 @@ pub record IsValid (d : MasterData) (f : FleetState) : Type 0 where
   pub survive : SurvivesFew d f
   -- memory and the replicas of the log hold the map
   pub covered : IsCovered (log_of d) (memory_of d) (read_of (log_of d) f)
-  pub durable : CountsDurable (log_of d) (shown_for (log_of d) f)
+  -- what is durable was answered Ok by as many backups as replicas
+  pub durable : CountsDurable (log_of d) (memory_of d) f
   -- what the master counts is the durable count
   pub counted : durable_now d ≡ durable_of (log_of d)
   -- if nothing waits to be pushed, each record is durable

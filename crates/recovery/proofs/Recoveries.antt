@@ -102,7 +102,7 @@ module _ (hs : List Holding) (least m : ℕ) (d : FailData) (shown : Shown) (kee
     plan-loss (plan_fault.HeadTooOld id) says loss = (inl tt, λ both. absurd (not-both loss both))
     plan-loss (plan_fault.HeadClosed id) says loss = (inl tt, λ both. absurd (not-both loss both))
     plan-loss (plan_fault.Missing id) says loss =
-        (inl tt, λ both. absurd (not-both (loss.2 (shown-agree hs least m shown keep old shows d sound)) both))
+        (inl tt, λ both. absurd (not-both (loss.none (shown-agree hs least m shown keep old shows d sound)) both))
     plan-loss (plan_fault.BadReplica backup id) says loss = absurd (none-bad backup id says)
     plan-loss plan_fault.NoMemory says loss = (inr tt, λ both. tt)
 

@@ -74,12 +74,12 @@ chosen-other hs least m id missing c choice same =
     missing.other (same ∙ chosen-newest hs least m c missing.head.segment choice missing.taken.newest)
 
 missing-means : (hs : List Holding) (least m id : ℕ) → IsMissing hs least m id → NamesLoss hs least m (Missing id)
-missing-means hs least m id missing = (
-  missing,
-  λ c choice among same.
+missing-means hs least m id missing = record {
+  missing = missing;
+  unlisted = λ c choice among same.
       not-listed hs least m id c (lost-also hs m id missing.opening c.opening same missing.lost) choice
-      (chosen-other hs least m id missing c choice) among,
-  λ agree c choice.
+      (chosen-other hs least m id missing c choice) among;
+  none = λ agree c choice.
       let newest = missing.taken.newest in
       let preferred = missing.taken.preferred in
       let same : missing.opening.digest ≡ c.opening.digest =
@@ -89,8 +89,8 @@ missing-means hs least m id missing = (
       not-listed hs least m id c
       (lost-also hs m id missing.opening c.opening (ap (listed_len id) (sym same)) missing.lost) choice
       (chosen-other hs least m id missing c choice)
-      (subst (λ (d : Digest). IsAmong id (listed_ids d)) same missing.listed),
-)
+      (subst (λ (d : Digest). IsAmong id (listed_ids d)) same missing.listed);
+}
 
 later-means : (hs : List Holding) (least m : ℕ) (fault : PlanFault) → IsLaterFault hs least m fault
     → NamesLoss hs least m fault

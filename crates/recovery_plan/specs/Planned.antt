@@ -145,17 +145,20 @@ AgreeOnDigest hs master = (id : ℕ) (g h : Holding) (o q : Opening) → IsNewes
     → IsAmong g hs → IsAmong h hs → IsOpenHead master id g → IsOpenHead master id h
     → opening_in g.bytes ≡ Some o → opening_in h.bytes ≡ Some q → o.digest ≡ q.digest
 
--- If the master's replicas are well, a loss is named only if there is no choice: at once for a lost head. For a lost
--- segment no choice has a digest that lists it with the same length, or with none as that does, so there is none if the
--- open heads agree.
+-- The digest of the newest head that is left lists the segment, and no replica of it that is left may be used.
+pub record IsLostSegment (hs : List Holding) (least master id : ℕ) : Type 0 where
+  pub missing : IsMissing hs least master id
+  -- no choice has a digest that lists it so: with the same length, or with none as that does
+  pub unlisted : (c : Choice) → IsChoiceOf hs least master c → IsAmong id (listed_ids c.opening.digest)
+      → listed_len id c.opening.digest ≡ listed_len id missing.opening.digest → ⊥
+  -- and if the digests of the open heads agree there is no choice
+  pub none : AgreeOnDigest hs master → (c : Choice) → IsChoiceOf hs least master c → ⊥
+
+-- If the master's replicas are well, a loss is named only if there is no choice.
 abbrev pub NamesLoss : List Holding → ℕ → ℕ → PlanFault → Type 0
 NamesLoss hs least master NoHead = (c : Choice) → IsChoiceOf hs least master c → ⊥
 NamesLoss hs least master (HeadTooOld id) = (c : Choice) → IsChoiceOf hs least master c → ⊥
 NamesLoss hs least master (HeadClosed id) = (c : Choice) → IsChoiceOf hs least master c → ⊥
-NamesLoss hs least master (Missing id) =
-    (missing : IsMissing hs least master id)
-    × ((c : Choice) → IsChoiceOf hs least master c → IsAmong id (listed_ids c.opening.digest)
-    → listed_len id c.opening.digest ≡ listed_len id missing.opening.digest → ⊥)
-    × (AgreeOnDigest hs master → (c : Choice) → IsChoiceOf hs least master c → ⊥)
+NamesLoss hs least master (Missing id) = IsLostSegment hs least master id
 NamesLoss hs least master (BadReplica backup id) = Unit {0}
 NamesLoss hs least master NoMemory = Unit {0}

@@ -1,9 +1,11 @@
 -- What was answered, as it grows.
-use Rattle.std.proofs.Common.{◌≡◌, ℕ, List, [], ◌∷◌, ◌++◌, append_assoc, Bool, false, refl, sym, ap, ◌∙◌}
+use Rattle.std.proofs.Common.{◌≡◌, ℕ, List, [], ◌∷◌, ◌++◌, append_assoc, Bool, false, refl, sym, ap, subst, ◌∙◌}
 use Rattle.std.specs.Prelude.{◌==◌, ◌&&◌}
 use Rattle.std.proofs.lemmas.Bool.{ne_eqb}
 use Rattle.std.proofs.Math.Bool.{and-false}
-use Rattle.replica.specs.Acks.{acked, Grows, WasAcked}
+use Rattle.entry.specs.Bag.{IsAmong}
+use Rattle.entry.proofs.BagLemmas.{among_right}
+use Rattle.replica.specs.Acks.{acked, Grows, WasAcked, HasPut}
 use Rattle.replica.specs.Picture.{Ack, is_same_place}
 
 pub grows_not : (acks : List Ack) → Grows acks acks
@@ -40,3 +42,13 @@ acked_apart acks a b m s other =
     let away : (a.op.master == m) ≡ false = ne_eqb a.op.master m other in
     acked_elsewhere acks a b m s
     (ap (λ (x : Bool). (a.backup == b) && (x && (a.op.segment == s))) away ∙ and-false (a.backup == b))
+
+-- a put stays known
+pub still_put : (old new : List Ack) (b m s : ℕ) → Grows old new → HasPut old b m s → HasPut new b m s
+still_put old new b m s grows was = (
+  was.0,
+  was.1,
+  subst (λ (xs : List Ack). IsAmong (record { backup = b; op = record { master = m; segment = s; act = was.0 } }) xs)
+      (sym grows.1)
+      (among_right (record { backup = b; op = record { master = m; segment = s; act = was.0 } }) grows.0 old was.2),
+)

@@ -1,6 +1,7 @@
 -- What a backup answered Ok to, of one segment.
 use Rattle.std.specs.Prelude.{◌≡◌, ℕ, List, [], ◌∷◌, ◌++◌, if◌then◌else◌}
 use Rattle.replica.specs.Op.{ActValue, Open, Extend, Close, Seal, Free}
+use Rattle.entry.specs.Bag.{IsAmong}
 use Rattle.replica.specs.Picture.{Ack, is_same_place}
 
 -- the bytes after this act
@@ -26,3 +27,16 @@ Grows old new = (more : List Ack) × (new ≡ more ++ old)
 -- at some time the bytes that the backup had answered Ok to were just these
 abbrev pub WasAcked : List Ack → ℕ → ℕ → ℕ → List ℕ → Type 0
 WasAcked acks b m s bytes = (old : List Ack) × Grows old acks × (acked old b m s ≡ bytes)
+
+-- the act puts a replica where there was none
+abbrev pub IsPut : ActValue → Type 0
+IsPut (Open bytes) = Unit {0}
+IsPut (Extend at bytes) = ⊥
+IsPut Close = ⊥
+IsPut (Seal bytes) = Unit {0}
+IsPut Free = ⊥
+
+-- the backup answered Ok to an Open or a Seal of the segment
+abbrev pub HasPut : List Ack → ℕ → ℕ → ℕ → Type 0
+HasPut acks b m s = (act : ActValue) × IsPut act
+    × IsAmong (record { backup = b; op = record { master = m; segment = s; act = act } }) acks

@@ -32,7 +32,7 @@ use Rattle.backup.proofs.acks.Acks.with.Statement as stated
 use Rattle.backup.proofs.acks.Acks.with.Code as code
 use Rattle.backup.specs.contracts.acks.Acks as trail
 use Rattle.backup.specs.contracts.acks.Handed as handed
-use Rattle.backup.specs.State.{ack_of}
+use Rattle.backup.specs.Acks.{ack_of}
 
 abbrev stayed : Stays (f.ended).signature.params (f.ended).kept
 stayed = (

@@ -14,5 +14,6 @@ loop-preserved c = record {
 
 pub returns-clause-new : goal.returns-clause-new
 returns-clause-new c =
-    empty_fleet c.args.backups c.loop.list.items c.new-2.result (omega
+    empty_fleet c.args.backups c.loop.list.items c.new-2.result c.none.result.list (omega
     (arith, c.loop.invariant.count, c.loop-test.false, c.loop.auto.counter-end)) c.loop.invariant.empty c.new-2.ensures
+    c.none.ensures

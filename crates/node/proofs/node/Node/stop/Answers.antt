@@ -7,7 +7,7 @@ use Rattle.store_clients.specs.master.Invariant.{IsWellKept}
 use Rattle.store_clients.specs.master.World.{MasterValue}
 use Rattle.store_clients.specs.master.Valid.{IsValid}
 use Rattle.store_clients.specs.master.master_state.Data.{MasterData}
-use Rattle.store_clients.proofs.of_master.Retired.{beside_kept}
+use Rattle.store_clients.proofs.of_master.Retired.{limited_kept}
 use Rattle.replica.specs.Picture.{FleetState}
 use Rattle.replica.specs.Take.{limited}
 use Rattle.answers.specs.declared.answer.Answer.TheVariants as answer
@@ -28,7 +28,7 @@ pub invariant_of-up : goal.invariant_of-up
 invariant_of-up c =
     let f : FleetState = fleet_state c.up.inside.fleet in
     subst (λ (h : FleetState). IsWellKept c.up.inside.core h) (sym c.limit.ensures.limited)
-    (beside_kept c.up.inside.core f (limited f c.args.takes) c.up.invariant (λ b s. refl) refl refl)
+    (limited_kept c.up.inside.core f c.args.takes c.up.invariant)
 
 pub returns-clause-told : goal.returns-clause-told
 returns-clause-told c = λ config.
