@@ -9,7 +9,7 @@ use Rattle.claims.specs.Bags.{segments_bag}
 use Rattle.partitions.specs.declared.setback.Setback.{Setback}
 use Rattle.partitions.specs.declared.setback.Setback.TheVariants as setback
 
--- The segments and the will are those of the division. Of the marked segments each key has a partition.
+-- The segments and the will are those of the division. Each key of a marked segment has a partition.
 pub record AreDivided (qs : List Part) (segments here : List (List Entry)) (will : List Part) (partitions : ℕ)
     (marks : List Bool) : Type 0 where
   pub is_log : here ≡ segments

@@ -1,4 +1,4 @@
-//! A log that is divided segment by segment, as its groups are asked for.
+//! Divides a log segment by segment, as its groups are asked for.
 
 ghost use Rattle.std.specs.Prelude.{◌≡◌, ◌<◌, ◌/◌, map, length, IfErr, OnOk, slice_index_or, [], true, false};
 ghost use Rattle.division.specs.Division.{AreCovered, IsDivision};
@@ -14,14 +14,14 @@ use std::marker::{Model, PhantomData};
 use tablet_will::Will;
 
 /// Hands out the groups of a log by their numbers: group n is of segment n / partitions and of partition n %
-/// partitions. A segment is divided when its first group is asked for. A contract sees which segments are divided.
+/// partitions. A segment is divided when one of its groups is asked for. Contracts see which segments are divided.
 #[derive(Drop)]
 pub struct Divider<'s, 'a, D: Division> {
     segments: &'s [SegmentRef<'a>],
     will: &'s Will,
     partitions: usize,
     divided: Vec<bool>,
-    /// The groups that were not asked for, of segments that are divided.
+    /// The groups of divided segments that were not asked for yet.
     parcels: Vec<Option<Parcel<'a, D>>>,
     of: PhantomData<D>,
 }
@@ -38,7 +38,7 @@ impl<'s, 'a, D: Division> Model for Divider<'s, 'a, D> {
         AreDivided D.parts D.segments d.segments.now d.will.now d.partitions d.divided.items };
 }
 
-/// Groups of the segment at this place, on their way.
+/// Puts the groups of the segment at this place where `take` finds them by their numbers.
 fn add_parcels<'a, D: Division>(
     parcels: &mut [Option<Parcel<'a, D>>],
     at: usize,
@@ -56,7 +56,7 @@ fn add_parcels<'a, D: Division>(
     }
 }
 
-/// So many places for groups.
+/// A list of `count` empty places for groups.
 fn empty_places<'a, D: Division>(
     alloc: Global,
     count: usize,
@@ -69,7 +69,7 @@ fn empty_places<'a, D: Division>(
 }
 
 impl<'s, 'a, D: Division> Divider<'s, 'a, D> {
-    /// A divider of these segments by the will, which has so many groups.
+    /// A divider of these segments by the will. `count` is the number of all their groups.
     pub fn new(
         alloc: Global,
         segments: &'s [SegmentRef<'a>],
@@ -109,7 +109,8 @@ impl<'s, 'a, D: Division> Divider<'s, 'a, D> {
         Ok(())
     }
 
-    /// The group with this number, unless it was asked for before. With Ok each key of its segment has a partition.
+    /// The group with this number, or None if it was taken before or there is none. With Ok each key of the group's
+    /// segment has a partition.
     pub fn take(&mut self, alloc: Global, n: usize) -> Result<Option<Parcel<'a, D>>, Setback>
         ensures covered { OnOk result (n / partitions_of D.parts < length D.segments →
             AreCovered D.parts (slice_index_or D.segments (n / partitions_of D.parts) [])) }

@@ -1,11 +1,11 @@
-//! A log that is rebuilt by several workers, each in a thread of its own.
+//! Rebuilds a log with several workers, each in a thread of its own.
 //!
 //! `rebuild_threads` promises what `rebuilding::rebuild` does, clause for clause, however many workers there are and
 //! however they take turns. The calling thread divides the log segment by segment (`divider`), and sends each group
-//! over a channel to the worker of its partition (`threads`). A worker keeps what comes (`worker`), and ends with the
-//! lists of its partitions, which the calling thread joins (`lists`). What a group, a list and their join are is said
-//! by their types (`partitions`). So nothing rests on what a channel delivers: if a group is lost or comes twice, the
-//! calling thread answers by `rebuild`.
+//! over a channel to the worker of its partition (`threads`). A worker keeps the groups that come (`worker`), and ends
+//! with the lists of its partitions, which the calling thread joins (`lists`). The types of `partitions` say what a
+//! group, a list and their join are, so no proof rests on what a channel delivers. If a group is lost or comes twice,
+//! the calling thread answers by `rebuild`.
 #![tactic(auto)]
 
 mod divider;

@@ -13,7 +13,7 @@ use entry::SafeVersion;
 use partitions::{Division, Joined, PartList, Setback};
 use std::alloc::Global;
 
-/// A place for the list of each partition.
+/// An empty place for the list of each partition.
 pub fn empty_places<D: Division>(
     alloc: Global,
     partitions: u32,
@@ -40,7 +40,7 @@ pub fn place_all<D: Division>(places: &mut Vec<Option<PartList<D>>>, lists: Vec<
     }
 }
 
-/// The lists of all partitions, joined.
+/// Joins the lists of all partitions. The setback is NotWhole if a list is missing.
 pub fn join_all<D: Division>(
     alloc: Global,
     places: &mut [Option<PartList<D>>],

@@ -28,7 +28,7 @@ use std::thread;
 use std::thread::{Promise, PromisedHandle, Threads};
 use tablet_will::Will;
 
-/// How many groups a worker may have waiting.
+/// How many groups may wait for a worker.
 const PLACES: usize = 4;
 
 /// What a worker promises: if it ends with a Clash, the log has one.
@@ -50,8 +50,8 @@ impl<D: Division> Promise<Result<Vec<PartList<D>>, Setback>> for Honest<D> {
     ghost kept_by = { λ p r. IfErr r (IsSetback D.parts D.segments) };
 }
 
-/// Divides the log, and sends its groups in the order in which they are named, each to the worker of its partition. A
-/// worker that is gone gets none. Each segment is divided then, since the order names each group.
+/// Divides the log, and sends its groups in this order, each to the worker of its partition. A group whose worker has
+/// ended is dropped. With Ok each segment was divided, since the order names each group.
 fn send_all<'a, D: Division, R: Wait>(
     rt: &R,
     alloc: Global,
@@ -74,7 +74,7 @@ fn send_all<'a, D: Division, R: Wait>(
     Ok(())
 }
 
-/// The lists that the workers end with, each at the place of its partition.
+/// Waits for the workers, and puts each list that they end with at the place of its partition.
 fn lists_from<D: Division, R: Threads>(
     rt: &R,
     alloc: Global,
@@ -147,7 +147,7 @@ fn lists_of<'a, D: Division + Send + Sync + 'static, R: Threads + Wait + Sync, G
     )
 }
 
-/// What the log of the division stands for, by workers. It has so many groups.
+/// What the log of the division stands for, rebuilt by workers. `count` is the number of the log's groups.
 fn by_workers<'a, D: Division + Send + Sync + 'static, R: Threads + Wait + Sync, G: Gate + Sync>(
     rt: &R,
     alloc: Global,
@@ -182,7 +182,7 @@ fn by_workers<'a, D: Division + Send + Sync + 'static, R: Threads + Wait + Sync,
     join_all(alloc, places.as_mut_slice(), recorded)
 }
 
-/// What the plan's log stands for, by workers of this division.
+/// What the plan's log stands for, rebuilt by workers. The type D is the brand of this division.
 fn rebuild_on<'a, D: Division + Send + Sync + 'static, R: Threads + Wait + Sync, G: Gate + Sync>(
     rt: &R,
     alloc: Global,
@@ -217,17 +217,17 @@ fn rebuild_on<'a, D: Division + Send + Sync + 'static, R: Threads + Wait + Sync,
     }
 }
 
-/// The objects that the plan's segments mean, rebuilt by so many workers, 1 to 64, each in a thread of its own. The
-/// calling thread divides the segments by the will, and sends the groups in this order; partition p goes to worker p %
-/// workers, which has at most four groups waiting. The gate is told when each worker begins and ends. A worker without
-/// a partition begins and ends.
+/// Rebuilds the objects that the plan's segments mean, with 1 to 64 workers, each in a thread of its own. The calling
+/// thread divides the segments by the will, and sends the groups in this order. Partition p goes to worker p %
+/// workers, and at most four groups wait for a worker. The gate is told when each worker begins and ends. A worker
+/// without a partition begins and ends, too.
 ///
-/// With Ok the result is that of `rebuild`, and it is refused for the same reasons. Order and ids are tested before a
-/// worker is started. If a key has no partition, if a worker can't be started, or if a group did not come to its worker
-/// once, the calling thread answers by `rebuild`.
+/// With Ok the result is that of `rebuild`, and the call is refused for the same reasons. Order and ids are tested
+/// before a worker is started. If a key has no partition, if a worker can't be started, or if some group doesn't come
+/// to its worker exactly once, the calling thread answers by `rebuild`.
 ///
 /// The calling thread takes about n + s p steps for n entries in s segments and p partitions, and each worker n log n
-/// for its own.
+/// for its own n entries.
 pub fn rebuild_threads<R: Threads + Wait + Sync, G: Gate + Sync>(
     rt: &R,
     alloc: Global,

@@ -1,4 +1,4 @@
-//! A worker: it gathers what comes of its partitions, and ends with their lists.
+//! A worker: it gathers the groups of its partitions, and ends with their lists.
 
 ghost use Rattle.std.specs.Prelude.{◌≡◌, ◌<◌, ℕ, length, IfOk, IfErr, IfSome, OnOk};
 ghost use Rattle.partitions.specs.Setbacks.{IsSetback};
@@ -13,14 +13,14 @@ use std::sync::Wait;
 /// What is the same for all workers.
 #[derive(Clone, Copy)]
 pub struct Work {
-    /// How many workers there are. Partition p is of worker p % workers.
+    /// How many workers there are. Partition p belongs to worker p % workers.
     pub workers: usize,
     pub partitions: u32,
     /// How many segments the log has.
     pub segments: usize,
 }
 
-/// A share for each partition of a worker, in order.
+/// Adds an empty share for each partition of this worker, in order.
 fn add_shares<'a, D: Division>(
     alloc: Global,
     shares: &mut Vec<Share<'a, D>>,
@@ -56,7 +56,7 @@ fn put<'a, D: Division>(
     shares[place].take(parcel)
 }
 
-/// The lists of the shares.
+/// Finishes each share, and gives the lists of all of them.
 fn finish<'a, D: Division>(
     alloc: Global,
     shares: Vec<Share<'a, D>>,
@@ -73,7 +73,7 @@ fn finish<'a, D: Division>(
     Ok(lists)
 }
 
-/// Gathers what comes until no more can come. After a setback it goes on receiving, and drops what comes.
+/// Gathers groups until none can come any more. After a setback the worker goes on receiving, and drops what comes.
 fn replay<'a, D: Division, R: Wait>(
     rt: &R,
     alloc: Global,
@@ -101,7 +101,8 @@ fn replay<'a, D: Division, R: Wait>(
     finish(alloc, shares, recorded)
 }
 
-/// What a worker does from its start to its end: it tells the gate, and replays.
+/// Runs a worker from its start to its end. It tells the gate that it begins, gathers its groups, and tells the gate
+/// that it ends.
 pub fn run<'a, D: Division, R: Wait, G: Gate>(
     rt: &R,
     alloc: Global,

@@ -7,7 +7,7 @@ use Rattle.rebuilding.specs.declared.order.GroupOrder.{GroupOrder}
 use Rattle.rebuilding.specs.declared.order.GroupOrder.TheVariants.{Forward, Reverse, Given}
 use Rattle.rebuilding.specs.Rebuilds.{count_of}
 
--- the numbers of so many groups, in the order
+-- the numbers of `count` groups, in the order
 abbrev pub order_of : GroupOrder → ℕ → List ℕ
 order_of Forward count = range_with_len 0 count
 order_of Reverse count = reverse (range_with_len 0 count)

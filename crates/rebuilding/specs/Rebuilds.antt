@@ -29,7 +29,7 @@ id_of es = header_id (header_of es)
 abbrev pub ids_of : List (List Entry) → List ℕ
 ids_of segments = map id_of segments
 
--- no two segments have one id
+-- no two segments have the same id
 abbrev pub AreApart : List ℕ → Type 0
 AreApart ids = (i j : ℕ) → i < j → j < length ids → slice_index ids i ≢ slice_index ids j
 
@@ -45,11 +45,11 @@ pub record IsGroup (segments : List (List Entry)) (qs : List Part) (n id partiti
 
 -- ---- orders
 
--- each group is named, once
+-- the order names each group once
 abbrev pub IsOrderOf : ℕ → List ℕ → Type 0
 IsOrderOf count order = IsPermutation (range_with_len 0 count) order
 
--- each number below the count is in the list, at one place, and no other number is
+-- the list has each number below the count exactly once, and no other number
 pub record NamesEach (count : ℕ) (order : List ℕ) : Type 0 where
   pub below : (n : ℕ) → IsAmong n order → n < count
   pub each : (n : ℕ) → n < count → IsAmong n order
@@ -57,7 +57,7 @@ pub record NamesEach (count : ℕ) (order : List ℕ) : Type 0 where
 
 -- ---- faults
 
--- two places of the order name groups of a segment with this id, and of one partition
+-- two places of the order name groups of one partition, and both groups are of a segment with this id
 pub record IsDouble (segments : List (List Entry)) (qs : List Part) (order : List ℕ) (id : ℕ) : Type 0 where
   pub first : ℕ
   pub second : ℕ
@@ -67,7 +67,7 @@ pub record IsDouble (segments : List (List Entry)) (qs : List Part) (order : Lis
   pub one : IsGroup segments qs (slice_index order first) id partition
   pub other : IsGroup segments qs (slice_index order second) id partition
 
--- the order does not name a group of a segment with this id, and no group with a lower number is left out
+-- the order leaves out a group of a segment with this id, and no group with a lower number
 pub record IsLeftOut (segments : List (List Entry)) (qs : List Part) (order : List ℕ) (id : ℕ) : Type 0 where
   pub number : ℕ
   pub below : number < count_of segments qs
@@ -90,8 +90,8 @@ IsRebuildFault segments qs order fault.Clash = ¬ IsClean (among (segments_bag s
 IsRebuildFault segments qs order (fault.Stray k) =
     (e : Entry) × IsAmong e (segments_bag segments) × IsStray qs e k
 
--- Nothing but memory can stop it: the ids differ, no two objects of one key and version do, each key has a partition,
--- and the order names each group once.
+-- Nothing but want of memory can stop the rebuild: the ids differ, no two objects of one key and version have
+-- different values, each key has a partition, and the order names each group once.
 pub record CanBeRebuilt (segments : List (List Entry)) (qs : List Part) (order : List ℕ) : Type 0 where
   pub ids : IsDistinct (λ (a b : ℕ). a == b) (ids_of segments)
   pub clean : IsClean (among (segments_bag segments))

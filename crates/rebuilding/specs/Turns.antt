@@ -23,7 +23,7 @@ use Rattle.claims.specs.declared.fault.ReplayFault.TheVariants as fault
 abbrev pub all_groups : List Part → List (List Entry) → List Grouped
 all_groups qs segments = flat_map (λ (es : List Entry). groups_of qs (id_of es) es) segments
 
--- what the groups with these numbers have, in the order of the numbers
+-- the entries of the groups with these numbers, in the order of the numbers
 abbrev pub entries_in_turn : List Grouped → List ℕ → List (List Entry)
 entries_in_turn groups order =
     map (λ (n : ℕ). slice_index_or (map (λ (g : Grouped). g.entries) groups) n []) order
@@ -36,7 +36,7 @@ replayed segments qs order = entries_in_turn (all_groups qs segments) order
 abbrev pub AreAllCovered : List Part → List (List Entry) → Type 0
 AreAllCovered qs segments = (es : List Entry) → IsAmong es segments → AreCovered qs es
 
--- why the segments have no groups
+-- why the segments are not divided into groups
 abbrev pub IsGroupsFault : List Part → List (List Entry) → ReplayFault → Type 0
 IsGroupsFault qs segments fault.NoMemory = ⊤
 IsGroupsFault qs segments (fault.Stray k) = (e : Entry) × IsAmong e (segments_bag segments) × IsStray qs e k
@@ -65,7 +65,7 @@ pub record IsTwice (count : ℕ) (order : List ℕ) (n : ℕ) : Type 0 where
   pub one : slice_index order first ≡ n
   pub other : slice_index order second ≡ n
 
--- the order does not have this number, and has each below it
+-- the order lacks this number, and has each lower one
 pub record IsOmitted (count : ℕ) (order : List ℕ) (n : ℕ) : Type 0 where
   pub below : n < count
   pub missing : ¬ IsAmong n order
@@ -78,7 +78,7 @@ IsMisnamed count order misnamed.Stranger = (n : ℕ) × IsAmong n order × (coun
 IsMisnamed count order (misnamed.Twice n) = IsTwice count order n
 IsMisnamed count order (misnamed.LeftOut n) = IsOmitted count order n
 
--- the numbers at the first places of the order are marked, no others are, and they differ
+-- the numbers at the first `places` places of the order are marked, no others are, and they all differ
 pub record AreMarked (order : List ℕ) (places : ℕ) (named : List Bool) : Type 0 where
   pub marked : (i : ℕ) → i < places → slice_index_or named (slice_index order i) false ≡ true
   pub only : (n : ℕ) → slice_index_or named n false ≡ true → (i : ℕ) × (i < places) × (slice_index order i ≡ n)
@@ -86,7 +86,7 @@ pub record AreMarked (order : List ℕ) (places : ℕ) (named : List Bool) : Typ
 
 -- ---- ids
 
--- these two segments have one id
+-- the segments at these two places have the same id
 pub record AreTwins (ids : List ℕ) (first second : ℕ) : Type 0 where
   pub apart : first < second
   pub within : second < length ids

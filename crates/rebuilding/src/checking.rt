@@ -1,4 +1,4 @@
-//! Whether a log can be rebuilt by its ids, in this order.
+//! Tests the order in which groups are replayed, and the ids of the segments.
 
 ghost use Rattle.std.specs.Prelude.{◌≡◌, IfErr, IfOk, OnOk};
 ghost use Rattle.rebuilding.specs.Rebuilds.{AreApart, IsRebuildFault, NamesEach, count_of, ids_of};
@@ -11,7 +11,7 @@ use segment::SegmentRef;
 use std::alloc::Global;
 use tablet_will::Will;
 
-/// Tests that no two segments have one id. The order names each group.
+/// Tests that no two segments have the same id. The order has to name each group.
 fn check_ids(segments: &[SegmentRef<'_>], will: &Will, order: &[usize]) -> Result<(), ReplayFault>
     requires { NamesEach (count_of segments.now will.now) order.now }
     ensures ok { OnOk result (AreApart (ids_of segments.now)) }
@@ -24,9 +24,10 @@ fn check_ids(segments: &[SegmentRef<'_>], will: &Will, order: &[usize]) -> Resul
     }
 }
 
-/// Tests that the order names each group of the segments, once, and that no two segments have one id. It answers how
-/// many groups there are. Of the segments it reads the headers alone. For s segments and p partitions it takes s p
-/// steps, and at most s s more if the segments' ids don't rise. If memory runs out, it goes over the order once more.
+/// Tests that the order names each group of the segments once, and that no two segments have the same id, and answers
+/// how many groups there are. It reads only the headers of the segments. For s segments and p partitions it takes s p
+/// steps, and at most s s more if the segments' ids don't rise. If memory runs out, it reads the order up to four
+/// times more.
 pub fn check_order(
     alloc: Global,
     segments: &[SegmentRef<'_>],

@@ -14,7 +14,7 @@ pub fn id_at(segments: &[SegmentRef<'_>], at: usize) -> u64
     segments[at].header().segment
 }
 
-/// The first of so many segments that has this id.
+/// The place of the first segment with this id, among the first `count` segments.
 fn place_of(segments: &[SegmentRef<'_>], count: usize, id: u64) -> Option<usize>
     requires { count ≤ length segments.now }
     ensures some { IfSome result (λ place. (place < count) × (slice_index (ids_of segments.now) place ≡ id)) }
@@ -28,8 +28,8 @@ fn place_of(segments: &[SegmentRef<'_>], count: usize, id: u64) -> Option<usize>
     None
 }
 
-/// The places of two segments that have one id. It takes no memory, and looks back only from an id that is not the
-/// greatest so far.
+/// The places of two segments that have the same id. It takes no memory, and compares an id with those before it only
+/// if it is not the greatest so far.
 pub fn twins(segments: &[SegmentRef<'_>]) -> Option<(usize, usize)>
     ensures some { IfSome result (λ places. AreTwins (ids_of segments.now) places.0 places.1) }
     ensures none { IfNone result (AreApart (ids_of segments.now)) }

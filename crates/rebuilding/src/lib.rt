@@ -1,4 +1,4 @@
-//! What the log of a plan stands for: the objects that are left, and a safe version for what follows.
+//! Rebuilds what the log of a plan stands for: the objects that are left, and a safe version for what follows.
 //!
 //! The layers above use `rebuild_plain` and `rebuild`: with Ok the objects are what the segments mean, in order, each
 //! key once. `GroupOrder` says in which order the groups are replayed. Nothing here knows a master: what is rebuilt

@@ -1,4 +1,4 @@
-//! Whether an order names each number below a count, once.
+//! Tests whether an order names each number below a count once.
 
 ghost use Rattle.std.specs.Prelude.{◌≡◌, length, IfOk, IfErr, OnOk};
 ghost use Rattle.rebuilding.specs.Rebuilds.{NamesEach};
@@ -6,7 +6,7 @@ ghost use Rattle.rebuilding.specs.Turns.{AreMarked, IsMisnamed};
 
 use std::alloc::Global;
 
-/// Why an order does not name each number below a count, once.
+/// Why an order does not name each number below a count exactly once.
 #[derive(Clone, Copy, PartialEq, Eq)]
 pub enum Misnamed {
     /// Memory ran out. Each number of the order is below the count.
@@ -19,7 +19,7 @@ pub enum Misnamed {
     LeftOut(usize),
 }
 
-/// What shows of the order without memory.
+/// The fault of an order that shows without memory: Stranger if the order has one, else NoMemory.
 fn unmarked(count: usize, order: &[usize]) -> Misnamed
     ensures { IsMisnamed count order.now result }
 {
@@ -31,7 +31,7 @@ fn unmarked(count: usize, order: &[usize]) -> Misnamed
     Misnamed::NoMemory
 }
 
-/// A mark for each number below the count that the order names. No number is named twice.
+/// Marks each number below the count that the order names. With Ok no number is named twice.
 fn marks(alloc: Global, count: usize, order: &[usize]) -> Result<Vec<bool>, Misnamed>
     ensures long { IfOk result (λ named. length named.items ≡ count) }
     ensures ok { IfOk result (λ named. AreMarked order.now (length order.now) named.items) }
@@ -52,7 +52,8 @@ fn marks(alloc: Global, count: usize, order: &[usize]) -> Result<Vec<bool>, Misn
     Ok(named)
 }
 
-/// Tests whether the order names each number below the count, once. Twice names the first number that comes again.
+/// Tests whether the order names each number below the count exactly once. Twice has the first number that comes
+/// again.
 pub fn check_naming(alloc: Global, count: usize, order: &[usize]) -> Result<(), Misnamed>
     ensures ok { OnOk result (NamesEach count order.now) }
     ensures fault { IfErr result (IsMisnamed count order.now) }

@@ -25,14 +25,14 @@ pub enum GroupOrder {
     Given(Row<usize>),
 }
 
-/// The numbers from 0 on, as many as this.
+/// The numbers from 0 to `count` - 1.
 fn counted(alloc: Global, count: usize) -> Result<Vec<usize>, NoMemory>
     ensures { IfOk result (λ numbers. numbers.items ≡ range_with_len 0 count) }
 {
     (0..count).collect(alloc)
 }
 
-/// The numbers of so many groups, in this order. With Given they are the given ones, however many there are.
+/// The numbers of `count` groups, in this order. With Given they are the given ones, however many there are.
 pub fn numbers(alloc: Global, order: &GroupOrder, count: usize) -> Result<Vec<usize>, NoMemory>
     ensures { IfOk result (λ numbers. numbers.items ≡ order_of order.now count) }
 {
@@ -47,8 +47,8 @@ pub fn numbers(alloc: Global, order: &GroupOrder, count: usize) -> Result<Vec<us
     }
 }
 
-/// Why an order is not written out: two segments have one id, or memory ran out. With Given it is what shows of the
-/// numbers without memory.
+/// The fault if there is no memory to write the numbers of an order out. With Given it is the fault that the numbers
+/// show without memory. Otherwise it is a Double if two segments have the same id, and else NoMemory.
 fn unwritten(segments: &[SegmentRef<'_>], will: &Will, order: &GroupOrder) -> ReplayFault
     ensures { IsRebuildFault segments.now will.now (order_of order.now (count_of segments.now will.now)) result }
 {
@@ -59,8 +59,9 @@ fn unwritten(segments: &[SegmentRef<'_>], will: &Will, order: &GroupOrder) -> Re
     }
 }
 
-/// The numbers of the groups of a plan that is divided by the will, in this order. More groups than a `usize` counts
-/// are taken as want of memory. A fault of the order or of the ids that shows without memory goes first.
+/// The numbers of the groups of a plan that is divided by the will, in this order. If a `usize` can't hold the number
+/// of groups, the call is refused as if memory ran out. A fault of the order or of the ids that shows without memory
+/// goes before NoMemory.
 pub fn numbers_for(
     alloc: Global,
     plan: &Plan<'_>,

@@ -9,8 +9,8 @@ use claims::{Rebuilt, ReplayFault, claims_in, rebuilt_from};
 use recovery_plan::Plan;
 use std::alloc::Global;
 
-/// The objects that the plan's segments mean, in memory of their own. Two values of one key and version are a Clash,
-/// even if a later version covers them. For n entries it takes n log n steps.
+/// Rebuilds the objects that the plan's segments mean, in memory of their own. Two values of one key and version are a
+/// Clash, even if a later version covers them. For n entries it takes n log n steps.
 pub fn rebuild_plain(alloc: Global, plan: &Plan<'_>) -> Result<Rebuilt, ReplayFault>
     ensures ok { IfOk result (IsRebuilt plan.now.segments plan.now.safe) }
     ensures clean { OnOk result (IsClean (among (segments_bag plan.now.segments))) }

@@ -21,7 +21,7 @@ use segment::SegmentRef;
 use std::alloc::Global;
 use tablet_will::Will;
 
-/// Puts the groups behind the others.
+/// Appends the groups to the list.
 fn append<'a>(all: &mut Vec<Group<'a>>, groups: Vec<Group<'a>>) -> Result<(), NoMemory>
     ensures { OnOk result (all.new.items ≡ all.old.items ++ groups.entry.items) }
 {
@@ -32,7 +32,8 @@ fn append<'a>(all: &mut Vec<Group<'a>>, groups: Vec<Group<'a>>) -> Result<(), No
     Ok(())
 }
 
-/// Why a log is not rebuilt whose segment was not divided. A Stray is named by a key of its own, if memory allows.
+/// The fault of a rebuild if a segment can't be divided. A Stray has a copy of the key. If memory for the copy runs
+/// out, the fault is NoMemory.
 fn refused(alloc: Global, fault: &DivideFault<'_>) -> ReplayFault
     ensures { IsPassedOn fault.now result }
 {
@@ -68,7 +69,7 @@ fn groups_in<'a>(
     Ok(all)
 }
 
-/// How many entries the groups have, for room.
+/// How many entries the groups have in all, to reserve memory for their claims.
 fn count_entries(groups: &[Group<'_>]) -> usize {
     let mut count: usize = 0;
     for group in groups {
@@ -77,7 +78,7 @@ fn count_entries(groups: &[Group<'_>]) -> usize {
     count
 }
 
-/// What the groups claim, group by group in this order.
+/// The claims of the groups' entries, group by group in this order.
 fn claims_in_order<'a>(
     alloc: Global,
     groups: &[Group<'a>],
@@ -95,7 +96,7 @@ fn claims_in_order<'a>(
     Ok(claims)
 }
 
-/// What the segments claim, divided by the will and gathered in this order.
+/// The claims of the segments' entries. The will divides the segments, and the groups are taken in this order.
 fn claims_divided<'a>(
     alloc: Global,
     segments: &[SegmentRef<'a>],
@@ -115,17 +116,22 @@ fn claims_divided<'a>(
     Ok(claims_in_order(alloc, groups.as_slice(), order)?)
 }
 
-/// The objects that the plan's segments mean, in memory of their own. Each segment is divided by the will, and the
-/// groups of all partitions are taken in this order. Groups are counted from 0, segment by segment and of each segment
-/// by partition: group n is of segment n / partitions of the plan, and of partition n % partitions. With Ok the result
-/// is that of `rebuild_plain`, whatever the will and the order.
+/// Rebuilds the objects that the plan's segments mean, in memory of their own. Each segment is divided by the will,
+/// and the groups of all partitions are taken in this order. Groups are counted from 0, segment by segment and of each
+/// segment by partition: group n is of segment n / partitions of the plan, and of partition n % partitions. With Ok
+/// the result is that of `rebuild_plain`, whatever the will and the order.
 ///
-/// A Double names the segment of two groups of one partition that the order names: one group twice, or groups of two
-/// segments that have one id. A Stranger is a number of the order that is not below the count of groups. MissingGroup
-/// names the segment of the first group that the order leaves out. A Stray is the key of an entry, and in no partition.
-/// Two values of one key and version are a Clash, even if a later version covers them. NoMemory says that each number of
-/// the order is below the count of groups, and that the segments' ids differ if the order names each group once. If both
-/// hold, a clean log whose keys all have partitions fails for memory alone.
+/// - Double: two places of the order name groups of one partition, and both groups are of a segment with this id: one
+///   group that is named twice, or groups of two segments that have the same id.
+/// - Stranger: a number of the order is not below the count of groups.
+/// - MissingGroup: the id of the segment whose group is the first one that the order leaves out.
+/// - Stray: the key of an entry that is in no partition.
+/// - Clash: two values of one key and version, even if a later version covers them.
+/// - NoMemory: each number of the order is below the count of groups, and if the order names each group once, the ids
+/// of the segments differ.
+///
+/// If the order names each group once, the ids differ, the log is clean and each key has a partition, then only want
+/// of memory refuses.
 ///
 /// For n entries in s segments and p partitions it takes about n log n + s p steps, and at most s s more if the
 /// segments' ids don't rise.

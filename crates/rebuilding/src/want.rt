@@ -1,4 +1,4 @@
-//! What is answered if memory runs out. A fault that shows without memory goes first.
+//! Which fault is answered if memory runs out. A fault that shows without memory goes before NoMemory.
 
 ghost use Rattle.std.specs.Prelude.{◌≡◌, ◌*◌, ◌<◌, ◌≤◌, ℕ, List, true, false};
 ghost use Rattle.entry.specs.Bag.{IsAmong};
@@ -10,8 +10,8 @@ use claims::ReplayFault;
 use segment::SegmentRef;
 use tablet_will::Will;
 
-/// Whether a number of the order is that of no group of so many segments. Nothing is counted that a `usize` may not
-/// hold.
+/// Whether the order has a number that no group of these segments has. The groups are not counted, since a `usize` may
+/// not hold their number.
 fn has_stranger(order: &[usize], segments: usize, partitions: usize) -> bool
     requires { 0 < partitions }
     ensures yes { result ≡ true → (n : ℕ) × IsAmong n order.now × (segments * partitions ≤ n) }
@@ -39,8 +39,8 @@ fn names_first(order: &[usize], at: usize, partitions: usize) -> bool
     false
 }
 
-/// Why a log is not rebuilt if memory runs out: a Stranger, if the order has one; a Double, if the order names the first
-/// groups of two segments of one id; else NoMemory.
+/// The fault of a rebuild for which memory ran out: a Stranger, if the order has one; a Double, if the order names the
+/// first groups of two segments with the same id; else NoMemory.
 pub fn want_of_memory(segments: &[SegmentRef<'_>], will: &Will, order: &[usize]) -> ReplayFault
     ensures { IsRebuildFault segments.now will.now order.now result }
 {
@@ -60,8 +60,8 @@ pub fn want_of_memory(segments: &[SegmentRef<'_>], will: &Will, order: &[usize])
     ReplayFault::Double(id_at(segments, first))
 }
 
-/// Why a log is not rebuilt if memory runs out and the order names each group: a Double, if two segments have one id;
-/// else NoMemory.
+/// The fault if memory ran out and the order names each group: a Double, if two segments have the same id; else
+/// NoMemory.
 pub fn want_of_whole(segments: &[SegmentRef<'_>], will: &Will) -> ReplayFault
     ensures { (order : List ℕ) → NamesAll (count_of segments.now will.now) order →
         IsRebuildFault segments.now will.now order result }

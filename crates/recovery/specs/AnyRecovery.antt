@@ -25,8 +25,9 @@ pub record Recovers (inventory : List Holding) (least master : ℕ) (will : List
   pub prefix : IfOk recovered (IsSomePrefix inventory least master)
   pub loss : IfErr recovered (IsSomeLoss inventory least master will order)
 
--- A master took steps, and told its durable count and how many pushes an open failover still needed. Some backups of its
--- fleet are kept, and an inventory lists what they hold. Whatever keeps the promise above then has the headline.
+-- A master took steps, and told its durable count and how many pushes an open failover still needed. Some backups of
+-- its fleet are kept, and an inventory lists what they hold. Then the headline is true of each result that keeps the
+-- promise above.
 abbrev pub AnyRecoveryHasHeadline : Type 0
 AnyRecoveryHasHeadline = (start stop : World) (steps : List Step) (answers : List (Result StepAnswer Refusal))
     (durable pushes : ℕ) (kept : List ℕ) (inventory : List Holding) (will : List Part) (order : GroupOrder)

@@ -21,17 +21,17 @@ use Rattle.recovery.specs.Kept.{is_kept}
 use Rattle.recovery.specs.Orders.{Covers, NamesHeld}
 use Rattle.recovery.specs.Recovered.{IsRecovered, IsRebuiltFrom, IsRefusedFrom}
 
--- What comes back, or the fault, follows from what is shown, however it is listed. Or memory ran out.
+-- The result is that of some inventory which lists just what is shown. A fault may also be that memory ran out.
 abbrev pub IsOfHeld : Shown → ℕ → List Part → GroupOrder → Result Rebuilt RecoveryFault → Type 0
 IsOfHeld shown master will order (Ok r) = (inventory : List Holding) × AreHeld inventory shown.holds
     × IsRebuiltFrom inventory shown.least master will order r
 IsOfHeld shown master will order (Err e) = IsNoMemory e ⊎ ((inventory : List Holding) × AreHeld inventory shown.holds
     × IsRefusedFrom inventory shown.least master will order e)
 
--- The steps were taken from this start, and left this fleet. Whichever backups are kept, and however segments are
--- divided and replayed: what is recovered is exactly the map after a prefix that holds each durable command. If the
+-- From this start the steps were taken, and they left this fleet. Whichever backups are kept, and however segments are
+-- divided and replayed, what is recovered is exactly the map after a prefix that holds each durable command. If the
 -- will covers the tablets and the order names each group once, a refusal names the loss that hides the log, or memory
--- ran out, and only memory did if the head and the segments survive.
+-- ran out. If the head and the segments survive, only want of memory refuses.
 pub record IsDrill (start : World) (steps : List Step) (kept : List ℕ) (will : List Part) (order : GroupOrder)
     (answers : List (Result StepAnswer Refusal)) (recovered : Result Rebuilt RecoveryFault)
     (left : FleetState) : Type 0 where
@@ -50,7 +50,7 @@ pub record IsDrill (start : World) (steps : List Step) (kept : List ℕ) (will :
       (shown_of left stop.knows.config.master) stop.knows.config.master (is_kept kept)
       → IsNoMemory e))
 
--- The master told its durable count, and how many pushes an open failover still needed, as it stopped.
+-- As it stopped, the master told its durable count, and how many pushes an open failover still needed.
 pub record IsTold (start : World) (steps : List Step) (answers : List (Result StepAnswer Refusal)) (durable pushes : ℕ)
     (left : FleetState) : Type 0 where
   pub stop : World

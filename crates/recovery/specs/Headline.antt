@@ -76,7 +76,7 @@ abbrev pub IsIdlePush : Step → Result StepAnswer Refusal → Type 0
 IsIdlePush Push (Err Nothing) = Unit {0}
 IsIdlePush _ _ = ⊥
 
--- the last of the steps is such a push
+-- the last of the steps is a push that finds nothing to push
 abbrev pub EndsIdle : List Step → List (Result StepAnswer Refusal) → Type 0
 EndsIdle (step ∷ []) (answer ∷ []) = IsIdlePush step answer
 EndsIdle (step ∷ steps) (answer ∷ answers) = EndsIdle steps answers
@@ -90,21 +90,22 @@ pub data Asked : Type 0 where
   Backup : ℕ → ℕ → ActValue → Result Unit TakeFault → Asked
   Registry : ℕ → Result Unit TakeFault → Asked
 
--- the request, with its answer, turns the one fleet into the other
+-- the request, with its answer, turns the fleet f into the fleet g
 abbrev pub Makes : ℕ → Asked → FleetState → FleetState → Type 0
 Makes master (Backup b segment act answer) f g =
     TakeGives f b (record { master = master; segment = segment; act = act }) answer g
 Makes master (Registry id answer) f g = RaiseGives f master id answer g
 
--- all of these requests do, one after another
+-- the requests, one after another, turn the fleet f into the fleet g
 abbrev pub MakeOf : ℕ → FleetState → List Asked → FleetState → Type 0
 MakeOf master f [] g = g ≡ f
 MakeOf master f (a ∷ more) g = (mid : FleetState) × Makes master a f mid × MakeOf master mid more g
 
 -- ---- what comes back
 
--- Each key once, with the version and the value that the map has after this many of the commands. The durable ones,
--- which are the first, are among them. The safe version is above each version that a key had.
+-- Each key that has a value comes back once, with the version and the value that the map has after this many of the
+-- commands. The durable commands are among them: they are the first ones. The safe version is above each version that
+-- a key had.
 pub record IsMapAfter (opening : State) (history : List Record) (durable : ℕ) (r : Rebuilt) : Type 0 where
   pub count : ℕ
   pub holds : durable ≤ count
@@ -127,8 +128,8 @@ IsNoMemory (fault.Plan plan_fault.NoMemory) = Unit {0}
 IsNoMemory (fault.Replay replay_fault.NoMemory) = Unit {0}
 IsNoMemory _ = ⊥
 
--- Forward and Reverse name each group once. An order that a caller writes out need not, and is refused then by the
--- name of a group.
+-- Forward and Reverse name each group once. An order that a caller writes out may leave a group out or name it twice,
+-- and is refused then.
 abbrev pub IsWholeOrder : GroupOrder → Type 0
 IsWholeOrder Forward = Unit {0}
 IsWholeOrder Reverse = Unit {0}
@@ -167,8 +168,8 @@ pub record Headline (start : Seen) (steps : List Step) (answers : List (Result S
   -- 'it refuses only by naming a lost head or segment', or if memory runs out
   pub refuses : Covers start.tablets will → IsWholeOrder order → IfErr recovered (λ e. IsLoss e ⊎ IsNoMemory e)
   -- 'and never where both survive': if no failover is open, and fewer backups are lost than a segment has replicas,
-  -- then want of memory alone refuses. Or the map is empty, as it is before a head was ever open: then no head may be
-  -- left.
+  -- then only want of memory refuses. The exception is an empty map: it is empty before a head was ever open, and no
+  -- head may be left then.
   pub never : Covers start.tablets will → IsWholeOrder order → pushes ≡ 0
       → length (lost keep start.backups) < start.replicas
       → IfErr recovered (λ e. IsNoMemory e ⊎ IsEmpty (after start.opening (commands_of history)))

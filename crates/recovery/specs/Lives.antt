@@ -1,4 +1,4 @@
--- One life of a log after another: each begins with what was recovered of the one before it.
+-- Lives of a log one after another: each begins with what was recovered of the one before it.
 use Rattle.std.specs.Prelude.{◌≡◌, ℕ, ◌<◌, ◌≤◌, ◌⊎◌, List, [], ◌∷◌, ◌++◌, take, drop, Some}
 use Rattle.entry.specs.declared.key.Key.{Key}
 use Rattle.entry.specs.Bag.{IsAmong}
@@ -11,7 +11,7 @@ use Rattle.versioned_map.specs.Versioned.{State}
 use Rattle.replay.specs.master.failover_model.Data.{FailData, state_after}
 use Rattle.recovery.specs.Recovered.{IsRecovered}
 
--- a life, and what was recovered at its end, which is the map after so many of its commands
+-- one life: its log, and what was recovered at its end, which is the map after some number of its commands
 pub record Life : Type 0 where
   pub log : FailData
   pub recovered : Rebuilt
@@ -31,8 +31,8 @@ abbrev pub logs_of : List Life → FailData → List FailData
 logs_of [] on = on ∷ []
 logs_of (l ∷ ls) on = l.log ∷ logs_of ls on
 
--- Each of these lives ended in a recovery, and the next one begins with what was recovered. So does the life with this
--- log, which goes on.
+-- Each of these lives ended in a recovery. The next life begins with what was recovered, and after the last one the
+-- life with the log `on`, which goes on.
 abbrev pub AreLives : List Life → FailData → Type 0
 AreLives [] on = Unit {0}
 AreLives (l ∷ ls) on = ((first_log ls on).opening ≡ taken_over l.recovered) × AreLives ls on
@@ -58,18 +58,18 @@ recovered_of l = take l.found.count (commands_of l.log.history)
 
 -- ---- laws
 
--- What a key has in a life, up to the records that were recovered, it has in each later life too, or a greater version,
--- or nothing. The last of those is the life that goes on. What came after the records that were recovered is lost, and
--- its versions may be given again.
+-- Say a key has a version and a value in a life, after records that were recovered. In each later life, up to the one
+-- that goes on, it has the same version and value, or a greater version, or nothing. Records behind the recovered ones
+-- are lost, and their versions may be given again.
 abbrev pub VersionsRise : Type 0
 VersionsRise = (l : Life) (later : List Life) (on d : FailData) (a b : ℕ) (k : Key) (x y : Versioned)
     → AreLives (l ∷ later) on → IsAmong d (logs_of later on)
     → a ≤ l.found.count → (state_after l.log a).contents k ≡ Some x
     → (state_after d b).contents k ≡ Some y → IsSameOrNewer x y
 
--- What a key has after records that were recovered, the acknowledged ones among them, it has in each later life too, up
--- to the one that goes on, unless a put or delete of it comes between: of those that were recovered, or in the later
--- life itself.
+-- Say a key has a version and a value in a life, after records that were recovered, as the acknowledged ones are. It
+-- has them in each later life too, up to the one that goes on, unless a put or delete of it comes between: among the
+-- records that were recovered, or in the later life itself.
 abbrev pub AcknowledgedOutlive : Type 0
 AcknowledgedOutlive = (l : Life) (between later : List Life) (on : FailData) (a b : ℕ) (k : Key)
     → AreLives (l ∷ (between ++ later)) on → a ≤ l.found.count

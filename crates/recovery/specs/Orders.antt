@@ -14,25 +14,25 @@ use Rattle.rebuilding.specs.Orders.{order_for}
 
 -- ---- orders
 
--- Of each plan of the inventory the order names each group once.
+-- The order names each group of each plan of the inventory once.
 abbrev pub NamesGroups : List Holding → ℕ → ℕ → List Part → GroupOrder → Type 0
 NamesGroups inventory least master will order = (plan : Plan) → IsPlan inventory least master plan
     → IsOrderOf (count_of plan.segments will) (order_for plan will order)
 
--- the same of what is shown, however it is listed
+-- the order does so for each inventory that lists just what is shown
 abbrev pub NamesHeld : Shown → ℕ → List Part → GroupOrder → Type 0
 NamesHeld shown master will order =
     (inventory : List Holding) → AreHeld inventory shown.holds → NamesGroups inventory shown.least master will order
 
 -- ---- wills
 
--- each place of the tablets has a partition
+-- each place of the tablets has a partition in the will
 abbrev pub Covers : List Tablet → List Part → Type 0
 Covers ts qs = (table place : ℕ) → is_in_one ts table place ≡ true → is_some (partition_at qs table place) ≡ true
 
 -- ---- a law
 
--- Forward and Reverse name each group once, of whatever plan.
+-- Forward and Reverse name each group of any plan once.
 abbrev pub OrdersNameGroups : Type 0
 OrdersNameGroups = (inventory : List Holding) (least master : ℕ) (will : List Part)
     → NamesGroups inventory least master will Forward × NamesGroups inventory least master will Reverse

@@ -23,7 +23,7 @@ use Rattle.rebuilding.specs.declared.order.GroupOrder.{GroupOrder}
 use Rattle.recovery.specs.Headline.{IsLoss, IsMapAfter, IsNoMemory}
 use Rattle.recovery.specs.Orders.{Covers, NamesGroups}
 
--- the inventory has of this master just what is shown
+-- of this master's replicas the inventory lists just those that are shown
 abbrev pub Shows : List Holding → Shown → ℕ → Type 0
 Shows inventory shown master = (h : Holding) → h.master ≡ master → IsAmong h inventory ↔ IsHeld shown.holds h
 
@@ -45,15 +45,15 @@ AcknowledgedAreRecovered = (d : FailData) (r : Rebuilt) (answered : List ℕ) (f
 
 -- ---- any sound state, whatever it is
 
--- of whatever sound state the inventory shows a part, with this least head: the map after a prefix of its commands,
--- each durable one among them
+-- Say the inventory lists what is left of some sound state of the master, with this least head. Then the result is the
+-- map after a prefix of that state's commands, with each durable one in it.
 abbrev pub IsSomePrefix : List Holding → ℕ → ℕ → Rebuilt → Type 0
 IsSomePrefix inventory least master r = (d : FailData) (shown : Shown) (keep : ℕ → Bool)
     → IsSoundInBytes master d shown → d.config.master ≡ master → shown.least ≡ least
     → Shows inventory (survivors keep shown) master → IsRecovered d r
 
--- Of such a state: a loss, or memory ran out; and memory alone if both the newest head that counts and the segments
--- survive. The will covers the tablets, and the order names each group once.
+-- Say such a state is given, the will covers the tablets, and the order names each group once. Then the fault is a
+-- loss, or memory ran out. If both the newest head that counts and the segments survive, memory ran out.
 abbrev pub IsSomeLoss : List Holding → ℕ → ℕ → List Part → GroupOrder → RecoveryFault → Type 0
 IsSomeLoss inventory least master will order e = (d : FailData) (shown : Shown) (keep : ℕ → Bool) (newest : Option ℕ)
     → IsSoundInBytes master d shown → IsNewestOpenedOrNone (IsOpenedHead d master shown) shown.least newest
@@ -64,8 +64,8 @@ IsSomeLoss inventory least master will order e = (d : FailData) (shown : Shown) 
 
 -- ---- any inventory, whatever it shows
 
--- What the log of a plan of the inventory stands for. The will divides the log, and sends each key somewhere. The
--- groups are replayed in the order, which names each once: it is what they have, in their turn, that is rebuilt.
+-- The result is what the log of a plan of the inventory stands for. The will gives each key of that log a partition,
+-- and the order names each group once. Replaying the groups in that order gives the same result.
 pub record IsRebuiltFrom (inventory : List Holding) (least master : ℕ) (will : List Part) (order : GroupOrder)
     (r : Rebuilt) : Type 0 where
   pub plan : Plan
@@ -75,7 +75,7 @@ pub record IsRebuiltFrom (inventory : List Holding) (least master : ℕ) (will :
   pub rebuilt : IsRebuilt plan.segments plan.safe r
   pub turns : IsRebuilt (replayed plan.segments will (order_for plan will order)) plan.safe r
 
--- The inventory has the fault: there is no plan of it, or the log of its plan is refused, by this will or this order.
+-- The inventory has the fault: there is no plan of it, or this will or this order makes the log of its plan refused.
 abbrev pub IsRefusedFrom : List Holding → ℕ → ℕ → List Part → GroupOrder → RecoveryFault → Type 0
 IsRefusedFrom inventory least master will order (fault.Plan loss) =
     IsPlanFault inventory least master loss × NamesLoss inventory least master loss

@@ -1,4 +1,4 @@
--- Lives that are drilled one after another. Each is ended and recovered, and a new master goes on with what came back.
+-- Lives one after another: each is ended and recovered, and a new master goes on with what came back.
 use Rattle.std.specs.Prelude.{◌≡◌, ℕ, suc, ◌<◌, ◌^◌, ◌-◌, List, [], ◌∷◌, ◌++◌, Result, Ok, Err, None}
 use Rattle.replica.specs.Picture.{FleetState}
 use Rattle.replica.specs.Retire.{Retires}
@@ -41,14 +41,14 @@ next_config c = with_number (suc c.master) c
 
 -- ---- one life
 
--- a drill of a master, as a course says
+-- a drill with the steps, the kept backups, the will and the order of a course
 abbrev pub IsDrillBy : World → Course → List (Result StepAnswer Refusal) → Result Rebuilt RecoveryFault → FleetState
     → Type 0
 IsDrillBy start c answers recovered left =
     IsDrill start c.steps.items c.kept.items c.will c.order answers recovered left
 
--- A new master of this configuration adopted the list on this fleet, and the replicas of all others were freed, or that
--- ended in a fault. A fault of a backup halts it.
+-- A new master of this configuration adopted the list on this fleet. Then the replicas of all other masters were
+-- freed, or the freeing ended in a fault. A fault of a backup halts the new master.
 pub record IsSuccessor (c : Config) (r : Rebuilt) (left : FleetState) (retired : Result Unit TakeFault)
     (next : World) : Type 0 where
   pub adopted : IsAdopted c r next.knows
@@ -64,7 +64,7 @@ pub record IsLived (start : World) (course : Course) (lived : Lived) (next : Wor
   pub drill : IsDrillBy start course lived.answers.items (Ok lived.recovered) left
   pub succeeds : IsSuccessor (next_config start.knows.config) lived.recovered left lived.retired next
 
--- No master took over the list: there is no greater number, or the adoption was refused.
+-- No new master took over the list: there is no greater number, or the adoption was refused.
 abbrev pub IsNotAdopted : Config → Rebuilt → FleetState → NotAdopted → FleetState → Type 0
 IsNotAdopted c r left not_adopted.NumbersSpent new = (c.master ≡ 2 ^ 64 - 1) × (new ≡ left)
 IsNotAdopted c r left (not_adopted.Refused why) new = DeclinesList (next_config c) r left why new
@@ -82,20 +82,22 @@ IsLast state start c (the_end.NotAdopted d why) = (r : Rebuilt) × (d.recovered 
 
 -- ---- many lives
 
--- the lives, one after another, from one start to the next one
+-- the courses were lived one after another: the first life began with `start`, and the life after them begins with
+-- `last`
 abbrev pub AreLived : World → List Course → List Lived → World → Type 0
 AreLived start [] [] last = last ≡ start
 AreLived start (c ∷ cs) (l ∷ ls) last = (next : World) × IsLived start c l next × AreLived next cs ls last
 AreLived start [] (l ∷ ls) last = ⊥
 AreLived start (c ∷ cs) [] last = ⊥
 
--- what there is at the end: the next master, if no life is left, or what the first of these ended with
+-- how the row of lives ends: with the next master if no course is left, or else with what made the first course left
+-- the last one
 abbrev pub EndsIn : {F : Type 0} → (F → FleetState) → World → List Course → End F → Type 0
 EndsIn state last [] (the_end.Up m) = world state m ≡ last
 EndsIn state last [] _ = ⊥
 EndsIn state last (c ∷ cs) e = IsLast state last c e
 
--- The first of the courses were lived, one after another, and it ended with the rest.
+-- The first of the courses were lived, one after another, and the row of lives ended before the rest.
 pub record AreDrilled {F : Type 0} (state : F → FleetState) (start : World) (courses : List Course) (lived : List Lived)
     (ended : End F) : Type 0 where
   pub done : List Course
@@ -119,8 +121,8 @@ lives_of start (c ∷ cs) (l ∷ ls) last are = life_of start c l are.0 are.1 �
 lives_of start [] (l ∷ ls) last are = []
 lives_of start (c ∷ cs) [] last are = []
 
--- Lives that were lived one after another each begin with what was recovered of the one before. So does the life that
--- goes on, whatever steps it takes.
+-- Lives that were lived one after another each begin with what was recovered of the one before. The life that goes on
+-- also does, whatever steps it takes.
 abbrev pub DrilledAreLives : Type 0
 DrilledAreLives = (start : World) (cs : List Course) (ls : List Lived) (last : World) (are : AreLived start cs ls last)
     → (steps : List Step) (answers : List (Result StepAnswer Refusal)) (now : World) → IsRun last steps answers now

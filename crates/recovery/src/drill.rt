@@ -1,4 +1,4 @@
-//! A master's steps, its end, and its recovery from what some backups hold.
+//! A master's steps, the end of that master, and its recovery from what some backups hold.
 
 ghost use Rattle.std.specs.Prelude.{◌≡◌, ◌≤◌, IfOk, IfErr};
 ghost use Rattle.replay.specs.master.World.{world};
@@ -18,8 +18,8 @@ use replica::Fleet;
 use std::alloc::Global;
 use tablet_will::Will;
 
-/// What the steps answered, how many commands were durable then, how many pushes an open failover still needed, what
-/// was recovered, and the fleet as it was left.
+/// What a drill gives: what each step answered, how many commands were durable as the master stopped, how many pushes
+/// an open failover still needed then, what was recovered, and the fleet as it was left.
 #[derive(Drop)]
 pub struct Drill<F> {
     pub answers: Vec<Result<StepAnswer, Refusal>>,
@@ -29,9 +29,9 @@ pub struct Drill<F> {
     pub fleet: F,
 }
 
-/// Lets a master take any steps, stops it, and recovers it from what these backups hold, and from nothing else, by any
-/// will and in any order. It may be a new master, or one that took over what was recovered. If memory for the answers
-/// runs out, the master comes back as it was.
+/// Lets a master take any steps, stops it, and recovers it from what the backups in `kept` hold, and from nothing
+/// else, by any will and in any order. The master may be new, or one that took over what was recovered. If memory for
+/// the answers runs out, the master comes back as it was.
 pub fn run_drill<F: Fleet>(
     alloc: Global,
     master: Master<F>,

@@ -8,8 +8,8 @@ use entry::NoMemory;
 use replica::{Fleet, Inventory};
 use std::alloc::Global;
 
-/// All replicas that these backups hold, backup by backup. One that is named twice shows them twice. Their bytes stay
-/// with the backups.
+/// Lists all replicas that the backups in `kept` hold, backup by backup. The replicas of a backup that is named twice
+/// are listed twice. Their bytes stay with the backups. Only want of memory refuses the call.
 pub fn inventory_of<'f, F: Fleet>(
     alloc: Global,
     fleet: &'f F,

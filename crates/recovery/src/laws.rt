@@ -6,34 +6,33 @@ ghost use Rattle.recovery.specs.Orders.{OrdersNameGroups};
 ghost use Rattle.recovery.specs.Succession.{DrilledAreLives};
 ghost use Rattle.recovery.specs.Recovered.{AcknowledgedAreRecovered};
 
-/// Whichever of `recover` and `recover_threads` follows a run, the headline is true of what it gives.
+/// The headline is true of each recovery that follows a run, whether `recover` or `recover_threads` makes it.
 pub fn any_recovery_has_headline()
     ensures { AnyRecoveryHasHeadline }
 {}
 
-/// A recovered prefix holds every acknowledged command.
+/// If only durable commands are answered, the prefix that a recovery gives back holds every acknowledged command.
 pub fn acknowledged_recovered()
     ensures { AcknowledgedAreRecovered }
 {}
 
-/// Forward and Reverse name each group of a plan once, so a recovery by either refuses for a loss or memory alone.
+/// The orders Forward and Reverse name each group of any plan once, as the clause `refused` of `recover` asks.
 pub fn orders_name_groups()
     ensures { OrdersNameGroups }
 {}
 
-/// Over lives that each begin with what was recovered of the one before, up to the life that goes on, the versions of a
-/// key rise.
+/// Lives follow one another, and each begins with what was recovered of the one before. Of what was recovered, a key
+/// never has a lower version in a later life, nor another value at the same version.
 pub fn versions_rise()
     ensures { VersionsRise }
 {}
 
-/// What a key has after acknowledged records it has in each later life, unless a put or delete of it comes between.
+/// A key has in each later life what it had after acknowledged commands, unless a put or delete of it comes between.
 pub fn acknowledged_outlive()
     ensures { AcknowledgedOutlive }
 {}
 
-/// Lives that `run_lives` lived follow one another, and the life that goes on follows them. So the laws above hold of
-/// them.
+/// The lives of `run_lives` follow one another as the laws above ask, and the life that goes on follows them.
 pub fn drilled_are_lives()
     ensures { DrilledAreLives }
 {}

@@ -1,10 +1,11 @@
-//! The theorem on recovery: what some backups still hold of a master gives back its map after a prefix of its commands.
+//! The theorem on recovery: from what some backups still hold of a master, a recovery rebuilds the master's map after
+//! a prefix of its commands.
 //!
-//! `recover` promises it for any sound state of which an inventory shows a part, and `run_drill` for a whole life: any
-//! steps of any master, its end, and the recovery from what these backups hold. Segments are divided by any will, and
-//! their groups replayed in any order. Both rest on the definitions of `failover_bytes` and `failover_model` alone: what
-//! a sound picture is, and what was durable. `specs/Recovered.antt` defines what comes back, `specs/Orders.antt` which
-//! wills cover the tablets.
+//! `recover` promises this for each sound state of a master of which an inventory shows a part. `run_drill` promises
+//! it for a whole life: any steps of any master, its end, and the recovery from the backups that are kept. Any will
+//! may divide the segments, and their groups may be replayed in any order. Both promises rest on the definitions of
+//! `failover_bytes` and `failover_model` alone: what a sound picture is, and which commands are durable.
+//! `specs/Recovered.antt` defines what comes back, and `specs/Orders.antt` which wills cover the tablets.
 #![tactic(auto)]
 
 mod drill;

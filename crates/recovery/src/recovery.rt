@@ -40,8 +40,8 @@ impl fmt::Display for RecoveryFault {
     }
 }
 
-/// Rebuilds the plan by the will, group by group in this order. More groups than a `usize` counts are taken as want of
-/// memory.
+/// Rebuilds the log of the plan. The will divides its segments into groups, which are replayed in this order. If a
+/// `usize` can't hold the number of groups, the call is refused as if memory ran out.
 fn rebuild_in(
     alloc: Global,
     plan: &Plan<'_>,
@@ -65,9 +65,9 @@ fn rebuild_in(
     }
 }
 
-/// The objects of a master, and a safe version for what follows, from what some backups hold, if this is the least head
-/// that may be used. The will says how each segment is divided into groups, and the order in which turn each group is
-/// replayed.
+/// Rebuilds the objects of a master, and a safe version for what follows, from what some backups hold. `least` is the
+/// lowest number of a head that may be used. The will says how each segment is divided into groups, and the order in
+/// which turn the groups are replayed.
 pub fn recover(
     alloc: Global,
     inventory: &Inventory<'_>,
@@ -76,13 +76,13 @@ pub fn recover(
     will: &Will,
     order: &GroupOrder,
 ) -> Result<Rebuilt, RecoveryFault>
-    // Of whatever sound state of the master the inventory shows what some backups still hold: exactly the map after a
-    // prefix of its commands, each durable one among them. So it is by any will and in any order.
+    // The inventory may show what some backups still hold of any sound state of the master. Whatever the will and the
+    // order, the result is exactly the map after a prefix of that state's commands, with each durable command in it.
     ensures ok { IfOk result (IsSomePrefix inventory.now least master) }
-    // Of such a state a fault is a lost head or segment, or memory ran out; and a loss comes only if it hides the log.
-    // The will must cover the tablets, and the order name each group once.
+    // If the will covers the tablets and the order names each group once, a fault for such a state names a lost head
+    // or segment, or memory ran out. If the newest head and the segments survive, only want of memory refuses.
     ensures refused { IfErr result (IsSomeLoss inventory.now least master will.now order.now) }
-    // Of any inventory: what comes back, or the fault, follows from it.
+    // For any inventory: the result, or the fault, follows from the inventory, the will and the order.
     ensures rebuilt { IfOk result (IsRebuiltFrom inventory.now least master will.now order.now) }
     ensures fault { IfErr result (IsRefusedFrom inventory.now least master will.now order.now) }
 {

@@ -1,4 +1,4 @@
-//! Lives that are drilled one after another.
+//! Lives one after another: each is ended and recovered, and a new master goes on with what came back.
 
 ghost use Rattle.std.specs.Prelude.{◌≡◌, ◌≤◌, suc, None, IfOk, IfErr};
 ghost use Rattle.replay.specs.master.master_state.Config.{config_fault};
@@ -17,17 +17,18 @@ use replica::{Bench, Fleet, TakeFault};
 use std::alloc::Global;
 use tablet_will::Will;
 
-/// What a life does, and how it is recovered.
+/// The steps of one life, and the backups, the will and the order of its recovery.
 #[derive(Drop)]
 pub struct Course {
     pub steps: Vec<Step>,
-    /// The backups that are asked.
+    /// The backups that the recovery asks.
     pub kept: Vec<u64>,
     pub will: Will,
     pub order: GroupOrder,
 }
 
-/// What the steps of a life answered, what was recovered and adopted, and how the replicas of the life were freed.
+/// A life that a new master took over: what its steps answered, what was recovered and adopted, and whether the new
+/// master freed the replicas of all other masters.
 #[derive(Drop)]
 pub struct Lived {
     pub answers: Vec<Result<StepAnswer, Refusal>>,
@@ -35,35 +36,35 @@ pub struct Lived {
     pub retired: Result<(), TakeFault>,
 }
 
-/// Why no master took over what was recovered.
+/// Why no new master took over what was recovered.
 #[derive(Drop)]
 pub enum NotAdopted {
-    /// There is no greater number than the master's.
+    /// The master has the greatest number of all, 2^64 - 1, so no number is left for a new one.
     NumbersSpent,
     Refused(Refusal),
 }
 
-/// What there is after the last life.
+/// How a row of lives ended.
 #[derive(Drop)]
 pub enum End<F: Fleet> {
-    /// Each life was lived, and this master goes on.
+    /// Each course was lived, and this master goes on.
     Up(Master<F>),
-    /// Memory ran out before the first step of the next life. This is its master.
+    /// Memory ran out before the next life took a step. This is the master of that life, as it was.
     NoMemory(Master<F>),
     /// The recovery of this life was refused.
     NotRecovered(Drill<F>),
-    /// No master took over what was recovered of this life.
+    /// This life was recovered, and no new master took over what was recovered.
     NotAdopted(Drill<F>, NotAdopted),
 }
 
-/// The lives that were lived, and what there is after them.
+/// The lives that were lived, and how the row of them ended.
 #[derive(Drop)]
 pub struct Drills<F: Fleet> {
     pub lived: Vec<Lived>,
     pub end: End<F>,
 }
 
-/// The configuration, for the master with this number.
+/// The configuration, with this number for the master.
 fn numbered(alloc: Global, config: &Config, master: u64) -> Result<Config, NoMemory>
     ensures { IfOk result (λ c. c ≡ with_number master config.now) }
 {
@@ -83,7 +84,7 @@ fn numbered(alloc: Global, config: &Config, master: u64) -> Result<Config, NoMem
     })
 }
 
-/// A new master that begins with the list, and frees the replicas of all others. Its number is one more than this.
+/// Makes a new master with the next number. It begins with the list, and frees the replicas of all other masters.
 fn succeed<F: Bench>(
     alloc: Global,
     config: &Config,
@@ -115,7 +116,8 @@ fn succeed<F: Bench>(
     Ok((master, retired))
 }
 
-/// One life, its recovery, and the next master. The configuration is that of the master, but for the number.
+/// Lives one life, recovers it, and makes the next master. `config` is that of the master, except for the master's
+/// number.
 fn live<F: Bench>(
     alloc: Global,
     master: Master<F>,
@@ -183,12 +185,14 @@ fn live<F: Bench>(
     }
 }
 
-/// Lives one life after another: its steps, its end, its recovery from what these backups hold, and a new master that
-/// adopts what was recovered and frees the replicas of all others. The new master has the number of the last one and
-/// one more, and is else configured alike. There may have been no master with a greater number than the first one's.
-/// It stops if a recovery or an adoption is refused, or if memory runs out, and hands back what there is. If replicas
-/// of earlier masters stay because their freeing ended in a fault, the next life goes on beside them; after a fault of
-/// a backup its master is halted, and the life after it takes over.
+/// Lives one life after another. A life is the steps of its master, its end, its recovery from the backups that its
+/// course keeps, and a new master that adopts what was recovered and frees the replicas of all other masters. The new
+/// master has the next number, and else the same configuration. There may have been no master with a greater number
+/// than the first one's.
+///
+/// The row of lives ends early if a recovery or an adoption is refused, or if memory runs out, and the call hands back
+/// what there is. If the freeing of replicas ends in a fault, the replicas of earlier masters stay, and the next life
+/// goes on beside them. A fault of a backup also halts the master of that life, and the life after it takes over.
 pub fn run_lives<F: Bench>(
     alloc: Global,
     master: Master<F>,

@@ -21,7 +21,8 @@ use std::sync::Wait;
 use std::thread::Threads;
 use tablet_will::Will;
 
-/// Rebuilds the plan by the will, group by group in this order, by so many workers.
+/// Rebuilds the log of the plan by this many workers. The will divides it into groups, which are replayed in this
+/// order.
 fn rebuild_in_threads<R: Threads + Wait + Sync, G: Gate + Sync>(
     rt: &R,
     alloc: Global,
@@ -49,8 +50,8 @@ fn rebuild_in_threads<R: Threads + Wait + Sync, G: Gate + Sync>(
     }
 }
 
-/// What `recover` gives, by so many workers, each in a thread of its own: 1 to 64. Each tells the gate when it begins
-/// and when it ends.
+/// Recovers with 1 to 64 workers, each in a thread of its own, and promises what `recover` does. Each worker tells the
+/// gate when it begins and when it ends.
 pub fn recover_threads<R: Threads + Wait + Sync, G: Gate + Sync>(
     rt: &R,
     alloc: Global,
@@ -62,7 +63,7 @@ pub fn recover_threads<R: Threads + Wait + Sync, G: Gate + Sync>(
     workers: usize,
     gate: &G,
 ) -> Result<Rebuilt, RecoveryFault>
-    // The clauses of `recover`, word for word.
+    // All clauses but `workers` are those of `recover`, word for word.
     requires workers { (1 ≤ workers) × (workers ≤ 64) }
     ensures ok { IfOk result (IsSomePrefix inventory.now least master) }
     ensures refused { IfErr result (IsSomeLoss inventory.now least master will.now order.now) }
