@@ -1,4 +1,4 @@
--- What counts in segments.
+-- What counts of the entries in segments.
 use Rattle.std.specs.Prelude.{List, filter}
 use Rattle.std.specs.List.{flat_map}
 use Rattle.entry.specs.declared.entry.Entry.{Entry}

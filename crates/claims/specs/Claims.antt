@@ -15,7 +15,7 @@ use Rattle.claims.specs.Placed.{placed_key}
 use Rattle.claims.specs.declared.fault.ReplayFault.{ReplayFault}
 use Rattle.claims.specs.declared.fault.ReplayFault.TheVariants as fault
 
--- a key's value as of a version, or its end
+-- what an entry says of its key: at this version it has this value, or was deleted
 pub record Claimed : Type 0 where
   pub key : Key
   pub version : ℕ
@@ -42,59 +42,59 @@ claims_of es = filter_map claim_of es
 abbrev pub object_of : Claimed → Object
 object_of c = record { key = c.key; version = c.version; value = c.value }
 
--- one above the greatest version, or 0
+-- one above the greatest version of the claims, or 0 if there are none
 abbrev pub bound_of_claims : List Claimed → ℕ
 bound_of_claims [] = 0
 bound_of_claims (c ∷ cs) = max (c.version + 1) (bound_of_claims cs)
 
--- of one version the tombstone ranks above the object
+-- the rank of a claim: a greater version ranks higher, and at one version the tombstone ranks above the object
 abbrev pub rank : Claimed → ℕ
 rank c = if c.dead then 2 * c.version + 1 else 2 * c.version
 
 -- ---- order
 
--- by key, then by version, and of one version the tombstone last
+-- the order of claims: by key, then by version, and at one version the tombstone is last
 abbrev pub claim_cmp : Claimed → Claimed → Ordering
 claim_cmp a b =
     ordering_then (key_cmp a.key b.key)
     (ordering_then (nat_cmp a.version b.version)
     (ordering_then (bool_cmp a.dead b.dead) (slice_cmp nat_cmp a.value b.value)))
 
--- the one comes before the other
+-- the first claim comes before the second
 abbrev pub is_before : Claim → Claim → Bool
 is_before a b = is_lt (claim_cmp (claimed a) (claimed b))
 
--- objects of one key and version with different values
+-- both are claims of objects with one key and version, and with different values
 abbrev pub is_clash : Claimed → Claimed → Bool
 is_clash a b =
     key_eq a.key b.key && (a.version == b.version) && not a.dead && not b.dead && not (pointwise nat_eq a.value b.value)
 
--- no claim of its key comes next
+-- the next claim, if there is one, is of another key
 abbrev pub is_last : Claimed → List Claimed → Bool
 is_last c [] = true
 is_last c (d ∷ cs) = not (key_eq c.key d.key)
 
--- the next claim clashes with it
+-- the next claim clashes with this one
 abbrev pub next_clashes : Claimed → List Claimed → Bool
 next_clashes c [] = false
 next_clashes c (d ∷ cs) = is_clash c d
 
--- two neighbours clash
+-- some claim clashes with the next one
 abbrev pub has_clash : List Claimed → Bool
 has_clash [] = false
 has_clash (c ∷ cs) = next_clashes c cs || has_clash cs
 
--- the last of each row of neighbours of one key
+-- the last claim of each row of neighbours that have one key
 abbrev pub tops : List Claimed → List Claimed
 tops [] = []
 tops (c ∷ cs) = if is_last c cs then c ∷ tops cs else tops cs
 
--- the objects among them
+-- the objects among the claims
 abbrev pub objects_in : List Claimed → List Object
 objects_in [] = []
 objects_in (c ∷ cs) = if c.dead then objects_in cs else object_of c ∷ objects_in cs
 
--- Memory ran out, or there is a clash.
+-- The claims are refused: memory ran out, or there is a clash.
 abbrev pub IsRefusedFor : Bool → ReplayFault → Type 0
 IsRefusedFor clash fault.NoMemory = ⊤
 IsRefusedFor clash fault.Clash = clash ≡ true

@@ -4,10 +4,10 @@ use Rattle.std.specs.List.Sorted.{IsStrictlySortedBy}
 use Rattle.entry.specs.declared.entry.Object.{Object}
 use Rattle.entry.specs.Order.{key_cmp}
 
--- by table and then key bytes, each key once
+-- the objects are sorted by table and then by key bytes, and each key is there once
 abbrev pub AreOrdered : List Object → Type 0
 AreOrdered os = IsStrictlySortedBy key_cmp (map (λ (o : Object). o.key) os)
 
--- each version is below the safe one
+-- the version of each object is below the safe one
 abbrev pub AreBelow : ℕ → List Object → Type 0
 AreBelow safe os = All (λ (o : Object). o.version < safe) os

@@ -13,16 +13,16 @@ use Rattle.claims.specs.declared.placed.PlacedKey.{PlacedKey}
 abbrev pub placed_key : PlacedKey → Key
 placed_key k = shown_key k.key
 
--- the same key is an equivalence
+-- being the same key is an equivalence
 pub key_eq_equiv : IsEquivalence key_eq
 key_eq_equiv = and_equiv (on_equiv (λ (k : Key). k.table) nat_eq_equiv)
     (on_equiv (λ (k : Key). k.bytes) nat_list_eq_equiv)
 
--- what a hasher is given of a key: its table, and its bytes at once
+-- what a hasher is given of a key: its table, and then its bytes in one write
 abbrev pub key_writes : Key → List (List ℕ)
 key_writes k = fed.u64 k.table ++ k.bytes ∷ []
 
--- the same keys are given alike
+-- a hasher is given the same of equal keys
 pub key_writes_alike : (a b : Key) → key_eq a b ≡ true → key_writes a ≡ key_writes b
 key_writes_alike =
     (fed.and-Alike (fed.on_Alike (λ (k : Key). k.table) (fed.same_Alike fed.u64 Decides-eqb))

@@ -11,7 +11,7 @@ use Rattle.claims.specs.declared.rebuilt.Rebuilt.{Rebuilt}
 use Rattle.claims.specs.declared.fault.ReplayFault.{ReplayFault}
 use Rattle.claims.specs.declared.fault.ReplayFault.TheVariants as fault
 
--- the list has what the segments mean, by table and then key bytes, and the version is safe behind all of them
+-- The list has what the segments mean, by table and then key bytes, and the safe version is above all their versions.
 pub record IsRebuilt (segments : List (List Entry)) (recorded : ℕ) (r : Rebuilt) : Type 0 where
   pub meaning : IsMeaning (among (segments_bag segments)) (contents_of r.objects)
   -- each key once, in order
@@ -19,7 +19,7 @@ pub record IsRebuilt (segments : List (List Entry)) (recorded : ℕ) (r : Rebuil
   pub valid : All IsObject r.objects
   pub safe : r.safe ≡ max recorded (bound_of (segments_bag segments))
 
--- Memory ran out, or some key has two values of one version.
+-- The log is refused: memory ran out, or some key has two values at one version.
 abbrev pub IsRefusal : List (List Entry) → ReplayFault → Type 0
 IsRefusal segments fault.NoMemory = ⊤
 IsRefusal segments fault.Clash = ¬ IsClean (among (segments_bag segments))

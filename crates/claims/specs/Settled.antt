@@ -1,4 +1,4 @@
--- What claims come to, whatever their order.
+-- What logs with some claims are rebuilt to, whatever the order of the claims.
 use Rattle.std.specs.Prelude.{◌↔◌, ℕ, List}
 use Rattle.entry.specs.declared.entry.Entry.{Entry}
 use Rattle.entry.specs.Bag.{IsAmong}
@@ -13,7 +13,7 @@ use Rattle.claims.specs.declared.fault.ReplayFault.{ReplayFault}
 abbrev pub AreOf : List Entry → List Claimed → Type 0
 AreOf es cs = (c : Claimed) → IsAmong c cs ↔ IsAmong c (claims_of es)
 
--- what is rebuilt from the claims is what each log with these claims is rebuilt to
+-- the result is what each log with these claims is rebuilt to
 abbrev pub AreRebuilt : List Claimed → ℕ → Rebuilt → Type 0
 AreRebuilt cs recorded r =
     (segments : List (List Entry)) → AreOf (segments_bag segments) cs → IsRebuilt segments recorded r
@@ -23,6 +23,6 @@ abbrev pub AreCleanClaims : List Claimed → Type 0
 AreCleanClaims cs = (segments : List (List Entry)) → AreOf (segments_bag segments) cs
     → IsClean (among (segments_bag segments))
 
--- why each log with these claims is refused
+-- the fault is one for which each log with these claims may be refused
 pub record AreRefused (cs : List Claimed) (f : ReplayFault) : Type 0 where
   pub each : (segments : List (List Entry)) → AreOf (segments_bag segments) cs → IsRefusal segments f

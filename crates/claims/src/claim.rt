@@ -9,14 +9,14 @@ ghost use Rattle.entry.specs.View.{shown, shown_object};
 use crate::placed::PlacedKey;
 use entry::{EntryRef, ObjectRef, Version};
 
-/// A key's value as of a version, or its end. Claims are ordered by key, then by version, and of one version the
-/// tombstone's is last.
+/// What an entry says of its key: at this version it has this value, or was deleted. Claims are ordered by key, then
+/// by version. At one version the tombstone's claim is last.
 #[derive(Clone, Copy, PartialEq, Eq, PartialOrd, Ord)]
 pub struct Claim<'a> {
     pub key: PlacedKey<'a>,
     pub version: Version,
     pub dead: bool,
-    /// The value of the object; of a tombstone no bytes.
+    /// The value of the object. A tombstone has no bytes here.
     pub value: &'a [u8],
     ghost limits: { IsValue value.now },
 }
@@ -24,7 +24,7 @@ pub struct Claim<'a> {
 impl<'a> Claim<'a> {
     ghost use Rattle.claims.specs.Claims.{claimed, claim_of, object_of, is_clash};
 
-    /// The claim of an object or a tombstone.
+    /// The claim of an entry, or None if it is neither an object nor a tombstone.
     #[inline(always)]
     pub fn of(entry: &EntryRef<'a>) -> Option<Claim<'a>>
         ensures { option_map claimed result ≡ claim_of (shown entry.entry.now) }
@@ -46,7 +46,7 @@ impl<'a> Claim<'a> {
         }
     }
 
-    /// The same claim.
+    /// A copy of this claim. It borrows the same bytes.
     pub fn copy(&self) -> Claim<'a>
         ensures { claimed result ≡ claimed self.now }
     {
@@ -58,7 +58,7 @@ impl<'a> Claim<'a> {
         }
     }
 
-    /// Whether the two are objects of one key and version with different values.
+    /// Whether both are claims of objects with one key and version, and with different values.
     pub fn clashes(&self, other: &Claim<'_>) -> bool
         ensures { result ≡ is_clash (claimed self.now) (claimed other.now) }
     {

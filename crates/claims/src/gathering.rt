@@ -10,7 +10,7 @@ use entry::NoMemory;
 use segment::SegmentRef;
 use std::alloc::Global;
 
-/// The claims of the segments' objects and tombstones.
+/// The claims of the segments' objects and tombstones, in their order.
 pub fn claims_in<'a>(alloc: Global, segments: &[SegmentRef<'a>]) -> Result<Vec<Claim<'a>>, NoMemory>
     ensures { IfOk result (λ claims. map claimed claims.items ≡ claims_of (segments_bag segments.entry.now)) }
 {
@@ -27,7 +27,7 @@ pub fn claims_in<'a>(alloc: Global, segments: &[SegmentRef<'a>]) -> Result<Vec<C
     Ok(claims)
 }
 
-/// Puts the claims of the entries behind the others. If memory runs out, nothing changes.
+/// Appends the claims of the entries. If memory runs out, nothing changes.
 pub fn add_claims<'a>(
     claims: &mut Vec<Claim<'a>>,
     entries: &GroupEntries<'a>,

@@ -10,14 +10,15 @@ use std::alloc::Global;
 use std::marker::Model;
 use std::mem::replace;
 
-/// For how many bytes of objects memory is taken at first.
+/// For how many bytes of objects the first list takes memory.
 const FIRST: usize = 4_096;
 
-/// For how many it is taken at most, unless one object needs more. So these lists fit where a history was.
+/// For how many bytes of objects a list takes memory at most, unless one object needs more. So a list fits into memory
+/// that a history gave back.
 const MOST: usize = 131_040;
 
-/// Objects behind which further ones are put. They lie in several lists, each with twice the memory of the one before,
-/// and none of them moves. A contract sees one list.
+/// A list of objects that grows at its end. The objects lie in several lists, each with twice the memory of the one
+/// before, and none of them moves. A contract sees one list.
 #[derive(Drop)]
 pub(crate) struct Growing {
     alloc: Global,
@@ -35,7 +36,7 @@ impl Model for Growing {
 }
 
 impl Growing {
-    /// No objects. It takes no memory.
+    /// A list without objects. It takes no memory.
     pub(crate) fn new(alloc: Global) -> Growing
         ensures { result ≡ [] }
     {
@@ -46,7 +47,7 @@ impl Growing {
         }
     }
 
-    /// Puts an object behind the others.
+    /// Appends an object.
     pub(crate) fn push(&mut self, object: &ObjectRef<'_>) -> Result<(), NoMemory>
         ensures { OnOk result (self.new ≡ self.old ++ shown_object object.now ∷ []) }
     {
@@ -56,7 +57,7 @@ impl Growing {
         self.last.push(object)
     }
 
-    /// Begins the next list, with memory for at least so many bytes.
+    /// Begins the next list, with memory for at least `len` bytes.
     #[inline(never)]
     fn begin_list(&mut self, len: usize) -> Result<(), NoMemory>
         ensures { OnOk result (self.new ≡ self.old) }
@@ -67,7 +68,7 @@ impl Growing {
         self.whole.add(full)
     }
 
-    /// The objects.
+    /// Ends the list, and gives its objects.
     pub(crate) fn finish(self) -> Result<Objects, NoMemory>
         ensures { IfOk result (λ objects. objects ≡ self) }
     {

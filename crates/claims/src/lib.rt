@@ -1,8 +1,8 @@
-//! What the objects and tombstones of a log claim of their keys, and what claims come to.
+//! What the objects and tombstones of a log claim of their keys, and what a log with these claims is rebuilt to.
 //!
-//! A claim is a key's value as of a version, or its end. `rebuilt_from` gives what a log with these claims is rebuilt
-//! to, whatever their order: with Ok the objects are what the log means, each key once. `specs/Rebuilt.antt` says what
-//! that is. Whoever rebuilds a log or a part of it gathers claims, and stands on this.
+//! A claim says that at some version a key has a value, or was deleted. `rebuilt_from` rebuilds a log from its claims,
+//! whatever their order: with Ok the objects are what the log means, each key once (`specs/Rebuilt.antt`). The crates
+//! that rebuild a log, or a part of one, gather its claims and call this one.
 #![tactic(auto)]
 
 mod claim;

@@ -10,13 +10,13 @@ use object_list::{ObjectList, ObjectsIn};
 use std::alloc::Global;
 use std::marker::Model;
 
-/// Objects, in an order that the maker of the list promises. Those of several partitions stay in the lists of the
-/// partitions, so that nothing is copied to put them behind one another. A contract sees one list.
+/// Objects, in an order that the maker of the list promises. The objects of several partitions stay in the lists of
+/// their partitions, so nothing is copied to join them. A contract sees one list.
 #[derive(Drop)]
 pub struct Objects {
     first: ObjectList,
     others: Vec<ObjectList>,
-    // How many there are in all.
+    // How many objects all the lists have.
     count: usize,
 }
 
@@ -32,7 +32,7 @@ impl Model for Objects {
     ghost invariant = { λ o. o.count ≡ length (behind o.first o.others.items) };
 }
 
-/// The objects that are still to come.
+/// An iterator over the objects that are still to come.
 #[derive(Drop)]
 pub struct ObjectsLeft<'a> {
     part: ObjectsIn<'a>,
@@ -50,7 +50,7 @@ impl<'a> Model for ObjectsLeft<'a> {
 }
 
 impl Objects {
-    /// These objects. It takes no memory.
+    /// A list of these objects. It takes no memory.
     pub fn new(alloc: Global, objects: ObjectList) -> Objects
         ensures { result ≡ objects }
     {
@@ -62,7 +62,7 @@ impl Objects {
         }
     }
 
-    /// Puts a list behind the others. It is not copied. If memory runs out, nothing changes.
+    /// Appends a list, which is not copied. If memory runs out, nothing changes.
     pub fn add(&mut self, objects: ObjectList) -> Result<(), NoMemory>
         ensures ok { OnOk result (self.new ≡ self.old ++ objects) }
         ensures err { OnErr result (self.new ≡ self.old) }
@@ -76,7 +76,7 @@ impl Objects {
         Ok(())
     }
 
-    /// Puts the objects of others behind these. They are not copied. If memory runs out, nothing changes.
+    /// Appends the objects of another list, which are not copied. If memory runs out, nothing changes.
     pub fn append(&mut self, later: Objects) -> Result<(), NoMemory>
         ensures ok { OnOk result (self.new ≡ self.old ++ later) }
         ensures err { OnErr result (self.new ≡ self.old) }
@@ -105,7 +105,7 @@ impl Objects {
         self.count
     }
 
-    /// The first object. It looks on over the lists that are empty.
+    /// The first object, or None. It skips the lists that are empty.
     pub fn first(&self) -> Option<ObjectRef<'_>>
         ensures some { IfSome result (λ o. (rest : List Object) × (self.entry.now ≡ shown_object o ∷ rest)) }
         ensures none { IsNone result → self.entry.now ≡ [] }
@@ -113,7 +113,7 @@ impl Objects {
         self.iter().next()
     }
 
-    /// The last object. It looks back over the lists that are empty.
+    /// The last object, or None. It skips the lists that are empty.
     pub fn last(&self) -> Option<ObjectRef<'_>>
         ensures some { IfSome result (λ o. (front : List Object) × (self.entry.now ≡ front ++ shown_object o ∷ [])) }
         ensures none { IsNone result → self.entry.now ≡ [] }

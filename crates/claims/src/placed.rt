@@ -7,7 +7,7 @@ use entry::KeyRef;
 use std::cmp::Ordering;
 use std::hash::{Hash, Hasher};
 
-/// A key and its place. Two keys of one table are told apart by their places, if these differ, and no byte is read.
+/// A key and its place. Two keys of one table with different places are told apart without reading a byte.
 #[derive(Clone, Copy)]
 pub struct PlacedKey<'a> {
     key: KeyRef<'a>,

@@ -6,12 +6,12 @@ ghost use Rattle.claims.specs.Props.{AreOrdered-prop};
 use crate::objects::Objects;
 use entry::SafeVersion;
 
-/// What a log stands for.
+/// What a log stands for: the objects that are left, and a safe version for what follows.
 #[derive(Drop)]
 pub struct Rebuilt {
-    /// Sorted by table, then by key bytes; each key once.
+    /// The objects, sorted by table and then by the bytes of the key. Each key is there once.
     pub objects: Objects,
-    /// Above the version of each object and tombstone of the log.
+    /// A version above that of each object and tombstone of the log.
     pub safe: SafeVersion,
     ghost ordered: { AreOrdered objects } by { AreOrdered-prop objects },
     ghost below: { AreBelow safe objects },

@@ -1,4 +1,4 @@
-//! What is left of sorted claims: of each key the last one.
+//! Finds the last claim of each key in sorted claims.
 
 ghost use Rattle.std.specs.Prelude.{◌≡◌, max, map, true, false, All, IfOk, IfErr, OnOk};
 ghost use Rattle.entry.specs.Format.{IsObject};
@@ -12,7 +12,7 @@ use crate::objects::Objects;
 use entry::SafeVersion;
 use std::alloc::Global;
 
-/// The least safe version that is no less than this one and above the version of each claim.
+/// The least safe version that is not below `safe`, and is above the version of each claim.
 pub fn safe_above(safe: SafeVersion, claims: &[Claim<'_>]) -> SafeVersion
     ensures { result ≡ max safe (bound_of_claims (map claimed claims.now)) }
 {
@@ -26,7 +26,8 @@ pub fn safe_above(safe: SafeVersion, claims: &[Claim<'_>]) -> SafeVersion
     greatest
 }
 
-/// Whether the first of these later claims, if there is one, is of another key.
+/// Whether the next claim, if there is one, is of another key. The fault is Clash if the next claim clashes with this
+/// one.
 #[inline]
 pub fn is_last(claim: &Claim<'_>, later: &[Claim<'_>]) -> Result<bool, ReplayFault>
     ensures last { IfOk result (λ last. last ≡ is_last (claimed claim.now) (map claimed later.now)) }
@@ -41,7 +42,8 @@ pub fn is_last(claim: &Claim<'_>, later: &[Claim<'_>]) -> Result<bool, ReplayFau
     }
 }
 
-/// The objects of the last claims of their keys, if no two neighbours clash, in memory of their own.
+/// The objects among the last claims of their keys, in memory of their own. The fault is Clash if two neighbours
+/// clash.
 pub fn winners(alloc: Global, claims: &[Claim<'_>]) -> Result<Objects, ReplayFault>
     ensures objects { IfOk result (λ objects. objects ≡ objects_in (tops (map claimed claims.now))) }
     ensures valid { IfOk result (λ objects. All IsObject objects) }

@@ -1,4 +1,4 @@
-//! What claims come to.
+//! Rebuilds a log from its claims.
 
 ghost use Rattle.std.specs.Prelude.{map, IfOk, IfErr, OnOk};
 ghost use Rattle.claims.specs.Claims.{claimed};

@@ -1,4 +1,4 @@
--- A replay of one partition: what it is to take, what it took, and what that stands for.
+-- A replay of one partition: the groups that it is to take and those that it took, and what they stand for.
 use Rattle.std.specs.Prelude.{◌≡◌, ℕ, ◌+◌, ◌<◌, max, List, [], ◌∷◌, ◌++◌, map, All, Option, Some, None}
 use Rattle.std.specs.Prelude.{nat_le, if◌then◌else◌}
 use Rattle.std.specs.List.Sorted.{IsStrictlySortedBy}
@@ -22,7 +22,7 @@ pub record Replaying : Type 0 where
 
 -- ---- a group
 
--- A group of this segment and partition is wanted.
+-- A group of this segment and partition is one that the replay is to take.
 pub record IsWanted (r : Replaying) (segment partition : ℕ) : Type 0 where
   pub same : partition ≡ r.partition
   pub listed : IsAmong segment r.ids
@@ -31,16 +31,16 @@ pub record IsWanted (r : Replaying) (segment partition : ℕ) : Type 0 where
 abbrev pub IsDone : Replaying → ℕ → Type 0
 IsDone r segment = IsAmong segment (segments_of r.groups)
 
--- A group of this segment and partition is wanted, and none was taken.
+-- A group of this segment and partition is wanted, and none was taken before.
 pub record IsPlaced (r : Replaying) (segment partition : ℕ) : Type 0 where
   pub wanted : IsWanted r segment partition
   pub new : ¬ IsDone r segment
 
--- the replay with one group more
+-- the replay after it took this group too
 abbrev pub taken : Replaying → Grouped → Replaying
 taken r g = record { partition = r.partition; ids = r.ids; groups = r.groups ++ g ∷ [] }
 
--- no two objects of the groups share key and version, and differ
+-- no two objects of the groups have one key and version, and different values
 abbrev pub AreClean : Replaying → Type 0
 AreClean r = IsClean (among (bag_of r.groups))
 
@@ -66,7 +66,7 @@ IsMisplaced r segment partition (fault.Double named) =
 IsMisplaced r segment partition fault.Stranger = ¬ IsWanted r segment partition
 IsMisplaced r segment partition _ = ⊥
 
--- Why a group is not taken. Memory is wanted only for one that is wanted and new.
+-- Why a group is not taken. NoMemory comes only if the group is wanted and new.
 abbrev pub IsTakeFault : Replaying → Grouped → ReplayFault → Type 0
 IsTakeFault r g (fault.Double named) = IsMisplaced r g.segment g.partition (fault.Double named)
 IsTakeFault r g fault.Stranger = IsMisplaced r g.segment g.partition fault.Stranger
@@ -76,17 +76,17 @@ IsTakeFault r g _ = ⊥
 
 -- ---- the end
 
--- what the groups stand for, once each segment has one
+-- what the groups stand for, once each segment has a group
 pub record IsReplayed (r : Replaying) (out : Replayed) : Type 0 where
   pub whole : (id : ℕ) → IsAmong id r.ids → IsDone r id
   pub meaning : IsMeaning (among (bag_of r.groups)) (contents_of out.objects)
   -- each key once, in order
   pub order : IsStrictlySortedBy key_cmp (map (λ (o : Object). o.key) out.objects)
   pub valid : All IsObject out.objects
-  -- the greatest version, or 0
+  -- the greatest version of the groups' entries, or 0
   pub greatest : out.greatest + 1 ≡ max 1 (bound_of (bag_of r.groups))
 
--- the lowest of the segments that has no group
+-- the lowest of the segments that have no group
 pub record IsLowestMissing (ids : List ℕ) (groups : List Grouped) (lowest : ℕ) : Type 0 where
   pub listed : IsAmong lowest ids
   pub missing : ¬ IsAmong lowest (segments_of groups)
@@ -96,12 +96,12 @@ abbrev pub IsLowest : List ℕ → List Grouped → Option ℕ → Type 0
 IsLowest ids groups (Some lowest) = IsLowestMissing ids groups lowest
 IsLowest ids groups None = (id : ℕ) → IsAmong id ids → IsAmong id (segments_of groups)
 
--- the lower of the two, if there are two
+-- the lower of the two ids, or the second one if the first is None
 abbrev pub lower_of : Option ℕ → ℕ → ℕ
 lower_of None id = id
 lower_of (Some low) id = if nat_le low id then low else id
 
--- Why a replay does not end. Memory is wanted only once each segment has a group.
+-- Why a replay does not end. NoMemory comes only once each segment has a group.
 abbrev pub IsFinishFault : Replaying → ReplayFault → Type 0
 IsFinishFault r (fault.MissingGroup id) = IsLowestMissing r.ids r.groups id
 IsFinishFault r fault.NoMemory = IsLowest r.ids r.groups None

@@ -1,4 +1,4 @@
-//! The claims of a group, beside what is kept of those before.
+//! The claims of a group, beside what is kept of the groups before.
 
 ghost use Rattle.std.specs.Prelude.{◌≡◌, ◌∷◌, [], ℕ, ◌≤◌, not, filter, map, IfOk, IfErr, OnOk};
 ghost use Rattle.std.specs.HashMap.{hash_map_len, spare};
@@ -17,7 +17,7 @@ use division::GroupEntries;
 use entry::NoMemory;
 use std::alloc::Global;
 
-/// What is kept of the key: among the fresh, or else of those before.
+/// What is kept of the key: in `fresh` if it has the key, and else in `kept`, which is of the groups before.
 fn kept_of<'k, 'a>(
     fresh: &'k Keeping<'a>,
     kept: &'k Keeping<'a>,
@@ -48,7 +48,7 @@ fn is_above<'a>(
     }
 }
 
-/// Keeps the claim among the fresh, if it ranks above what is kept of its key.
+/// Keeps the claim in `fresh`, if it ranks above what is kept of its key.
 fn keep<'a>(
     fresh: &mut Keeping<'a>,
     kept: &Keeping<'a>,
@@ -71,7 +71,7 @@ fn keep<'a>(
     }
 }
 
-/// What is to be kept of the entries instead of what is kept of their keys.
+/// What is to be kept of these entries, in place of what is kept of their keys so far.
 pub fn gather<'a>(
     alloc: Global,
     kept: &Keeping<'a>,
@@ -93,7 +93,7 @@ pub fn gather<'a>(
     Ok(fresh)
 }
 
-/// Keeps the fresh ones. There is room for them.
+/// Puts what is in `fresh` into what is kept. There has to be room for it.
 pub fn put<'a>(kept: &mut Keeping<'a>, fresh: Keeping<'a>)
     requires { hash_map_len fresh ≤ spare kept.old }
     ensures { (k : Key) → kept_at kept.new.entries k ≡ kept_in fresh.entry.entries kept.old.entries k }

@@ -6,17 +6,17 @@ use claims::{Claim, PlacedKey, ReplayFault};
 use entry::Version;
 use std::collections::HashMap;
 
-/// A key's value as of a version, or its end. The key stands beside it.
+/// What is kept of a key: the value that it has at a version, or that it was deleted. The key stands beside it.
 #[derive(Clone, Copy)]
 pub struct Kept<'a> {
     version: Version,
     dead: bool,
-    /// The value of the object; of a tombstone no bytes.
+    /// The value of the object. A tombstone has no bytes here.
     value: &'a [u8],
     ghost limits: { IsValue value.now },
 }
 
-/// What is kept of each key that came.
+/// What is kept of each key that came so far.
 pub type Keeping<'a> = HashMap<PlacedKey<'a>, Kept<'a>>;
 
 impl<'a> Kept<'a> {
@@ -36,7 +36,7 @@ impl<'a> Kept<'a> {
         }
     }
 
-    /// What it says, as a claim of the key.
+    /// What is kept, as a claim of the key.
     pub fn to_claim(&self, key: PlacedKey<'a>) -> Claim<'a>
         ensures { claimed result ≡ kept_claim (placed_key key.entry) self.now }
     {
@@ -48,8 +48,8 @@ impl<'a> Kept<'a> {
         }
     }
 
-    /// Whether a claim of the key ranks above this. Of one version the tombstone is above the object. Two objects of
-    /// one version with different values are a Clash.
+    /// Whether a claim of the same key ranks above this. At one version a tombstone ranks above an object. Two objects
+    /// of one version with different values are a Clash.
     pub fn is_below(&self, claim: &Claim<'_>) -> Result<bool, ReplayFault>
         ensures ok { IfOk result (IsRanked (kept_claim (placed_key claim.now.key) self.now) (claimed claim.now)) }
         ensures clash { IfErr result (λ fault. (fault ≡ ReplayFault.Clash)

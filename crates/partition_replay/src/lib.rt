@@ -1,7 +1,7 @@
-//! A partition of a log, replayed group by group.
+//! Replays a partition of a log group by group.
 //!
-//! `Replay` takes a partition's group of each segment, in any order, and ends with the objects that they mean. Nothing
-//! here knows a master or a whole log.
+//! `Replay` takes a partition's group of each segment, in any order, and ends with the objects that the groups mean.
+//! Nothing here knows a master or a whole log.
 #![tactic(auto)]
 
 mod keeping;

@@ -1,4 +1,4 @@
-//! A partition of a log, replayed group by group.
+//! Replays a partition of a log group by group.
 
 ghost use Rattle.std.specs.Prelude.{◌≡◌, ◌≢◌, ◌==◌, ℕ, map, [], IfOk, IfErr, OnOk, OnErr, IsErr};
 ghost use Rattle.std.specs.List.{list_any};
@@ -18,21 +18,21 @@ use std::marker::Model;
 /// What the groups of a partition stand for.
 #[derive(Drop)]
 pub struct Replayed {
-    /// Sorted by table, then by key bytes; each key once.
+    /// The objects, sorted by table and then by the bytes of the key. Each key is there once.
     pub objects: Objects,
     /// The greatest version of an object or a tombstone, or 0.
     pub greatest: u64,
 }
 
-/// A replay of one partition. It takes the partition's group of each segment, in any order. A contract sees what it is
-/// to take and the groups that it took.
+/// A replay of one partition. It takes the partition's group of each segment, in any order. A contract sees which
+/// groups it is to take, and which it took.
 #[derive(Drop)]
 pub struct Replay<'a> {
     alloc: Global,
     partition: u32,
     ids: Vec<u64>,
     groups: Vec<Group<'a>>,
-    // Of each key of the groups the claim of greatest rank.
+    // The claim of greatest rank of each key in the groups.
     kept: Keeping<'a>,
 }
 
@@ -55,7 +55,7 @@ impl<'a> Model for Replay<'a> {
         AreTops (claims_of (bag_of (map grouped r.groups.items))) (kept_at r.kept.entries) };
 }
 
-/// Whether there is a group of the segment.
+/// Whether one of the groups is of this segment.
 fn has_group(groups: &[Group<'_>], segment: u64) -> bool
     ensures { result ≡ list_any (λ (g : GroupValue). g.segment == segment) groups.now }
 {
@@ -69,7 +69,7 @@ fn has_id(ids: &[u64], segment: u64) -> bool
     ids.iter().any(|id| *id == segment)
 }
 
-/// A copy of the ids. Of none it takes no memory.
+/// A copy of the ids. Without ids it takes no memory.
 fn copied(alloc: Global, ids: &[u64]) -> Result<Vec<u64>, AllocError>
     ensures ok { IfOk result (λ copy. copy.items ≡ ids.now) }
     ensures err { IsErr result → ids.now ≢ [] }
@@ -80,7 +80,7 @@ fn copied(alloc: Global, ids: &[u64]) -> Result<Vec<u64>, AllocError>
     Vec::from_slice(alloc, ids)
 }
 
-/// The lower of the two, if there are two.
+/// The lower of the two ids, or `id` if `lowest` is None.
 fn lower(lowest: Option<u64>, id: u64) -> u64
     ensures { result ≡ lower_of lowest id }
 {
@@ -90,7 +90,7 @@ fn lower(lowest: Option<u64>, id: u64) -> u64
     }
 }
 
-/// The lowest of the segments that has no group.
+/// The lowest of the segments that have no group.
 fn lowest_missing(ids: &[u64], groups: &[Group<'_>]) -> Option<u64>
     ensures { IsLowest ids.now (map grouped groups.now) result }
 {
@@ -104,7 +104,7 @@ fn lowest_missing(ids: &[u64], groups: &[Group<'_>]) -> Option<u64>
 }
 
 impl<'a> Replay<'a> {
-    /// A replay of a partition of these segments, before the first group. Of no segments it takes no memory.
+    /// A replay of a partition of these segments, before the first group. Without segments it takes no memory.
     pub fn new(alloc: Global, partition: u32, ids: &[u64]) -> Result<Replay<'a>, ReplayFault>
         ensures ok { IfOk result (λ replay.
             replay ≡ record { partition = partition; ids = ids.now; groups = [] }) }
@@ -136,17 +136,17 @@ impl<'a> Replay<'a> {
         Ok(())
     }
 
-    /// Takes a group. A Stranger is of another partition, or of no segment that is replayed. A Double's segment has a
-    /// group already. A Clash has an object of the version of the one that is kept of its key as it comes, with another
-    /// value. The tests are made in this order, and memory is asked for after the first two. A group that is refused
-    /// changes nothing.
+    /// Takes a group. It is refused as a Stranger if it is of another partition, or of no segment that is replayed; as
+    /// a Double if its segment has a group already; and for a Clash if one of its objects has, as it comes, the
+    /// version of the object that is kept of its key, and another value. The tests are made in this order, and memory
+    /// is asked for after the first two. A group that is refused changes nothing.
     ///
-    /// What is kept of a key is its object or tombstone of greatest rank so far, of the groups before and of what this
-    /// one has in front. So two objects that clash pass if a later version of their key came before the second of them.
-    /// A log for which `rebuild_plain` answers Ok has no two such objects.
+    /// What is kept of a key is its object or tombstone of greatest rank so far: of the groups before, and of the
+    /// entries of this group that came before. So two objects that clash pass if a later version of their key came
+    /// before the second of them. A log for which `rebuild_plain` answers Ok has no two such objects.
     ///
-    /// For n entries of the group it takes n steps, if the hashes of their keys are spread, and memory for n of them,
-    /// which it gives back. What is kept takes 64 bytes for each key that came, and as it grows up to twice that,
+    /// For a group of n entries it takes n steps, if the hashes of their keys are spread, and memory for n of them,
+    /// which it gives back. What is kept takes 64 bytes for each key that came, and up to twice that while it grows,
     /// beside a table of hashes.
     pub fn take(&mut self, group: Group<'a>) -> Result<(), ReplayFault>
         ensures ok { OnOk result (self.new ≡ taken self.old (grouped group.entry)) }
@@ -163,8 +163,8 @@ impl<'a> Replay<'a> {
         Ok(())
     }
 
-    /// What the groups stand for, in memory of its own, once there is one of each segment. MissingGroup names the
-    /// lowest segment without one.
+    /// What the groups stand for, in memory of its own, once each segment has a group. MissingGroup names the lowest
+    /// segment without one.
     pub fn finish(self) -> Result<Replayed, ReplayFault>
         ensures ok { IfOk result (IsReplayed self.entry) }
         ensures fault { IfErr result (IsFinishFault self.entry) }

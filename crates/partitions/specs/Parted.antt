@@ -1,4 +1,5 @@
--- A log that is divided by partition: what each partition stands for, and what their lists come to, joined.
+-- A log that is divided by partition: what each partition stands for, and what the joined lists of partitions stand
+-- for.
 use Rattle.std.specs.Prelude.{◌≡◌, ℕ, ◌<◌, max, zero, suc, List, [], map, filter, length, All, Bool, true, false}
 use Rattle.std.specs.Prelude.{slice_index_or}
 use Rattle.std.specs.List.{flat_map}
@@ -16,24 +17,24 @@ use Rattle.claims.specs.Listed.{AreOrdered}
 
 -- ---- what goes to a partition
 
--- what a segment with these entries has in a partition
+-- the entries of a segment that go to a partition
 abbrev pub entries_for : List Part → ℕ → List Entry → List Entry
 entries_for qs n es = filter (goes_to qs n) es
 
--- the log of a partition: of each segment what it has there
+-- the log of a partition: the entries of each segment that go there
 abbrev pub part_of : List Part → ℕ → List (List Entry) → List (List Entry)
 part_of qs n segments = map (entries_for qs n) segments
 
--- all that a log has in a partition
+-- all objects and tombstones of a log that go to a partition
 abbrev pub bag_in : List Part → ℕ → List (List Entry) → List Entry
 bag_in qs n segments = segments_bag (part_of qs n segments)
 
--- the entries are what the segment at this place has in the partition
+-- the entries are those of the segment at this place that go to the partition
 pub record IsParcel (qs : List Part) (segments : List (List Entry)) (at n : ℕ) (es : List Entry) : Type 0 where
   pub below : at < length segments
   pub entries : es ≡ entries_for qs n (slice_index_or segments at [])
 
--- a group on its way
+-- a group on its way to a worker, with the place of its segment
 pub record Parceled : Type 0 where
   pub at : ℕ
   pub partition : ℕ
@@ -45,7 +46,7 @@ entries_in parcels = flat_map (λ (p : Parceled). p.entries) parcels
 
 -- ---- a partition, gathered
 
--- The claims are of the partition, and all of the marked segments are there.
+-- The claims are of the partition, and all those of the marked segments are there.
 pub record AreGathered (qs : List Part) (segments : List (List Entry)) (n : ℕ) (marks : List Bool)
     (cs : List Claimed) : Type 0 where
   pub long : length marks ≡ length segments
@@ -63,7 +64,7 @@ pub record IsListed (es : List Entry) (recorded : ℕ) (os : List Object) (safe 
   pub above : safe ≡ max recorded (bound_of es)
   pub clean : IsClean (among es)
 
--- the object is its key's in a partition
+-- the object is its key's current one in a partition
 abbrev pub IsTopIn : List Part → List (List Entry) → ℕ → Object → Type 0
 IsTopIn qs segments n o = IsTop o.key (among (bag_in qs n segments)) (entry.Object o)
 
@@ -72,7 +73,7 @@ abbrev pub bound_in : List Part → List (List Entry) → ℕ → ℕ
 bound_in qs segments zero = 0
 bound_in qs segments (suc n) = max (bound_in qs segments n) (bound_of (bag_in qs n segments))
 
--- the list has the objects of the first partitions
+-- the list has just the objects of the first n partitions
 pub record AreJoined (qs : List Part) (segments : List (List Entry)) (recorded n : ℕ)
     (os : List Object) (safe : ℕ) : Type 0 where
   pub only : (o : Object) → IsAmong o os → (m : ℕ) × (m < n) × IsTopIn qs segments m o

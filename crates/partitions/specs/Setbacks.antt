@@ -9,14 +9,14 @@ use Rattle.claims.specs.Bags.{segments_bag}
 use Rattle.partitions.specs.declared.setback.Setback.{Setback}
 use Rattle.partitions.specs.declared.setback.Setback.TheVariants as setback
 
--- Of a Clash the log is not clean. Of a Stray some key has no partition.
+-- What a setback says of the log: with Clash the log is not clean, with Stray some key has no partition.
 abbrev pub IsSetback : List Part → List (List Entry) → Setback → Type 0
 IsSetback qs segments setback.NoMemory = ⊤
 IsSetback qs segments setback.Clash = ¬ IsClean (among (segments_bag segments))
 IsSetback qs segments setback.Stray = (k : Key) × HasStray qs (segments_bag segments) k
 IsSetback qs segments setback.NotWhole = ⊤
 
--- the cause lies outside of the log
+-- the cause of the setback lies outside of the log
 abbrev pub IsOutside : Setback → Type 0
 IsOutside setback.NoMemory = ⊤
 IsOutside setback.Clash = ⊥

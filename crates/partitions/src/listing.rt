@@ -1,4 +1,4 @@
-//! The lists of partitions, joined to that of the log.
+//! Joins the lists of the partitions to that of the log.
 
 ghost use Rattle.std.specs.Prelude.{◌≡◌, ◌++◌, ◌+◌, max, IfOk, IfErr, OnOk, OnErr, IsTrue};
 ghost use Rattle.entry.specs.Meaning.{IsClean, among};
@@ -19,7 +19,7 @@ use std::alloc::Global;
 use std::cmp::Ordering;
 use std::marker::{Model, PhantomData};
 
-/// What one partition of a division stands for. A contract sees its number.
+/// What one partition of a division stands for. A contract sees the partition's number.
 #[derive(Drop)]
 pub struct PartList<D: Division> {
     partition: u32,
@@ -40,7 +40,7 @@ impl<D: Division> Model for PartList<D> {
 }
 
 impl<D: Division> PartList<D> {
-    /// The list of a partition.
+    /// The list of this partition: its objects, and a safe version for what follows them.
     pub fn new(partition: u32, objects: Objects, safe: SafeVersion) -> PartList<D>
         requires { IsListed (bag_in D.parts partition D.segments) D.safe objects safe }
         ensures { result ≡ partition }
@@ -61,8 +61,8 @@ impl<D: Division> PartList<D> {
     }
 }
 
-/// The lists of the first partitions, one behind the other. They stay as they are, so nothing is copied. A contract
-/// sees how many these are.
+/// The lists of the first partitions, one behind the other. Each list stays as it is, so nothing is copied. A contract
+/// sees how many partitions are joined.
 #[derive(Drop)]
 pub struct Joined<D: Division> {
     count: u32,
@@ -82,7 +82,7 @@ impl<D: Division> Model for Joined<D> {
     ghost invariant = { λ j. AreJoined D.parts D.segments D.safe j.count j.objects j.safe };
 }
 
-/// Whether the keys of the later list come behind those of the other.
+/// Whether all keys of the later list come behind those of the first one.
 fn follows(objects: &Objects, later: &Objects) -> bool
     requires objects { AreOrdered objects.now }
     requires later { AreOrdered later.now }
@@ -105,7 +105,7 @@ fn greater(one: SafeVersion, other: SafeVersion) -> SafeVersion
 }
 
 impl<D: Division> Joined<D> {
-    /// No list. It takes no memory.
+    /// A join without a list yet. `recorded` is the safe version that the log records. It takes no memory.
     pub fn new(alloc: Global, recorded: SafeVersion) -> Joined<D>
         requires { recorded ≡ D.safe }
         ensures { result ≡ 0 }
@@ -118,8 +118,8 @@ impl<D: Division> Joined<D> {
         }
     }
 
-    /// Puts the list of the next partition behind the others. With NotWhole it is another's, or its keys don't come
-    /// behind theirs. If it is refused, nothing changes.
+    /// Appends the list of the next partition. The setback is NotWhole if the list is another partition's, or if its
+    /// keys don't come behind those before. If the list is refused, nothing changes.
     pub fn add(&mut self, list: PartList<D>) -> Result<(), Setback>
         ensures ok { OnOk result (self.new ≡ self.old + 1) }
         ensures err { OnErr result (self.new ≡ self.old) }
@@ -143,7 +143,7 @@ impl<D: Division> Joined<D> {
         Ok(())
     }
 
-    /// What the log stands for, once all lists are there.
+    /// What the log stands for, once the lists of all partitions are joined.
     pub fn finish(self) -> Rebuilt
         requires whole { self ≡ partitions_of D.parts }
         requires parts { AreParts D.parts }

@@ -6,8 +6,8 @@ ghost use Rattle.partitions.specs.Parted.{IsParcel};
 use division::{Group, GroupEntries};
 use std::marker::{Brand, Model, PhantomData};
 
-/// Which log is divided, and by which will: the entries of its segments, the will's parts, and the safe version that
-/// the log records. Each rebuild has its own.
+/// A log and the will that divides it: the entries of the log's segments, the will's parts, and the safe version that
+/// the log records. Each rebuild has a division of its own.
 pub trait Division {
     ghost use Rattle.std.specs.Prelude.{ℕ, List};
     ghost use Rattle.entry.specs.declared.entry.Entry.{Entry};
@@ -30,7 +30,7 @@ impl Division for Brand {
     ghost safe = { 0 };
 }
 
-/// A group on its way to a worker, beside the place of its segment in the log. It is one of the division's.
+/// A group on its way to a worker, with the place of its segment in the log. It is one of the division's groups.
 #[derive(Drop)]
 pub struct Parcel<'a, D: Division> {
     at: usize,
@@ -49,7 +49,7 @@ impl<'a, D: Division> Model for Parcel<'a, D> {
 }
 
 impl<'a, D: Division> Parcel<'a, D> {
-    /// A group of the segment at this place.
+    /// A parcel with a group of the segment at this place.
     pub fn new(at: usize, group: Group<'a>) -> Parcel<'a, D>
         requires { IsParcel D.parts D.segments at group.partition group.entries }
     {
@@ -75,7 +75,7 @@ impl<'a, D: Division> Parcel<'a, D> {
         self.group.partition
     }
 
-    /// The entries, in the order of the segment.
+    /// The entries of the group, in the order of the segment.
     pub fn entries(&self) -> &GroupEntries<'a>
         ensures entries { result.now ≡ self.now.entries }
         ensures valid { IsParcel D.parts D.segments self.now.at self.now.partition self.now.entries }
@@ -83,14 +83,14 @@ impl<'a, D: Division> Parcel<'a, D> {
         &self.group.entries
     }
 
-    /// How many entries there are.
+    /// How many entries the group has.
     pub fn len(&self) -> usize
         ensures { result ≡ length self.now.entries }
     {
         self.group.entries.len()
     }
 
-    /// Whether there are none.
+    /// Whether the group has no entries.
     pub fn is_empty(&self) -> bool
         ensures { result ≡ true ↔ self.now.entries ≡ [] }
     {

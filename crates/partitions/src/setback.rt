@@ -15,8 +15,8 @@ pub enum Setback {
     Clash,
     /// A key is in no partition.
     Stray,
-    /// A group did not come, or came twice, or to another partition; or a worker was not started; or the lists come in
-    /// another order than their partitions or their keys.
+    /// A group did not come, came twice or came to another partition, or a worker was not started, or lists were not
+    /// joined in the order of their partitions and keys.
     NotWhole,
 }
 

@@ -15,9 +15,9 @@ use entry::{NoMemory, SafeVersion};
 use std::alloc::{AllocError, Global};
 use std::marker::{Model, PhantomData};
 
-/// What came of one partition so far: a mark for each segment whose group came, and the groups that are not empty.
-/// Nothing is read of them before all are there, so the claims of the partition take memory once, and just what they
-/// need. A contract sees the number of the partition.
+/// What came of one partition so far: a mark for each segment whose group came, and the groups that are not empty. The
+/// groups are read only once all are there. So the claims of the partition take memory once, and just what they need.
+/// A contract sees the number of the partition.
 #[derive(Drop)]
 pub struct Share<'a, D: Division> {
     partition: u32,
@@ -38,7 +38,7 @@ impl<'a, D: Division> Model for Share<'a, D> {
         AreGathered D.parts D.segments s.partition s.marks.items (claims_of (entries_in s.parcels.items)) };
 }
 
-/// Whether all are marked.
+/// Whether all marks are set.
 fn are_whole(marks: &[bool]) -> bool
     ensures test { result ≡ list_all (λ (mark : Bool). mark) marks.now }
     ensures each { result ≡ true → All (λ mark. mark ≡ true) marks.now }
@@ -62,7 +62,7 @@ fn keep<'a, D: Division>(
     Ok(())
 }
 
-/// How many entries the parcels have, for room.
+/// How many entries the parcels have in all, to reserve memory for their claims.
 fn count_entries<'a, D: Division>(parcels: &[Parcel<'a, D>]) -> usize {
     let mut count: usize = 0;
     for parcel in parcels {
@@ -71,7 +71,7 @@ fn count_entries<'a, D: Division>(parcels: &[Parcel<'a, D>]) -> usize {
     count
 }
 
-/// What the parcels claim.
+/// The claims of the parcels' entries, in their order.
 fn claims_in<'a, D: Division>(
     alloc: Global,
     parcels: &[Parcel<'a, D>],
@@ -85,7 +85,8 @@ fn claims_in<'a, D: Division>(
     Ok(claims)
 }
 
-/// The objects that are left of claims in order, if no two neighbours clash.
+/// The objects among the last claims of their keys. The claims have to be sorted. The setback is Clash if two
+/// neighbours clash.
 fn listed(alloc: Global, claims: &[Claim<'_>]) -> Result<Objects, Setback>
     ensures objects { IfOk result (λ objects. objects ≡ objects_in (tops (map claimed claims.now))) }
     ensures valid { IfOk result (λ objects. All IsObject objects) }
@@ -101,7 +102,7 @@ fn listed(alloc: Global, claims: &[Claim<'_>]) -> Result<Objects, Setback>
 }
 
 impl<'a, D: Division> Share<'a, D> {
-    /// Nothing of the partition yet, of a log of so many segments.
+    /// A share of this partition, before any group came. The log has `segments` segments.
     pub fn new(alloc: Global, partition: u32, segments: usize) -> Result<Share<'a, D>, NoMemory>
         requires { segments ≡ length D.segments }
         ensures { IfOk result (λ share. share ≡ partition) }
@@ -113,8 +114,8 @@ impl<'a, D: Division> Share<'a, D> {
         })
     }
 
-    /// Takes a group. With NotWhole it is of another partition, or one of its segment came before. If it is refused,
-    /// nothing changes. It takes one step, whatever the group has.
+    /// Takes a group, in one step, however long it is. The setback is NotWhole if the group is of another partition,
+    /// or if a group of its segment came before. If the group is refused, nothing changes.
     pub fn take(&mut self, parcel: Parcel<'a, D>) -> Result<(), Setback>
         ensures same { self.new ≡ self.old }
         ensures setback { IfErr result IsOutside }
@@ -134,8 +135,8 @@ impl<'a, D: Division> Share<'a, D> {
         Ok(())
     }
 
-    /// What the partition stands for, if its group of each segment came. With NotWhole one didn't. For n entries it
-    /// takes n log n steps, and memory for their claims, which it gives back at its end.
+    /// What the partition stands for. The setback is NotWhole if the group of some segment didn't come. For n entries
+    /// it takes n log n steps, and memory for their claims, which it gives back at its end.
     pub fn finish(self, alloc: Global, recorded: SafeVersion) -> Result<PartList<D>, Setback>
         requires { recorded ≡ D.safe }
         ensures { IfErr result (IsSetback D.parts D.segments) }

@@ -1,4 +1,4 @@
--- Which replicas are well.
+-- Which replicas are good.
 use Rattle.std.specs.Prelude.{◌≡◌, ℕ, ◌≤◌, List, true, Option, Some, None, IsSome, IsSomeAnd}
 use Rattle.entry.specs.declared.entry.Header.{Header}
 use Rattle.entry.specs.Bag.{IsAmong}
@@ -13,7 +13,7 @@ pub record IsGood (h : Holding) : Type 0 where
   pub header :
       IsSomeAnd (header_in h.bytes) (λ (header : Header). (header.master ≡ h.master) × (header.segment ≡ h.segment))
 
--- each replica of the master is well
+-- each replica of the master is good
 abbrev pub AreGood : ℕ → List Holding → Type 0
 AreGood master hs = (h : Holding) → IsAmong h hs → h.master ≡ master → IsGood h
 
@@ -29,11 +29,11 @@ IsOpenHead master id h = IsHeadOf master h × (h.segment ≡ id) × (h.is_open �
 abbrev pub IsOf : ℕ → ℕ → Holding → Type 0
 IsOf master id h = (h.master ≡ master) × (h.segment ≡ id)
 
--- one that may be used for another id of the digest than the head's
+-- a replica that may be used for this id of the digest, which is not the head's
 abbrev pub IsReplicaOf : ℕ → Opening → ℕ → Holding → Type 0
 IsReplicaOf master opening id h = IsUsableOf master opening h × (h.segment ≡ id)
 
--- some replica that has a digest is of this segment, and none is of a greater one
+-- some replica with a digest is of this segment, and none is of a segment with a greater id
 pub record IsNewest (master : ℕ) (hs : List Holding) (id : ℕ) : Type 0 where
   pub head : Holding
   pub among : IsAmong head hs
@@ -41,7 +41,7 @@ pub record IsNewest (master : ℕ) (hs : List Holding) (id : ℕ) : Type 0 where
   pub segment : head.segment ≡ id
   pub greatest : (h : Holding) → IsAmong h hs → IsHeadOf master h → h.segment ≤ id
 
--- the newest head; None if no replica has a digest
+-- the id of the newest head; None if no replica has a digest
 abbrev pub IsNewestOf : ℕ → List Holding → Option ℕ → Type 0
 IsNewestOf master hs None = (h : Holding) → IsAmong h hs → IsHeadOf master h → ⊥
 IsNewestOf master hs (Some id) = IsNewest master hs id

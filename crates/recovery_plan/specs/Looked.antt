@@ -15,7 +15,7 @@ use Rattle.recovery_plan.specs.Preferred.{IsBest}
 abbrev pub lent : List (Bor Holding) → List Holding
 lent hs = map (λ (h : Bor Holding). h.now) hs
 
--- what is known of each segment is the preferred replica of it
+-- the look-up has the preferred replica of each segment
 abbrev pub ArePreferred : ℕ → List Holding → (ℕ → Option (Bor Holding)) → Type 0
 ArePreferred master hs look = (id : ℕ) → IsBest (IsOf master id) hs (option_copied (look id))
 
@@ -27,19 +27,19 @@ without_last ids = take (length ids - 1) ids
 abbrev pub IsUsableFor : Digest → ℕ → Holding → Type 0
 IsUsableFor d id h = (h.is_open ≡ false) ⊎ IfSome (listed_len id d) (λ n. n ≤ length h.bytes)
 
--- what is found of a segment: what is known of it, if that may be used
+-- what is found of a segment: the replica that the look-up has of it, if that may be used
 abbrev pub IsFound : (ℕ → Option (Bor Holding)) → Digest → ℕ → Option (Bor Holding) → Type 0
 IsFound look d id None = (h : Bor Holding) → look id ≡ Some h → IsUsableFor d id h.now → ⊥
 IsFound look d id (Some h) = (look id ≡ Some h) × IsUsableFor d id h.now
 
--- what is found, id by id
+-- what is found of the segments, id by id
 abbrev pub AreFound : (ℕ → Option (Bor Holding)) → Digest → List ℕ → List (Bor Holding) → Type 0
 AreFound look d [] [] = Unit {0}
 AreFound look d [] (h ∷ hs) = ⊥
 AreFound look d (id ∷ ids) [] = ⊥
 AreFound look d (id ∷ ids) (h ∷ hs) = IsFound look d id (Some h) × AreFound look d ids hs
 
--- the first id that isn't found, the last one left out
+-- the first id, except the last one, of which nothing is found
 pub record IsFirstLacking (look : ℕ → Option (Bor Holding)) (d : Digest) (id : ℕ) : Type 0 where
   pub place : ℕ
   pub within : place + 1 < length (listed_ids d)
@@ -47,7 +47,7 @@ pub record IsFirstLacking (look : ℕ → Option (Bor Holding)) (d : Digest) (id
   pub lacking : IsFound look d id None
   pub before : (k : ℕ) → k < place → (h : Bor Holding) × IsFound look d (slice_index (listed_ids d) k) (Some h)
 
--- why not all are found
+-- why replicas are not found for all ids
 abbrev pub IsLack : (ℕ → Option (Bor Holding)) → Digest → PlanFault → Type 0
 IsLack look d (Missing id) = IsFirstLacking look d id
 IsLack look d NoMemory = Unit {0}

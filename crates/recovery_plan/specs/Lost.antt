@@ -11,7 +11,7 @@ use Rattle.recovery_plan.specs.Looked.{IsUsableFor}
 abbrev pub HasReplica : List Holding → ℕ → Digest → ℕ → Type 0
 HasReplica hs master d id = (h : Holding) × IsAmong h hs × IsOf master id h × IsUsableFor d id h
 
--- This id is listed, and isn't the last. No replica of it may be used, and of each id before it one may.
+-- This id is listed, and isn't the last. No replica of it may be used, and some replica of each id before it may.
 pub record IsFirstLost (hs : List Holding) (master : ℕ) (d : Digest) (id : ℕ) : Type 0 where
   pub place : ℕ
   pub within : place + 1 < length (listed_ids d)
@@ -19,7 +19,7 @@ pub record IsFirstLost (hs : List Holding) (master : ℕ) (d : Digest) (id : ℕ
   pub lost : HasReplica hs master d id → ⊥
   pub before : (k : ℕ) → k < place → HasReplica hs master d (slice_index (listed_ids d) k)
 
--- the first such id; None if of each but the last a replica may be used
+-- the first such id; None if each id but the last has a replica that may be used
 abbrev pub IsFirstLostOf : List Holding → ℕ → Digest → Option ℕ → Type 0
 IsFirstLostOf hs master d None =
     (k : ℕ) → k + 1 < length (listed_ids d) → HasReplica hs master d (slice_index (listed_ids d) k)

@@ -14,7 +14,7 @@ use Rattle.recovery_plan.specs.Preferred.{IsPreferred, IsBest}
 
 -- ---- a plan
 
--- a choice of the master's newest log from these replicas, if this is the least head that may be used
+-- a choice of the master's newest log from these replicas; `least` is the least head that may be used
 abbrev pub IsChoiceOf : List Holding → ℕ → ℕ → Choice → Type 0
 IsChoiceOf hs least master c = IsChoice (λ (h : Holding). IsAmong h hs) least master c
 
@@ -45,25 +45,25 @@ pub record IsFirstBad (hs : List Holding) (master backup id : ℕ) : Type 0 wher
   pub is_bad : IsGood bad → ⊥
   pub good_before : AreGood master before
 
--- all replicas are well, and none has a digest
+-- all replicas of the master are good, and none has a digest
 pub record HasNoHead (hs : List Holding) (master : ℕ) : Type 0 where
   pub good : AreGood master hs
   pub no_head : (h : Holding) → IsAmong h hs → IsHeadOf master h → ⊥
 
--- all replicas are well, and the newest head is older than the least that may be used
+-- all replicas of the master are good, and the newest head is older than the least that may be used
 pub record IsTooOld (hs : List Holding) (least master id : ℕ) : Type 0 where
   pub good : AreGood master hs
   pub newest : IsNewest master hs id
   pub too_old : id < least
 
--- all replicas are well, and the newest head may be used, but none of its replicas is open
+-- all replicas of the master are good, and the newest head may be used, but none of its replicas is open
 pub record IsHeadClosed (hs : List Holding) (least master id : ℕ) : Type 0 where
   pub good : AreGood master hs
   pub newest : IsNewest master hs id
   pub usable : IsUsableHead least id
   pub closed : (h : Holding) → IsAmong h hs → IsOpenHead master id h → ⊥
 
--- all replicas are well, and this one of the newest head is taken
+-- all replicas of the master are good, and this one of the newest head is taken
 pub record IsHeadTaken (hs : List Holding) (master : ℕ) (head : Holding) : Type 0 where
   pub good : AreGood master hs
   pub newest : IsNewest master hs head.segment
@@ -74,7 +74,7 @@ abbrev pub IsOpenNewest : ℕ → Option ℕ → Holding → Type 0
 IsOpenNewest master None h = ⊥
 IsOpenNewest master (Some id) h = IsOpenHead master id h
 
--- the id of the newest head, and its open replica that is taken; None if there is no such
+-- the id of the newest head, and which of its open replicas is taken; None if there is no such head or replica
 pub record AreNewest (master : ℕ) (hs : List Holding) (id : Option ℕ) (taken : Option Holding) : Type 0 where
   pub newest : IsNewestOf master hs id
   pub best : IsBest (IsOpenNewest master id) hs taken
@@ -87,15 +87,15 @@ IsHeadFault hs least master (HeadTooOld id) = IsTooOld hs least master id
 IsHeadFault hs least master (HeadClosed id) = IsHeadClosed hs least master id
 IsHeadFault hs least master _ = ⊥
 
--- no replica that may be used for this id of the digest is there
+-- no replica may be used for this id of the digest
 abbrev pub IsLost : List Holding → ℕ → Opening → ℕ → Type 0
 IsLost hs master opening id = (h : Holding) → IsAmong h hs → IsReplicaOf master opening id h → ⊥
 
--- some such replica is there
+-- some replica may be used for this id of the digest
 abbrev pub IsHere : List Holding → ℕ → Opening → ℕ → Type 0
 IsHere hs master opening id = (h : Holding) × IsAmong h hs × IsReplicaOf master opening id h
 
--- the digest of the head that is taken lists another segment, which is lost; none of those below it is
+-- the digest of the head that is taken lists this other segment, which is lost, and it lists no lower one that is lost
 pub record IsMissing (hs : List Holding) (least master id : ℕ) : Type 0 where
   pub head : Holding
   pub taken : IsHeadTaken hs master head
@@ -116,7 +116,7 @@ pub record HasAllListed (hs : List Holding) (least master : ℕ) : Type 0 where
   pub opened : opening_in head.bytes ≡ Some opening
   pub here : (n : ℕ) → IsAmong n (listed_ids opening.digest) → (n ≡ head.segment → ⊥) → IsHere hs master opening n
 
--- what holds of the replicas for each fault, in the order of the tests; memory is wanted only if no test fails
+-- what is true of the replicas for each fault, in the order of the tests; NoMemory comes only if no test fails
 abbrev pub IsPlanFault : List Holding → ℕ → ℕ → PlanFault → Type 0
 IsPlanFault hs least master (BadReplica backup id) = IsFirstBad hs master backup id
 IsPlanFault hs least master NoHead = HasNoHead hs master
@@ -131,7 +131,7 @@ IsLaterFault hs least master (Missing id) = IsMissing hs least master id
 IsLaterFault hs least master NoMemory = HasAllListed hs least master
 IsLaterFault hs least master _ = ⊥
 
--- the same, before it is known whether a segment is lost if memory ran out
+-- the same, but if memory ran out, it is not known yet whether a segment is lost
 abbrev pub IsFoundFault : List Holding → ℕ → ℕ → PlanFault → Type 0
 IsFoundFault hs least master (Missing id) = IsMissing hs least master id
 IsFoundFault hs least master NoMemory = Unit {0}
@@ -139,7 +139,7 @@ IsFoundFault hs least master _ = ⊥
 
 -- ---- what a fault means
 
--- the open replicas of the newest head have one digest
+-- the open replicas of the newest head have the same digest
 abbrev pub AgreeOnDigest : List Holding → ℕ → Type 0
 AgreeOnDigest hs master = (id : ℕ) (g h : Holding) (o q : Opening) → IsNewest master hs id
     → IsAmong g hs → IsAmong h hs → IsOpenHead master id g → IsOpenHead master id h
@@ -154,7 +154,7 @@ pub record IsLostSegment (hs : List Holding) (least master id : ℕ) : Type 0 wh
   -- and if the digests of the open heads agree there is no choice
   pub none : AgreeOnDigest hs master → (c : Choice) → IsChoiceOf hs least master c → ⊥
 
--- If the master's replicas are well, a loss is named only if there is no choice.
+-- If the master's replicas are good, a loss is named only if there is no choice.
 abbrev pub NamesLoss : List Holding → ℕ → ℕ → PlanFault → Type 0
 NamesLoss hs least master NoHead = (c : Choice) → IsChoiceOf hs least master c → ⊥
 NamesLoss hs least master (HeadTooOld id) = (c : Choice) → IsChoiceOf hs least master c → ⊥

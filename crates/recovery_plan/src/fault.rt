@@ -12,14 +12,14 @@ use std::fmt;
 #[derive(Clone, Copy, Debug, PartialEq, Eq)]
 pub enum PlanFault {
     NoHead,
-    /// The newest head.
+    /// The newest head, of which no replica is open.
     HeadClosed(u64),
-    /// The lowest segment of the digest that is lost.
+    /// The lowest segment of the digest that is lost: no replica of it may be used.
     Missing(u64),
-    /// The backup and the segment of the first bad replica.
+    /// The first bad replica: its backup, and its segment.
     BadReplica(u64, u64),
     NoMemory,
-    /// The newest head, which is older than the least that may be used.
+    /// The newest head, which is older than the least head that may be used.
     HeadTooOld(u64),
 }
 

@@ -12,14 +12,14 @@ use crate::head::{Head, better_head};
 use crate::reading::segment_in;
 use replica::Holding;
 
-/// The id of the newest head so far, and its open replica that is taken so far.
+/// The id of the newest head so far, and which of its open replicas is taken so far.
 #[derive(Drop)]
 struct Newest<'h, 'a> {
     id: Option<u64>,
     taken: Option<Head<'h, 'a>>,
 }
 
-/// The open replica of a head that is taken, once this replica of the head has come too.
+/// Which open replica of a head is taken, once this replica of the head has come too.
 fn with_open<'h, 'a>(before: Option<Head<'h, 'a>>, head: Head<'h, 'a>) -> Option<Head<'h, 'a>>
     ensures { (master : ℕ) (hs : List HoldingValue) → IsHeadOf master head.entry →
         IsBest (IsOpenHead master head.entry.segment) hs before.entry →
@@ -52,8 +52,8 @@ fn with_head<'h, 'a>(newest: Newest<'h, 'a>, head: Head<'h, 'a>) -> Newest<'h, '
     }
 }
 
-/// The replica of the newest head of a master that is taken, if this is the least head that may be used. Each replica
-/// of the master is read, once.
+/// Which replica of the newest head of a master is taken. `least` is the least head that may be used. Each replica of
+/// the master is read once.
 pub(crate) fn newest_head<'h, 'a>(
     holdings: &'h [Holding<'a>],
     master: u64,

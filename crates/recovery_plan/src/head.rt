@@ -1,4 +1,4 @@
-//! A replica of a head, and what the head opens with.
+//! A replica of a head, and the digest and the safe version in it.
 
 ghost use Rattle.std.specs.Prelude.{◌≡◌, Some, IfSome, IfNone, IsSome};
 ghost use Rattle.entry.specs.Text.{entries_in, opening_in};
@@ -12,7 +12,7 @@ use replica::Holding;
 use segment::SegmentRef;
 use std::marker::Model;
 
-/// A replica of a head, with the digest and the safe version that were found in it. So its bytes aren't read again. A
+/// A replica of a head, with the digest and the safe version that were found in it, so its bytes aren't read again. A
 /// contract sees the replica.
 #[derive(Drop)]
 pub struct Head<'h, 'a> {
@@ -36,7 +36,7 @@ impl<'h, 'a> Model for Head<'h, 'a> {
 }
 
 impl<'h, 'a> Head<'h, 'a> {
-    /// The replica as one of a head, whose segment this is; None if the segment has no digest.
+    /// The replica as one of a head. `segment` is the replica's segment. None if that has no digest.
     pub fn of(replica: &'h Holding<'a>, segment: &SegmentRef<'a>) -> Option<Head<'h, 'a>>
         requires good { IsGood replica.now }
         requires entries { segment.now ≡ entries_in replica.now.bytes }
@@ -77,7 +77,7 @@ impl<'h, 'a> Head<'h, 'a> {
     }
 }
 
-/// The later head if it is preferred to the best before it, and else that one.
+/// The later head if it is preferred to the best one before it, and else that one.
 pub fn better_head<'h, 'a>(best: Option<Head<'h, 'a>>, later: Head<'h, 'a>) -> Head<'h, 'a>
     ensures { result ≡ better best.entry later.entry }
 {

@@ -29,7 +29,7 @@ fn found_at<'h, 'a>(
     }
 }
 
-/// The best replica of each id of a digest but the last, which is the head's own.
+/// The best replica of each segment that a digest lists, except of the last one, which is the head itself.
 pub(crate) fn others<'h, 'a>(
     alloc: Global,
     best: &BTreeMap<u64, &'h Holding<'a>>,

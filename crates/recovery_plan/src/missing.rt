@@ -24,8 +24,8 @@ fn has_replica(holdings: &[Holding<'_>], master: u64, digest: &DigestRef<'_>, pl
     false
 }
 
-/// The first id of a digest but the last of which no replica may be used. It takes no memory, and walks all replicas
-/// for each id.
+/// The first id of a digest, except the last one, of which no replica may be used. It takes no memory, and walks all
+/// replicas for each id.
 pub(crate) fn first_missing(
     holdings: &[Holding<'_>],
     master: u64,

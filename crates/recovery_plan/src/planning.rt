@@ -16,7 +16,7 @@ use crate::reading::segments_of;
 use replica::{Holding, Inventory};
 use std::alloc::Global;
 
-// The plan of what is found of each listed segment. It asks for memory before each is looked up.
+// The plan with what is found of each listed segment. It asks for memory before it looks the segments up.
 fn found_plan<'h, 'a>(
     alloc: Global,
     holdings: &'h [Holding<'a>],
@@ -42,7 +42,7 @@ fn found_plan<'h, 'a>(
     }
 }
 
-// Why there is no plan if memory ran out: a listed segment is lost, or else memory is all that was wanted.
+// The fault if memory ran out: Missing if a listed segment is lost, and else NoMemory.
 fn want(holdings: &[Holding<'_>], master: u64, head: &Head<'_, '_>) -> PlanFault
     requires { IsHeadTaken holdings.now master head.now }
     ensures { (least : ℕ) → IsUsableHead least head.now.segment →
@@ -75,10 +75,11 @@ fn plan_from<'h, 'a>(
     }
 }
 
-/// The segments of the newest log that the inventory shows of a master, if this is the least head that may be used. Of
-/// the newest head the longest open replica is taken; of another segment a closed one, else the longest open one, which
-/// has at least the length that the digest lists; ties go to the lowest backup, then to the first. Each replica of the
-/// master is read once. No text is copied: the plan refers to the bytes that the backups lend.
+/// Finds the segments of the newest log that the inventory shows of a master. `least` is the least head that may be
+/// used. Of the newest head the longest open replica is taken. Of another segment a closed replica is taken, and else
+/// the longest open one, which has at least the length that the digest lists. Ties go to the lowest backup, then to
+/// the first replica. Each replica of the master is read once. No bytes are copied: the plan refers to those that the
+/// backups lend.
 pub fn plan<'a>(
     alloc: Global,
     inventory: &Inventory<'a>,
@@ -87,7 +88,7 @@ pub fn plan<'a>(
 ) -> Result<Plan<'a>, PlanFault>
     // The plan is a choice of the newest log, and takes the preferred replicas.
     ensures ok { IfOk result (IsPlan inventory.entry.now least master) }
-    // A fault is the first that the tests find in the inventory. Memory is wanted only if they find none.
+    // A fault is the first that the tests find in the inventory. NoMemory comes only if they find none.
     ensures fault { IfErr result (λ fault. IsPlanFault inventory.entry.now least master fault) }
     // A loss is named only if there is nothing to choose.
     ensures loss { IfErr result (λ fault. NamesLoss inventory.entry.now least master fault) }

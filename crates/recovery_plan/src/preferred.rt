@@ -11,7 +11,7 @@ use replica::Holding;
 use std::alloc::{AllocError, Global};
 use std::collections::BTreeMap;
 
-// Whether the first is longer, or as long and on a lower backup.
+// Whether the first replica is longer, or as long and on a lower backup.
 fn longer(a: &Holding<'_>, b: &Holding<'_>) -> bool
     ensures { result ≡ is_longer a.now b.now }
 {
@@ -20,7 +20,7 @@ fn longer(a: &Holding<'_>, b: &Holding<'_>) -> bool
     b_len < a_len || (a_len == b_len && a.backup < b.backup)
 }
 
-/// Whether the first is preferred to the second.
+/// Whether the first replica is preferred to the second.
 pub(crate) fn prefers(a: &Holding<'_>, b: &Holding<'_>) -> bool
     ensures { result ≡ is_preferred a.now b.now }
 {
@@ -31,7 +31,7 @@ pub(crate) fn prefers(a: &Holding<'_>, b: &Holding<'_>) -> bool
     }
 }
 
-// The later replica if it is preferred to the best before it, and else that one.
+// The later replica if it is preferred to the best one before it, and else that one.
 fn better_of<'h, 'a>(best: Option<&'h Holding<'a>>, later: &'h Holding<'a>) -> &'h Holding<'a>
     ensures { result.now ≡ better (option_copied best.entry) later.entry.now }
 {

@@ -12,7 +12,7 @@ use replica::Holding;
 use segment::SegmentRef;
 use std::alloc::{AllocError, Global};
 
-/// The segment of a replica, if the replica is well.
+/// The segment of a replica, or None if the replica is bad.
 pub(crate) fn segment_in<'a>(holding: &Holding<'a>) -> Option<SegmentRef<'a>>
     ensures good { IfSome result (λ segment. IsGood holding.entry.now) }
     ensures entries { IfSome result (λ segment. segment ≡ entries_in holding.entry.now.bytes) }
@@ -31,7 +31,7 @@ pub(crate) fn segment_in<'a>(holding: &Holding<'a>) -> Option<SegmentRef<'a>>
     }
 }
 
-/// The segments of replicas that are well. They are neither read again nor copied.
+/// The segments of good replicas. They are neither read again nor copied.
 pub(crate) fn segments_of<'a>(
     alloc: Global,
     chosen: Vec<&Holding<'a>>,

@@ -4,7 +4,8 @@ ghost use Rattle.std.specs.Prelude.{◌≡◌, ◌≤◌, ◌⊎◌, ◌↔◌, 
 
 use replica::Holding;
 
-/// Whether a replica may be used for a segment of which the digest lists this length, or none.
+/// Whether a replica may be used for a listed segment. `len` is the length that the digest lists for it, if it lists
+/// one.
 pub(crate) fn is_usable(holding: &Holding<'_>, len: Option<u64>) -> bool
     ensures { IsTrue result ↔
         ((holding.now.is_open ≡ false) ⊎ IfSome len (λ n. n ≤ length holding.now.bytes)) }

@@ -19,11 +19,11 @@ use Rattle.claims.specs.declared.rebuilt.Rebuilt.{Rebuilt}
 
 -- ---- a master that is loaded
 
--- The object can't be loaded before a head has room for it.
+-- The object can't be loaded until some head has room for it.
 abbrev pub HasToWait : Object → World → Type 0
 HasToWait o w = load_refusal w.knows o ≡ Some refusal.Rolling
 
--- So many times the object had to wait, and room was made for it.
+-- This many times the object had to wait, and room was made for it.
 abbrev pub HasRoomMade : ℕ → Object → World → World → Type 0
 HasRoomMade zero o old new = new ≡ old
 HasRoomMade (suc count) o old new =
@@ -39,7 +39,7 @@ abbrev pub HasLoaded : List Object → World → World → Type 0
 HasLoaded [] old new = new ≡ old
 HasLoaded (o ∷ os) old new = (mid : World) × LoadsOne o old mid × HasLoaded os mid new
 
--- They were loaded, and then pushes were made until nothing waited.
+-- The objects were loaded, and then pushes were made until nothing waited.
 abbrev pub LoadsAll : List Object → World → World → Type 0
 LoadsAll os old new = (mid : World) × HasLoaded os old mid × PushesUntil mid refusal.Nothing new
 
@@ -48,18 +48,19 @@ abbrev pub DeclinesOne : Object → World → Refusal → World → Type 0
 DeclinesOne o old r new = (DeclinesLoad old.knows (entry.Object o) r new.knows × (new.fleet ≡ old.fleet))
     ⊎ (HasToWait o old × IsNotRolled old r new)
 
--- It went no further, with these objects left. The first of them was not loaded, though room may have been made for
--- it before. If none was left, a push was refused.
+-- Loading went no further, with these objects left. The first of them was not loaded, though room may have been made
+-- for it before. If none was left, a push was refused.
 abbrev pub IsStuck : List Object → World → Refusal → World → Type 0
 IsStuck [] old r new = PushesUntil old r new
 IsStuck (o ∷ os) old r new =
     (rooms : ℕ) × (mid : World) × HasRoomMade rooms o old mid × DeclinesOne o mid r new
 
--- after these refusals it goes on: a roll makes room, and then its pushes are made until nothing waits
+-- the refusal ends an adoption: Rolling does not, since a roll makes room, and Nothing does not, since no push is
+-- needed then
 abbrev pub IsFinal : Refusal → Type 0
 IsFinal r = (r ≡ refusal.Rolling → ⊥) × (r ≡ refusal.Nothing → ⊥)
 
--- Of these objects the first ones were loaded, and then it went no further.
+-- The first of these objects were loaded, and then loading went no further.
 pub record Stops (os : List Object) (old : World) (r : Refusal) (new : World) : Type 0 where
   pub loaded : List Object
   pub left : List Object
@@ -86,19 +87,20 @@ pub record IsAdoptedOn (master : ℕ) (old new : FleetState) : Type 0 where
   pub end : new.end ≡ old.end
   -- no replica of another master changed
   pub others : (b m s : ℕ) → (m ≡ master → ⊥) → new.picture b m s ≡ old.picture b m s
-  -- no least head of another master is raised
+  -- the least head of no other master is raised
   pub least : (m : ℕ) → (m ≡ master → ⊥) → new.least m ≡ old.least m
 
 -- A master was restored over this fleet and loaded with the list, and this is the master that it became. A roll began
 -- only if the next object had to wait and the head was open. Pushes were made only for an object that had to wait, or
--- once no object was left; and then until nothing waited.
+-- after the last object, and then until nothing waited.
 pub record AdoptsList (c : Config) (r : Rebuilt) (old : FleetState) (new : World) : Type 0 where
   pub last : World
   pub loads : LoadsAll r.objects (world_of (restored_data c r.safe) old) last
   pub settles : Settles last.knows new.knows
   pub fleet : new.fleet ≡ last.fleet
 
--- The list is not adopted: there was no memory for a master, or the master that was loaded with it went no further.
+-- The list is not adopted: there was no memory for a master, or the loading of the list into that master went no
+-- further.
 abbrev pub DeclinesList : Config → Rebuilt → FleetState → Refusal → FleetState → Type 0
 DeclinesList c r old why new = ((why ≡ refusal.NoMemory) × (new ≡ old))
     ⊎ ((after : MasterData) × Stops r.objects (world_of (restored_data c r.safe) old) why (world_of after new))

@@ -19,7 +19,7 @@ use entry::{NoMemory, ObjectRef};
 use replica::Fleet;
 use std::alloc::Global;
 
-/// Loads one object, into a new head if the one in force has no room for it.
+/// Loads one object, into a new head if the head in force has no room for it.
 fn load_one<F: Fleet>(loading: &mut Loading<F>, object: &ObjectRef<'_>) -> Result<(), Refusal>
     requires { IsNewObject loading.old.knows (shown_object object.now) }
     ensures loaded { OnOk result (
@@ -51,8 +51,8 @@ fn load_all<F: Fleet>(loading: &mut Loading<F>, objects: &Objects) -> Result<(),
     push_all(loading)
 }
 
-/// A master that is to be loaded with the list. Its index is made for as many objects. If memory runs out, it hands the
-/// fleet back.
+/// A master into which the list is to be loaded. Its index is made for as many objects as the list has. If memory runs
+/// out, the fleet comes back.
 fn restore<F: Fleet>(
     alloc: Global,
     rebuilt: &Rebuilt,
@@ -75,10 +75,10 @@ fn restore<F: Fleet>(
     }
 }
 
-/// A master whose history begins with the list, under a number that has no replicas. No replica of another master
-/// changes. It begins a roll only if the next object has to wait for one. It pushes only for that, or once no object is
-/// left, and then until nothing waits. If it is refused, the fleet comes back with what was taken so far; NoMemory also
-/// comes before the first take.
+/// Makes a master whose history begins with the list, under a number that has no replicas. No replica of another
+/// master changes. The master begins a roll only if the next object has to wait for one. It pushes only for such an
+/// object, or after the last object, and then until nothing waits. If the call is refused, the fleet comes back with
+/// what it took so far. NoMemory may also come before the first take.
 pub fn adopt_list<F: Fleet>(
     alloc: Global,
     rebuilt: &Rebuilt,
@@ -109,7 +109,8 @@ pub fn adopt_list<F: Fleet>(
     }
 }
 
-/// A master whose history begins with the list, as `adopt_list` makes it. If it is refused, list and fleet come back.
+/// Makes a master whose history begins with the list, as `adopt_list` does. If the call is refused, list and fleet
+/// come back.
 pub fn adopt<F: Fleet>(
     alloc: Global,
     rebuilt: Rebuilt,

@@ -1,8 +1,8 @@
 //! A master that goes on with what a log stands for.
 //!
-//! `adopt` makes it of a rebuilt list, under a number that has no replicas. What a log is rebuilt to, and by which
-//! calls, the crates below say (`claims`, `partition_replay`, `rebuilding`, `rebuild_threads`), whose names are shown
-//! here again.
+//! `adopt` makes such a master from a rebuilt list, under a number that has no replicas. The crates below (`claims`,
+//! `partition_replay`, `rebuilding`, `rebuild_threads`) say what a log is rebuilt to, and by which calls. This crate
+//! exports their names, too.
 #![tactic(auto)]
 
 mod adopting;
