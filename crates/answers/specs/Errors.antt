@@ -17,7 +17,7 @@ abbrev pub IsHanded : {E : Type 0} → Option (List ℕ) → Option (List ℕ) �
 IsHanded held holds bytes (Ok done) = Appends held holds bytes
 IsHanded held holds bytes (Err e) = AppendsFront held holds bytes
 
--- what was written of the bytes if writing had failed before, or had not, and has failed now, or has not
+-- what was written of the bytes, by whether writing had failed before, and whether it has failed now
 abbrev pub WritesUnless : Bool → Bool → Option (List ℕ) → Option (List ℕ) → List ℕ → Type 0
 WritesUnless false false held holds bytes = Appends held holds bytes
 WritesUnless false true held holds bytes = AppendsFront held holds bytes

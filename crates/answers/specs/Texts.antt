@@ -89,7 +89,7 @@ label_text l =
 abbrev pub asked_text : ℕ → Bool → List ℕ
 asked_text takes taken = codes "fault " ++ decimal takes ++ 32 ∷ fate_word taken ++ 10 ∷ []
 
--- the name of what a fault of a take comes to: one of a backup halts the master
+-- the name that is printed for a fault of a take; a fault of a backup halts the master, and is called Halted
 abbrev pub take_fault_text : TakeFault → List ℕ
 take_fault_text take_fault.NoMemory = codes "NoMemory"
 take_fault_text take_fault.Wrong = codes "Wrong"

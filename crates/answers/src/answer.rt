@@ -28,20 +28,21 @@ use std::fmt::{Display, Write as _};
 use std::io::Write;
 use tablet_will::Part;
 
-/// What a line of a script answers.
+/// What a line of a script answers. A command that was refused as Halted or Lost may have been applied, and a backup
+/// may have taken its op.
 #[derive(Drop)]
 pub enum Answer {
     /// Nothing is printed.
     Silent,
     Reply(Reply),
     Refused(Refusal),
-    /// The image of a segment.
+    /// The bytes of the image of a segment.
     Hex(Row<u8>),
     /// There is no image of this segment.
     NotInLog(u64),
     /// How many more ops the fleet takes.
     Stop(u64),
-    /// The fault that was asked for: which take from then ends in it, and whether its op is taken.
+    /// A fault was asked for: in which take it comes, 1 for the next one, and whether the op of that take is taken.
     Fault(u64, bool),
     /// Masters that start later write format 2.
     Format,
@@ -52,13 +53,14 @@ pub enum Answer {
     Lost(u64),
     Recovered(Rebuilt),
     NotRecovered(RecoveryFault),
-    /// The table was adopted, but the replicas of other masters weren't all freed. The new master was dropped.
+    /// The table was adopted, but the replicas of other masters weren't all freed, and the new master was dropped.
+    /// After Fault nobody knows whether the backup took the op.
     NotRetired(TakeFault),
-    /// Nothing was recovered: no master can have a greater number.
+    /// Nothing was recovered, since no number is left for a new master.
     NumbersSpent,
     /// The number of the head, which is open.
     Head(u64),
-    /// The number of the next head: a roll to it began.
+    /// A roll began. This is the number of the head that it opens.
     Opening(u64),
     /// The segment that was compacted, and how many bytes its image has now.
     Compacted(u64, u64),
@@ -90,11 +92,11 @@ pub enum Answer {
     Counted(u64, u64, u64),
     /// The ids of the digest in force.
     Log(Row<u64>),
-    /// How many seglets of memory are counted, and how many are free.
+    /// How many seglets of memory are counted as used, and how many are free.
     Room(u64, u64),
-    /// The parts of the will that was made and handed over, and the limits of its partitions.
+    /// The parts of the will that was made and handed to the coordinator, and the limits of its partitions.
     Will(Row<Part>, Limits),
-    /// No will was made: a partition may have no byte, or no object.
+    /// No will was made: by these limits a partition may have no byte, or no object.
     BadLimits(Limits),
     /// What the backups hold.
     Holdings(Labels),
@@ -102,13 +104,14 @@ pub enum Answer {
     Down,
     /// The line was refused: there is a master.
     Up,
-    /// A store of clients could not tell whose its records were. Tests alone show that this never comes.
+    /// A store of clients could not tell whose its records were. That this never comes is tested, not proved.
     SeatUnknown,
-    /// A cell of a store of clients did not take its record. Tests alone show that this never comes.
+    /// A cell of a store of clients did not take its record. That this never comes is tested, not proved.
     CellRefused,
 }
 
-// What a reply needs is inlined. Functions of long answers are not, since a reply would clear their results too.
+// Functions that write a reply are inlined. Those that write a long answer are not: a reply would clear room for their
+// results, too.
 
 /// Writes the lines of an answer, each with its line feed.
 #[inline(always)]
@@ -181,7 +184,7 @@ pub fn write_reply<W: Write>(writer: &mut W, reply: &ReplyRef<'_>) -> Result<(),
 /// The most bytes of the line of a refusal or of a recovery's fault.
 const REFUSED_LEN: usize = 96;
 
-/// Writes the line of what was refused, in one write. Each text that is written so has room.
+/// Writes the line of a refusal, in one write. The line has room for each text of a refusal.
 #[inline(never)]
 fn write_refused<W: Write, D: Display>(writer: &mut W, why: &D) -> Result<(), WriteFailed>
     ensures { IfSome (D.output why.now) (λ text. IsHanded (W.contents writer.old) (W.contents writer.new)
@@ -193,7 +196,7 @@ fn write_refused<W: Write, D: Display>(writer: &mut W, why: &D) -> Result<(), Wr
     }
 }
 
-/// The line of what was refused, if it has room.
+/// The line of a refusal, or None if it has no room.
 fn refused_line<D: Display>(why: &D) -> Option<ArrayString<REFUSED_LEN>>
     ensures { IfSome (D.output why.now) (λ text. IfSome result (λ line.
         line.bytes ≡ codes "refused " ++ text ++ 10 ∷ [])) }
@@ -205,7 +208,7 @@ fn refused_line<D: Display>(why: &D) -> Option<ArrayString<REFUSED_LEN>>
     }
 }
 
-/// Writes the line of what a fault of a take comes to.
+/// Writes the line of a fault of a take.
 #[inline(always)]
 fn write_take_fault<W: Write>(writer: &mut W, fault: TakeFault) -> Result<(), WriteFailed>
     ensures { IsHanded (W.contents writer.old) (W.contents writer.new)
@@ -236,7 +239,7 @@ fn write_number<W: Write>(
     hand(writer, &line[start..])
 }
 
-/// Puts words and a number before the last byte of the line. Answers where they begin.
+/// Puts words and a number before the last byte of the line, and answers where the words begin.
 #[inline(always)]
 fn put_number_line(line: &mut [u8; 48], words: &[u8], number: u64) -> usize
     requires { length words.now ≤ 20 }
@@ -280,7 +283,7 @@ fn write_short<W: Write>(writer: &mut W, number: u64, value: &[u8]) -> Result<()
     hand(writer, versioned_line(number, value).as_slice())
 }
 
-/// The line itself.
+/// The line of a number and a short value.
 #[inline(always)]
 fn versioned_line(number: u64, value: &[u8]) -> ShortLine
     requires { length value.now ≤ 128 }
@@ -377,7 +380,7 @@ fn write_op<W: Write>(
     hand(writer, op_line(words, first, second).as_slice())
 }
 
-/// The line itself.
+/// The line of words and two numbers.
 #[inline(always)]
 fn op_line(words: &[u8], first: u64, second: u64) -> ShortLine
     requires { length words.now ≤ 20 }
@@ -399,7 +402,7 @@ fn write_fault<W: Write>(writer: &mut W, takes: u64, taken: bool) -> Result<(), 
     hand(writer, fault_line(takes, taken).as_slice())
 }
 
-/// The line itself.
+/// The line of a fault that was asked for.
 #[inline(always)]
 fn fault_line(takes: u64, taken: bool) -> ShortLine
     ensures { result ≡ asked_text takes taken }
@@ -434,7 +437,7 @@ fn write_counted<W: Write>(
     hand(writer, counted_line(clients, rounds, calls).as_slice())
 }
 
-/// The line itself.
+/// The line of clients, of their rounds and of their calls.
 #[inline(always)]
 fn counted_line(clients: u64, rounds: u64, calls: u64) -> ShortLine
     ensures { result ≡ codes "clients " ++ decimal clients ++ 32 ∷ op_text [] rounds calls }
@@ -457,7 +460,7 @@ fn write_room<W: Write>(writer: &mut W, used: u64, free: u64) -> Result<(), Writ
     hand(writer, room_line(used, free).as_slice())
 }
 
-/// The line itself.
+/// The line of the seglets that are counted, and of those that are free.
 #[inline(always)]
 fn room_line(used: u64, free: u64) -> ShortLine
     ensures { result ≡ room_text used free }
@@ -500,7 +503,7 @@ fn write_survivors<W: Write>(writer: &mut W, survivors: Survivors) -> Result<(),
         (flat_map spaced_text (survivor_ids survivors)) result }
 {
     for place in 0..survivors.count {
-        // Wide, so that no number is too great.
+        // In 128 bits, so that the sum always fits.
         let id = survivors.first as u128 + place as u128;
         write_spaced(writer, id)?;
     }
@@ -542,7 +545,7 @@ fn write_label<W: Write>(writer: &mut W, label: &Label) -> Result<(), WriteFaile
     hand(writer, label_line(label).as_slice())
 }
 
-/// The line itself.
+/// The line of a replica.
 #[inline(always)]
 fn label_line(label: &Label) -> ShortLine
     ensures { result ≡ label_text label.now }
@@ -593,7 +596,7 @@ fn write_short_object<W: Write>(writer: &mut W, object: &ObjectRef<'_>) -> Resul
     hand(writer, object_line(object).as_slice())
 }
 
-/// The line itself.
+/// The line of an object whose key and value are short.
 #[inline(always)]
 fn object_line(object: &ObjectRef<'_>) -> ShortLine
     requires { length object.now.key.bytes.now + length object.now.value.now ≤ 176 }

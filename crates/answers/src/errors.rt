@@ -7,7 +7,7 @@ use crate::handing::hand;
 use std::io::Write;
 use std::marker::Model;
 
-/// Where the lines about faults go. Once writing has failed, it writes no more.
+/// The output for the lines about faults. Once writing has failed, it writes no more.
 #[derive(Drop)]
 pub struct ErrorOutput<W: Write + Drop> {
     writer: W,
@@ -26,7 +26,7 @@ impl<W: Write + Drop> Model for ErrorOutput<W> {
 }
 
 impl<W: Write + Drop> ErrorOutput<W> {
-    /// An output that tells what is wrong. If it `explains`, for a reader at a terminal, a second line says why.
+    /// An output for faults. If it `explains`, a second line says why, for a reader at a terminal.
     pub fn new(writer: W, explains: bool) -> ErrorOutput<W>
         ensures { result ≡ record { holds = W.contents writer; has_failed = false; explains = explains } }
     {
@@ -37,21 +37,21 @@ impl<W: Write + Drop> ErrorOutput<W> {
         }
     }
 
-    /// Whether a second line is to say why.
+    /// Whether a second line says why.
     pub fn explains(&self) -> bool
         ensures { result ≡ self.now.explains }
     {
         self.explains
     }
 
-    /// What it writes to.
+    /// The writer that has the lines.
     pub fn writer(&self) -> &W
         ensures { W.contents result.now ≡ self.now.holds }
     {
         &self.writer
     }
 
-    /// Writes the bytes.
+    /// Writes the bytes, unless writing failed before.
     pub fn write(&mut self, bytes: &[u8])
         ensures { Writes self.old self.new bytes.now }
     {
@@ -60,7 +60,7 @@ impl<W: Write + Drop> ErrorOutput<W> {
         }
     }
 
-    /// Hands over what the writer holds back.
+    /// Flushes the writer, unless writing failed before.
     pub fn flush(&mut self)
         ensures { Writes self.old self.new [] }
     {

@@ -17,7 +17,7 @@ use std::io::Write;
 /// Why a run of a script ended early. The lines before were run, and their output was handed to the writer.
 #[derive(Clone, Copy, Debug, PartialEq, Eq)]
 pub enum ScriptFault {
-    /// 1: a line is bad. This is its number, from 1, and why it is bad.
+    /// 1: the line with this number, counted from 1, is bad for this reason.
     BadLine(u64, Reason),
     /// 2: the reader failed.
     ReadFailed,

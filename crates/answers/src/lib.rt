@@ -1,10 +1,10 @@
 //! What a script prints: the answers of its lines, and the lines that say how a run ended.
 //!
-//! `write_answer` promises that it wrote the text of its answer, and nothing else. Only if the writer failed, it
-//! wrote a front of that text. `write_reply` promises the same for a reply that lies elsewhere. `report` and
-//! `report_config` promise the lines of a fault and the program's exit status, on an `ErrorOutput`, which writes no
-//! more once writing has failed. `specs/Texts.antt` is what each answer, refusal and fault is printed as. The crate
-//! does nothing with a master.
+//! `write_answer` promises that it wrote the text of its answer, and nothing else. Only if the writer failed, it wrote
+//! a front of that text. `write_reply` promises the same for a reply that lies elsewhere. `report` and `report_config`
+//! promise the lines of a fault and the program's exit status, on an `ErrorOutput`, which writes no more once writing
+//! has failed. `specs/Texts.antt` defines how each answer, refusal and fault is printed. The crate does nothing with a
+//! master.
 #![tactic(auto)]
 
 mod answer;

@@ -1,10 +1,10 @@
 //! The limits by which a will is made.
 
-/// The most that a partition of a will has, but for the cases of `tablet_will::make_will`.
+/// The most that a partition of a will may have. `tablet_will::make_will` names the exceptions.
 #[derive(Clone, Copy)]
 pub struct Limits {
-    /// The bytes of its objects' entries. No will has partitions without a byte.
+    /// How many bytes the entries of its objects may have. With 0 no will is made.
     pub bytes: u64,
-    /// Its objects. No will has partitions without an object.
+    /// How many objects it may have. With 0 no will is made.
     pub objects: u64,
 }

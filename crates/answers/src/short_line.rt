@@ -14,7 +14,7 @@ const SHORT_LINE_LEN: usize = 240;
 #[derive(Drop)]
 pub(crate) struct ShortLine {
     bytes: [u8; SHORT_LINE_LEN],
-    /// Where it begins.
+    /// Where the line begins in `bytes`.
     start: usize,
 }
 
@@ -29,7 +29,7 @@ impl Model for ShortLine {
 }
 
 impl ShortLine {
-    /// A line feed.
+    /// A line with its line feed alone.
     #[inline(always)]
     pub(crate) fn new() -> ShortLine
         ensures { result ≡ 10 ∷ [] }
@@ -40,7 +40,7 @@ impl ShortLine {
         }
     }
 
-    /// The bytes.
+    /// The bytes of the line so far.
     #[inline(always)]
     pub(crate) fn as_slice(&self) -> &[u8]
         ensures { result.now ≡ self.now }
@@ -48,7 +48,7 @@ impl ShortLine {
         &self.bytes[self.start..]
     }
 
-    /// Puts a space before it.
+    /// Puts a space in front of the line.
     #[inline(always)]
     pub(crate) fn put_space(&mut self)
         requires { 1 + length self.old ≤ 240 }
@@ -58,7 +58,7 @@ impl ShortLine {
         self.bytes[self.start] = b' ';
     }
 
-    /// Puts bytes before it.
+    /// Puts bytes in front of the line.
     #[inline(always)]
     pub(crate) fn put(&mut self, bytes: &[u8])
         requires { length bytes.now + length self.old ≤ 240 }
@@ -70,7 +70,7 @@ impl ShortLine {
         self.bytes[self.start..end].copy_from_slice(bytes);
     }
 
-    /// Puts a number in decimal digits before it.
+    /// Puts a number in decimal digits in front of the line.
     #[inline(always)]
     pub(crate) fn put_number(&mut self, number: u64)
         requires { 20 + length self.old ≤ 240 }

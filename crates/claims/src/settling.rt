@@ -11,7 +11,8 @@ use crate::scanning::{safe_above, winners};
 use entry::SafeVersion;
 use std::alloc::Global;
 
-/// What a log with these claims is rebuilt to, whatever their order.
+/// Rebuilds what a log with these claims stands for, whatever their order. `recorded` is the safe version that the log
+/// records. The claims are sorted in place. For n of them it takes n log n steps.
 pub fn rebuilt_from(
     alloc: Global,
     recorded: SafeVersion,

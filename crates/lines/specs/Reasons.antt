@@ -9,7 +9,7 @@ use Rattle.lines.specs.declared.reason.Reason.TheVariants as reason
 abbrev pub IsAmong : List (List ℕ) → List ℕ → Type 0
 IsAmong words word = (before : List (List ℕ)) × (after : List (List ℕ)) × (words ≡ before ++ word ∷ after)
 
--- the text has the word between its spaces or ends
+-- the word stands in the text, between spaces or the ends of the text
 abbrev pub HasWord : List ℕ → List ℕ → Type 0
 HasWord text word = IsAmong (slice_split is_space text) word
 
@@ -25,7 +25,7 @@ HasHidden text byte = Contains text byte × ((byte < 32) ⊎ (126 < byte))
 abbrev pub HasCapital : List ℕ → Type 0
 HasCapital word = (byte : ℕ) × Contains word byte × (65 ≤ byte) × (byte ≤ 90)
 
--- the word is no number, or too long for a key
+-- the word is wrong for this reason: it is no number, or it is too long for a key
 abbrev pub IsWrongWord : List ℕ → Reason → Type 0
 IsWrongWord word reason.Number = IsNumberWord word → ⊥
 IsWrongWord word reason.LongKey = 1024 < length word
@@ -35,7 +35,7 @@ IsWrongWord word _ = ⊥
 abbrev pub IsWrong : List (List ℕ) → Reason → Type 0
 IsWrong words why = (word : List ℕ) × IsAmong words word × IsWrongWord word why
 
--- What the reason says of the text of a bad line. If it begins with no command, that says it all.
+-- What the reason says of the text of a bad line. If the text begins with no command, nothing more is said.
 abbrev pub HasReason : List ℕ → Reason → Type 0
 HasReason text reason.CarriageReturn = (line : List ℕ) × (text ≡ line ++ 13 ∷ [])
 HasReason text (reason.Byte byte) = HasHidden text byte

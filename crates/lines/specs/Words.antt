@@ -29,7 +29,7 @@ pub record AreNumbers (words : List (List ℕ)) (ns : List ℕ) : Type 0 where
   pub some : 0 < length ns
   pub small : All (λ n. n < 2 ^ 64) ns
 
--- the word is no name behind which a line has more words
+-- the word isn't the name of a line that has more words behind its name
 pub record IsNoLongName (word : List ℕ) : Type 0 where
   pub put : word ≢ codes "put"
   pub new : word ≢ codes "new"

@@ -2,7 +2,7 @@
 
 ghost use Rattle.lines.specs.Keys.{IsKeyWord};
 
-/// A key as a line has it.
+/// A key as it is written in a line.
 #[derive(Clone, Copy, Debug)]
 pub struct KeyWord<'a> {
     /// 1 to 1,024 visible bytes.

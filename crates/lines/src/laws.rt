@@ -2,7 +2,7 @@
 
 ghost use Rattle.lines.specs.Grammar.{EachTextSaysOneLine};
 
-/// No text is that of two lines.
+/// No text is the text of two different lines.
 pub fn one_line()
     ensures { EachTextSaysOneLine }
 {}

@@ -1,8 +1,8 @@
 //! The lines of a script: read one at a time from any reader, and parsed.
 //!
-//! `LineReader::next_line` promises which bytes it took of the reader and where they ended, also at a fault.
-//! `parse_line` promises that the text is that of its line, and at `None` that the text is that of no line.
-//! `specs/Grammar.antt` defines what each line is written as, and uses nothing of the parser.
+//! `LineReader::next_line` promises which bytes it took from the reader and where they ended, also after a fault. With
+//! Ok `parse_line` promises that the text is that of its line, and with Err that the text is that of no line.
+//! `specs/Grammar.antt` defines how each line is written, and uses nothing of the parser.
 #![tactic(auto)]
 
 mod command;

@@ -3,14 +3,14 @@
 use crate::command::CommandLine;
 use crate::numbers::Numbers;
 
-/// In which order a recovery takes what it replays.
+/// In which order a recovery replays the groups of a log.
 #[derive(Clone, Copy, Debug)]
 pub enum ReplayOrder {
-    /// The groups of the log in the order in which it lists them.
+    /// In the order in which the log lists them.
     Forward,
-    /// The last of them first.
+    /// The last group comes first.
     Reverse,
-    /// The groups in order, by this many workers, each in a thread of its own.
+    /// In the order of the log, by this many workers, each in a thread of its own.
     Threads(u64),
 }
 
@@ -21,7 +21,7 @@ pub enum Line<'a> {
     Idle,
     /// Ask the map for something: put, new, cas, get or del.
     Command(CommandLine<'a>),
-    /// Drop what a closed segment doesn't keep from its image in memory.
+    /// Drop from the image of a closed segment, in memory, the entries that aren't kept.
     Compact {
         segment: u64,
     },
@@ -43,7 +43,7 @@ pub enum Line<'a> {
     Stop {
         takes: u64,
     },
-    /// Let this take from now end in a fault, 1 for the next one, its op taken or not.
+    /// Let one take end in a fault: number 1 is the next take. `taken` says whether the op of that take is taken.
     Fault {
         takes: u64,
         taken: bool,
@@ -72,13 +72,14 @@ pub enum Line<'a> {
     Begin {
         segments: Numbers<'a>,
     },
-    /// Look at the next entry of the segments that are being cleaned.
+    /// Treat the next entry of the segments that are being cleaned: copy it to a survivor, or drop it.
     Copy,
-    /// Hand the survivor to one backup.
+    /// Seal one replica of a survivor on its backup.
     Seal,
     /// Free one replica of a segment that was cleaned.
     Free,
-    /// Run this many clients at one time, each for its rounds of a put and a get, beside a cleaner for its passes.
+    /// Run this many clients at one time, beside a cleaner. Each client makes these rounds of a put and a get, and the
+    /// cleaner makes these passes.
     Clients {
         clients: u64,
         rounds: u64,

@@ -12,7 +12,7 @@ use crate::reason::Reason;
 use crate::why::reason_of;
 use crate::words::Words;
 
-/// The most clients of a line. Each has a seat of the store, which has one more.
+/// The most clients of a line. Each has a seat of the store, and the store has one seat more.
 const MAX_CLIENTS: u64 = 63;
 
 /// The most rounds of a client.
@@ -21,7 +21,7 @@ const MAX_ROUNDS: u64 = 1_000_000;
 /// The most workers of a recovery.
 const MAX_WORKERS: u64 = 64;
 
-/// Parses a line, given without its line feed. The fault is why it is bad.
+/// Parses the text of a line, without its line feed. With Err the line is bad for this reason.
 ///
 /// It takes no memory: a key and a value are parts of the text. It doesn't look at the length of the text, which
 /// `next_line` bounds.
@@ -47,7 +47,7 @@ fn is_idle(text: &[u8]) -> bool
 }
 
 /// Parses the words of a line that does something.
-// Of the functions of its arms only `get` is inlined, since each that is has a line of its own to clear.
+// Of the functions that are called here only `get` is inlined, since each inlined one has a line of its own to clear.
 fn parse_words(mut words: Words<'_>) -> Option<Line<'_>>
     ensures { ReadsWords words.entry result }
 {
@@ -257,7 +257,7 @@ fn order(mut words: Words<'_>) -> Option<ReplayOrder>
     }
 }
 
-/// The words behind `reverse`: none.
+/// The words behind `reverse`: there must be none.
 fn reverse(words: Words<'_>) -> Option<ReplayOrder>
     ensures { ReadsOrder (codes "reverse" ∷ words.entry) result }
 {
@@ -290,7 +290,7 @@ fn clients(mut words: Words<'_>) -> Option<Line<'_>>
     })
 }
 
-/// The word behind `format`: 2.
+/// The word behind `format`, which must be 2.
 #[inline(never)]
 fn format(mut words: Words<'_>) -> Option<Line<'_>>
     ensures { ReadsWords (codes "format" ∷ words.entry) result }

@@ -44,7 +44,7 @@ const MAX_LINE_LEN: usize = 4096;
 #[derive(Drop)]
 pub struct LineReader {
     text: Vec<u8>,
-    /// All bytes that the reader showed are used up: it may wait before it shows more.
+    /// Whether all bytes that the reader showed are used up. The reader may then wait before it shows more.
     is_spent: bool,
 }
 

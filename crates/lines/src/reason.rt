@@ -8,27 +8,27 @@ use std::fmt;
 /// Why a line is bad.
 #[derive(Clone, Copy, Debug, PartialEq, Eq)]
 pub enum Reason {
-    /// A carriage return ends it.
+    /// The line ends with a carriage return.
     CarriageReturn,
-    /// It has this byte, which is neither a space nor visible.
+    /// The line has this byte, which is neither a space nor visible.
     Byte(u8),
-    /// Two of its spaces come together, or one is at an end.
+    /// Two spaces of the line come together, or one is at an end of it.
     Spaces,
-    /// Its first word has a capital letter.
+    /// The first word of the line has a capital letter.
     Capital,
-    /// Its first word names no command.
+    /// The first word of the line names no command.
     Unknown,
-    /// Behind the name of its command are not the words that it has.
+    /// The words behind the name of this command are not those that it has.
     Shape(&'static str, Shape),
-    /// A word that stands for a number isn't one.
+    /// A word that has to be a number isn't one.
     Number,
-    /// Its key is too long.
+    /// The key of the line is too long.
     LongKey,
-    /// It is too long itself.
+    /// The line is too long.
     TooLong,
-    /// It comes after the last line that a script may have.
+    /// The line comes after the last line that a script may have.
     TooMany,
-    /// It names a backup that isn't there. This is how many there are, from number 0.
+    /// The line names a backup that isn't there. The fleet has this many, numbered from 0.
     NoBackup(u64),
 }
 
@@ -50,7 +50,7 @@ pub enum Shape {
 }
 
 impl Shape {
-    /// What the command has.
+    /// The text that says which words the command has.
     fn words(self) -> &'static str
         ensures { result.now ≡ shape_text self }
     {

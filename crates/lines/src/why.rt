@@ -100,7 +100,8 @@ fn has_capital(word: &[u8]) -> bool
     word.iter().any(|byte| byte.is_ascii_uppercase())
 }
 
-/// Which of the words behind a command's name is wrong. `None` if there are more or fewer than it has.
+/// Why one of the words behind a command's name is wrong. `None` if there are more or fewer words than the command
+/// has.
 fn wrong_word(rest: Option<&[u8]>, shape: Shape) -> Option<Reason>
     ensures { IfSome result (IsWrong (words_left rest.entry)) }
 {
@@ -127,7 +128,7 @@ fn wrong_word(rest: Option<&[u8]>, shape: Shape) -> Option<Reason>
     }
 }
 
-/// A word behind a command's name.
+/// A kind of word behind a command's name.
 #[derive(Clone, Copy)]
 enum WordKind {
     Number,
@@ -135,7 +136,7 @@ enum WordKind {
     Any,
 }
 
-/// Which of the words is no such kind. `None` if there are more or fewer words than kinds.
+/// Why one of the words isn't of its kind. `None` if there are more or fewer words than kinds.
 fn wrong_of(rest: Option<&[u8]>, kinds: &[WordKind]) -> Option<Reason>
     ensures { IfSome result (IsWrong (words_left rest.entry)) }
 {
@@ -151,7 +152,7 @@ fn wrong_of(rest: Option<&[u8]>, kinds: &[WordKind]) -> Option<Reason>
     found
 }
 
-/// Why the word is no such kind, if it isn't.
+/// Why the word isn't of this kind, or `None` if it is.
 fn wrong_of_kind(word: &[u8], kind: WordKind) -> Option<Reason>
     ensures { IfSome result (IsWrongWord word.now) }
 {
@@ -162,7 +163,7 @@ fn wrong_of_kind(word: &[u8], kind: WordKind) -> Option<Reason>
     }
 }
 
-/// Whether one of the words is no number.
+/// The reason Number if one of the words is no number.
 fn wrong_number(rest: Option<&[u8]>) -> Option<Reason>
     ensures { IfSome result (IsWrong (words_left rest.entry)) }
 {

@@ -179,7 +179,7 @@ fn is_visible(byte: u8) -> bool
     (0x21..=0x7e).contains(&byte)
 }
 
-/// Whether a word is left or more, and each is a number.
+/// Whether one word or more is left, and each of them is a number.
 fn is_row(rest: Option<&[u8]>) -> bool
     ensures { IsTrue result ↔ (0 < length (words_left rest.entry)) × All IsNumberWord (words_left rest.entry) }
 {

@@ -13,9 +13,9 @@ use Rattle.node.specs.Lives.{Life, Left, Position}
 -- ---- a master
 
 -- Clients made their rounds over a master, which went on with its history, and no least head was raised. The result is
--- how many of their calls were accepted, or the first refusal. If none was refused, these are two for each round of each
--- client. Then the client with seat k, from 1 on, made just so many records, no other seat made one, and all records
--- are durable.
+-- how many of their calls were accepted, or the first refusal. If none was refused, two calls were accepted for each
+-- round of each client. Then the client with seat k, from 1 on, made just its records, no other seat made one, and all
+-- records are durable.
 pub record RunsClients (clients rounds : ℕ) (old : World) (calls : Result ℕ CallFault) (new : World) : Type 0 where
   pub goes_on : IsMade (made_now 64 old) new
   pub valid : IsValid new.knows new.fleet
@@ -25,7 +25,7 @@ pub record RunsClients (clients rounds : ℕ) (old : World) (calls : Result ℕ 
 
 -- ---- its life
 
--- the line asks for so many clients, each with so many rounds
+-- the line asks for this many clients, each with this many rounds
 abbrev pub AsksClients : LineValue → ℕ → ℕ → Type 0
 AsksClients line clients rounds = (passes : ℕ) × (line ≡ Clients clients rounds passes)
 
@@ -37,7 +37,7 @@ pub record AreCounted (life : Life) (at : Position) (clients rounds calls : ℕ)
   pub acknowledged : next ≡ record { made = next.made; acknowledged = next.made; left = None }
 
 -- A call was refused. The line may have made records, all behind those that there were, and none of them is
--- acknowledged. What was acknowledged stays so.
+-- acknowledged. What was acknowledged before stays acknowledged.
 pub record AreUncounted (at : Position) (line : LineValue) (left : Option Left) (next : Position) : Type 0 where
   pub clients : ℕ
   pub rounds : ℕ

@@ -55,7 +55,7 @@ abbrev pub IsLeftBy : Config → Life → Left → Type 0
 IsLeftBy config life left =
     (d : MasterData) × (f : FleetState) × HasLived config life d f × (left ≡ left_now d f)
 
--- the same, and its fleet took no more ops
+-- a master that lived this life left this, and its fleet took no more ops
 abbrev pub IsLeftBySpent : Config → Life → Left → Type 0
 IsLeftBySpent config life left =
     (d : MasterData) × (f : FleetState) × HasLived config life d f × (left ≡ left_now d f)

@@ -50,8 +50,8 @@ use Rattle.node.specs.Told.{command_of, Tells}
 use Rattle.tablet_will.specs.declared.part.Part.{Part}
 use Rattle.tablet_will.specs.Parts.{Divides}
 
--- Of a master that is gone the fleet holds what its crash left, without the backups that were lost since, and shows the
--- same least head of it.
+-- The fleet holds what the crash of a master left, without the backups that were lost since, and has the same least
+-- head of that master.
 pub record IsLeftOf (d : MasterData) (l : Left) (f : FleetState) : Type 0 where
   pub crashed : FleetState
   pub valid : IsValid d crashed
@@ -62,7 +62,7 @@ pub record IsLeftOf (d : MasterData) (l : Left) (f : FleetState) : Type 0 where
   pub backups : d.config.backups ≤ f.backups
   pub least : f.least d.config.master ≡ crashed.least d.config.master
 
--- a master that is up knows `d`; one that is down knew `d`, and `left` is left of it
+-- the master of a node that is up knows `d`; that of a node that is down knew `d`, and left `left`
 abbrev pub IsOf : Node → Option Left → MasterData → Type 0
 IsOf (Up m) left d = (left ≡ None) × (m.knows ≡ d) × IsValid d (fleet_state m.fleet)
 IsOf (Down fleet) left d = (l : Left) × (left ≡ Some l) × IsLeftOf d l (fleet_state fleet)
@@ -95,8 +95,8 @@ abbrev pub IsUnlimited : Node → Node → Type 0
 IsUnlimited old new =
     (is_up new ≡ false) × (fleet_of new ≡ option_map (λ (f : FleetState). limited f no_limit) (fleet_of old))
 
--- The refusal is the answer, and nothing changed. Or the fleet takes no more ops: then the master was dropped, and the
--- limit was lifted.
+-- Either the refusal is the answer, and nothing changed, or the fleet takes no more ops: then the master was dropped,
+-- and the limit was lifted.
 abbrev pub Refuses : Node → Refusal → Node → Answer → Type 0
 Refuses old r new answer =
     ((answer ≡ Refused r) × (r ≡ Spent → ⊥) × (new ≡ old))
@@ -121,7 +121,7 @@ world_of (Up m) = Some (world fleet_state m)
 world_of (Down fleet) = None
 world_of Changing = None
 
--- the node has the master of this world still; or it answered Stopped, and has the fleet alone, without a limit
+-- the node still has the master of this world; or the answer is Stopped, and it has the fleet alone, without a limit
 abbrev pub IsLeftIn : World → Answer → Node → Type 0
 IsLeftIn w Stopped new = (is_up new ≡ false) × (fleet_of new ≡ Some (limited w.fleet no_limit))
 IsLeftIn w answer new = world_of new ≡ Some w
@@ -163,25 +163,25 @@ abbrev pub clean_told : Result (Survivors × ℕ) Refusal → Answer
 clean_told (Ok (survivors, head)) = Cleaned survivors head
 clean_told (Err r) = refusal_answer r
 
--- A node that is up makes just this step, and answers what comes of it. Any other does nothing.
+-- A node that is up makes just this step, and answers what comes of it. Any other node does nothing.
 abbrev pub MakesStep : Node → Step → Node → Answer → Type 0
 MakesStep (Up m) step new answer = (result : Result StepAnswer Refusal) × (w : World)
     × Steps (world fleet_state m) step result w × (answer ≡ step_told result) × IsLeftIn w answer new
 MakesStep old step new answer = (new ≡ old) × (answer ≡ answers.Down)
 
--- A node that is up makes just this roll, and answers what comes of it. Any other does nothing.
+-- A node that is up makes just this roll, and answers what comes of it. Any other node does nothing.
 abbrev pub MakesRoll : Node → Node → Answer → Type 0
 MakesRoll (Up m) new answer = (result : Result ℕ Refusal) × (w : World)
     × Rolls (world fleet_state m) result w × (answer ≡ roll_told result) × IsLeftIn w answer new
 MakesRoll old new answer = (new ≡ old) × (answer ≡ answers.Down)
 
--- A node that is up makes just this cleaning, and answers what comes of it. Any other does nothing.
+-- A node that is up makes just this cleaning, and answers what comes of it. Any other node does nothing.
 abbrev pub MakesClean : Node → List ℕ → Node → Answer → Type 0
 MakesClean (Up m) victims new answer = (result : Result (Survivors × ℕ) Refusal) × (w : World)
     × Cleans (world fleet_state m) victims result w × (answer ≡ clean_told result) × IsLeftIn w answer new
 MakesClean old victims new answer = (new ≡ old) × (answer ≡ answers.Down)
 
--- A node that is up makes just the steps of this command's line, and answers what comes of them. Any other does
+-- A node that is up makes just the steps of this command's line, and answers what comes of them. Any other node does
 -- nothing.
 abbrev pub MakesCommand : Node → Command → Node → Answer → Type 0
 MakesCommand (Up m) command new answer = (result : Result Reply Refusal) × (w : World)
@@ -190,7 +190,7 @@ MakesCommand old command new answer = (new ≡ old) × (answer ≡ answers.Down)
 
 -- ---- clients
 
--- what is answered to a refusal of clients over this fleet, if it is Spent: that they were stopped, if the fleet is so
+-- the answer to a refusal of clients over this fleet; for Spent it is Stopped if the fleet takes no more ops
 abbrev pub IsClientsRefusal : FleetState → Refusal → Answer → Type 0
 IsClientsRefusal f Spent answer =
     ((answer ≡ Stopped) × IsSpent f) ⊎ ((answer ≡ answers.SeatUnknown) × (IsSpent f → ⊥))
@@ -203,11 +203,11 @@ IsClientsAnswer f clients rounds (Err (call_fault.Refused r)) answer = IsClients
 IsClientsAnswer f clients rounds (Err (call_fault.Unsure place r)) answer = IsClientsRefusal f r answer
 IsClientsAnswer f clients rounds (Err call_fault.SeatUnknown) answer = answer ≡ answers.SeatUnknown
 IsClientsAnswer f clients rounds (Err call_fault.CellRefused) answer = answer ≡ answers.CellRefused
--- clients settle nothing, so that this never comes
+-- clients settle nothing, so this never comes
 IsClientsAnswer f clients rounds (Err call_fault.NotYours) answer = answer ≡ answers.SeatUnknown
 
--- Clients made their rounds over a master, and the node has it again. The store could tell whose its records were, if
--- no call was refused.
+-- Clients made their rounds over a master, and the node has it again. If no call was refused, the store could tell
+-- whose its records were.
 pub record Lends (m : MasterValue MemoryFleet) (clients rounds : ℕ) (calls : Result ℕ CallFault) (known : Bool)
     (new : Node) : Type 0 where
   pub back : MasterValue MemoryFleet
@@ -215,7 +215,7 @@ pub record Lends (m : MasterValue MemoryFleet) (clients rounds : ℕ) (calls : R
   pub runs : RunsClients clients rounds (world fleet_state m) calls (world fleet_state back)
   pub tells : OnOk calls (IsTrue known)
 
--- A refusal of clients is answered as any other. But a fleet that refused an op as spent, and isn't, is told as
+-- A refusal of clients is answered as any other. But if it is Spent, and the fleet takes more ops, the answer is
 -- SeatUnknown, and nothing changed.
 abbrev pub RefusesWork : Node → Refusal → Node → Answer → Type 0
 RefusesWork old Spent new answer = (Refuses old Spent new answer × IfSome (fleet_of old) IsSpent)
@@ -230,8 +230,8 @@ RefusesCall old call_fault.SeatUnknown new answer = (answer ≡ answers.SeatUnkn
 RefusesCall old call_fault.CellRefused new answer = (answer ≡ answers.CellRefused) × (new ≡ old)
 RefusesCall old call_fault.NotYours new answer = (answer ≡ answers.SeatUnknown) × (new ≡ old)
 
--- Over the master of a node that is up just these clients make their rounds, and what comes of them is answered. Any
--- other node does nothing.
+-- Just these clients make their rounds over the master of a node that is up, and the answer tells what comes of them.
+-- Any other node does nothing.
 abbrev pub MakesClients : Node → ℕ → ℕ → Node → Answer → Type 0
 MakesClients (Up m) clients rounds new answer = (calls : Result ℕ CallFault) × (w : World)
     × RunsClients clients rounds (world fleet_state m) calls w × IsClientsAnswer w.fleet clients rounds calls answer
@@ -244,7 +244,7 @@ MakesClients old clients rounds new answer = (new ≡ old) × (answer ≡ answer
 abbrev pub LivesLonger : MasterData → MasterData → Type 0
 LivesLonger d e = (more : List Record) × (e.origin ≡ d.origin) × (e.history ≡ d.history ++ more)
 
--- Whatever the node stood for, the new one goes on with its life, and the answer is one that the line tells of that
+-- Whatever life the node stood for, the new node goes on with it, and the answer is one that the line tells of that
 -- life.
 abbrev pub AnswersLine : Node → Config → LineValue → Node → Answer → Type 0
 AnswersLine old config line new answer = (d : MasterData) (at : Position) → IsNodeAt old config d at →
@@ -262,13 +262,13 @@ line_of step.Copy = Some Copy
 line_of step.Seal = Some Seal
 line_of step.Free = Some Free
 
--- the same of the line that asks for this step, if there is one
+-- the same for the line that asks for this step, if there is such a line
 abbrev pub AnswersStep : Node → Config → Step → Node → Answer → Type 0
 AnswersStep old config step new answer = IfSome (line_of step)
     (λ (line : LineValue). AnswersLine old config line new answer)
 
--- The fleet is to take this many more ops, and nothing else changed. What a master knows is the same, and so is the
--- fault that the fleet is asked for.
+-- The fleet takes this many more ops, and nothing else changed: neither what a master knows, nor the fault that the
+-- fleet is asked for.
 abbrev pub LimitsFleet : Node → ℕ → Node → Type 0
 LimitsFleet old takes new =
     (world_of new ≡ option_map (λ (w : World). limited_world w takes) (world_of old))
@@ -284,15 +284,15 @@ AsksFault old takes taken new = (world_of new ≡ world_of old) × (fleet_of new
 abbrev pub LosesMaster : Node → Node → Type 0
 LosesMaster old new = (is_up new ≡ false) × (fleet_of new ≡ fleet_of old) × (asked_of new ≡ asked_of old)
 
--- The backup of a node without a master loses all that it holds, and no other does. The fault that the fleet is asked for
--- stays. A node with a master stays.
+-- If the node has no master, this backup loses all that it holds, and no other one does. The fault that the fleet is
+-- asked for stays. A node with a master stays as it is.
 abbrev pub LosesOne : Node → ℕ → Node → Type 0
 LosesOne (Up m) backup new = new ≡ Up m
 LosesOne old backup new =
     (is_up new ≡ false) × (fleet_of new ≡ option_map (λ (f : FleetState). lost f backup) (fleet_of old))
     × (asked_of new ≡ asked_of old)
 
--- What is shown is what the node's backups hold, of all masters. Or memory ran out, and they hold a replica.
+-- What is shown is what the node's backups hold, of all masters. If they hold a replica, memory may run out instead.
 abbrev pub ShowsFleet : Node → Answer → Type 0
 ShowsFleet node (Holdings labels) = IfSome (fleet_of node) (λ (f : FleetState). AreLabelsOf f.picture labels)
 ShowsFleet node (Refused NoMemory) = IfSome (fleet_of node) (λ (f : FleetState). HoldsAny f.picture)
@@ -300,8 +300,8 @@ ShowsFleet node answer = (answer ≡ answers.Down) × (fleet_of node ≡ None)
 
 -- What a line makes of the node: just the steps of its command, its step, its roll, its cleaning, or the rounds of its
 -- clients. A line that shows something changes nothing, and shows what this node has. A stop sets just the limit that
--- it names, a line of a fault asks for just this fault, a format changes nothing of this master, and a crash leaves just
--- the fleet. What a recovery makes is said of the session.
+-- it names, a line of a fault asks for just this fault, a format changes nothing of this master, and a crash leaves
+-- just the fleet. What a recovery makes is said of the session, in `script`.
 abbrev pub MakesLine : Node → LineValue → Node → Answer → Type 0
 MakesLine old Roll new answer = MakesRoll old new answer
 MakesLine old BeginRoll new answer = MakesStep old step.BeginRoll new answer
@@ -329,7 +329,7 @@ MakesLine old line new answer = IfSome (command_of line) (λ (c : Command). Make
 
 -- ---- wills
 
--- A will that was made is handed over. After any other answer the will is the same.
+-- If the answer is a will, that will is handed over. After any other answer the will is the same as before.
 abbrev pub HandsOver : List Part → Answer → List Part → Type 0
 HandsOver old (answers.Will parts limits) new = new ≡ parts
 HandsOver old answer new = new ≡ old

@@ -56,7 +56,7 @@ use Rattle.answers.specs.driving.Served.{is_of_push}
 
 -- ---- commands
 
--- what a line asks of the map
+-- the command that a line asks for, if it asks for one
 abbrev pub command_of : LineValue → Option Command
 command_of (Put table key value) = Some (command.Put (record { table = table; bytes = key }) value Any)
 command_of (New table key value) = Some (command.Put (record { table = table; bytes = key }) value Absent)
@@ -81,24 +81,24 @@ abbrev pub IsOut : Position → LineValue → Option Left → Position → Type 
 IsOut at line left next = (c : Command) × (command_of line ≡ Some c)
     × (next ≡ record { made = at.made; acknowledged = at.acknowledged; left = left })
 
--- the line made the next record, and no reply told so
+-- the line made the next record, and no reply was answered
 abbrev pub IsIn : Life → Position → LineValue → Option Left → Position → Type 0
 IsIn life at line left next = (reply : Reply) × IsRecordAt life at.made line reply
     × (next ≡ record { made = suc at.made; acknowledged = at.acknowledged; left = left })
 
 -- ---- steps
 
--- a master that has lived this life makes this step, this comes of it, and it has lived this life after it too
+-- a master that has lived this life makes this step, with this result, and has lived just this life after it, too
 abbrev pub IsStepAt : Config → Life → Step → Result StepAnswer Refusal → Type 0
 IsStepAt config life step result = (old : World) × (new : World) × HasLived config life old.knows old.fleet
     × HasLived config life new.knows new.fleet × Steps old step result new
 
--- the same of a roll, with its pushes
+-- the same for a roll with its pushes
 abbrev pub IsRollAt : Config → Life → Result ℕ Refusal → Type 0
 IsRollAt config life result = (old : World) × (new : World) × HasLived config life old.knows old.fleet
     × HasLived config life new.knows new.fleet × Rolls old result new
 
--- the same of a whole cleaning of these segments
+-- the same for a whole cleaning of these segments
 abbrev pub IsCleanAt : Config → Life → List ℕ → Result (Survivors × ℕ) Refusal → Type 0
 IsCleanAt config life victims result = (old : World) × (new : World) × HasLived config life old.knows old.fleet
     × HasLived config life new.knows new.fleet × Cleans old victims result new
@@ -152,14 +152,14 @@ abbrev pub IsCause : Config → Life → Command → Refusal → Type 0
 IsCause config life c r =
     IsTest config life c r ⊎ (IsTest config life c refusal.Rolling × IsRollAt config life (Err r))
 
--- a master that has lived this life is pushed until a push is refused, and has lived this life after that too
+-- a master that has lived this life is pushed until a push is refused, and has lived just this life after that, too
 abbrev pub IsPushedAt : Config → Life → Refusal → Type 0
 IsPushedAt config life r = (old : World) × (new : World) × HasLived config life old.knows old.fleet
     × HasLived config life new.knows new.fleet × PushesUntil old r new
 
--- A command is refused, by a fleet that isn't spent. Either it made no record: memory ran out, a test refused it, or
--- the roll that it waits for was refused. Or it made one, and the master was then pushed until a push was refused,
--- though something waited.
+-- A command is refused, and not because the fleet takes no more ops. Either it made no record: memory ran out, a test
+-- refused it, or the roll that it waits for was refused. Or it made one, and the master was then pushed until a push
+-- was refused, though something waited.
 abbrev pub IsRefused : Config → Life → Position → LineValue → Refusal → Position → Type 0
 IsRefused config life at line r next = (r ≡ refusal.Spent → ⊥)
     × ((IsOut at line None next × ((r ≡ refusal.NoMemory)
@@ -181,12 +181,12 @@ abbrev pub IsDigestAt : Config → Life → List ℕ → Type 0
 IsDigestAt config life ids = (d : MasterData) × (f : FleetState) × HasLived config life d f
     × (ids ≡ digest_of d.head.image)
 
--- a master that has lived this life counts so many seglets of memory, and has so many free
+-- a master that has lived this life counts this many seglets of memory, and has this many free
 abbrev pub IsRoomAt : Config → Life → ℕ → ℕ → Type 0
 IsRoomAt config life used free = (d : MasterData) × (f : FleetState) × HasLived config life d f
     × (used ≡ used_seglets d) × (free ≡ free_seglets d)
 
--- of the master's replicas these are left
+-- just these of the master's replicas are left
 abbrev pub AreLeft : Config → Left → List Holding → Type 0
 AreLeft config l hs = (h : Holding) → h.master ≡ config.master
     → IsAmong h hs ↔ IsHeld (left_on (is_left l.lost) l.shown.holds) h
@@ -204,7 +204,7 @@ abbrev pub IsWillAt : Config → Life → Limits → List Part → Type 0
 IsWillAt config life limits parts =
     IsWillOf config.tablets (after life.opening (commands_of life.history)).contents limits parts
 
--- the answer to the line `will` is of these limits
+-- the answer to the line `will` has these limits
 abbrev pub HasLimits : Limits → Answer → Type 0
 HasLimits limits (answer.Will parts under) = under ≡ limits
 HasLimits limits (answer.BadLimits under) = under ≡ limits
@@ -219,7 +219,7 @@ IsImageAt config life segment image = (d : MasterData) × (f : FleetState) × Ha
 
 -- ---- recovered tables
 
--- the table is the map after a prefix of the commands that the lines have made, and the prefix has each acknowledged one
+-- the table is the map after a prefix of the commands that the lines have made, with each acknowledged one in it
 abbrev pub IsRecoveredAt : Life → Position → Rebuilt → Type 0
 IsRecoveredAt life at r = IsMapAfter life.opening (life_to life at.made).history at.acknowledged r
 
@@ -264,7 +264,8 @@ NamesLossOf config l (recovery_fault.Plan loss) = (hs : List Holding) × AreLeft
     × IsPlanFault hs l.shown.least config.master loss × NamesLoss hs l.shown.least config.master loss
 NamesLossOf config l (recovery_fault.Replay refused) = ⊥
 
--- what the refusal names is lost, or memory ran out; if the backups that are left have head and segments, memory did
+-- what the refusal names is lost, or memory ran out; if the backups that are left have head and segments, memory ran
+-- out
 abbrev pub IsLossOf : Config → Left → RecoveryFault → Type 0
 IsLossOf config l e = (IsLoss e ⊎ IsNoMemory e) × (IsNoMemory e ⊎ NamesLossOf config l e)
     × (BothSurvive (IsHomeOf l) l.opened l.shown config.master (is_left l.lost) → IsNoMemory e)
@@ -301,8 +302,8 @@ is_for_none (Lose backup) = true
 is_for_none (Recover order) = true
 is_for_none _ = false
 
--- What the answer of a line tells that goes on with a life, if the script stands at this position in it, and the
--- position after it.
+-- What the answer of a line tells, if the line goes on with a life in which the script stands at this position, and
+-- the position after the line.
 abbrev pub Tells : Config → Life → Position → LineValue → Answer → Position → Type 0
 Tells config life at line answer.Silent next = (line ≡ Idle) × (next ≡ at)
 Tells config life at line (answer.Reply reply) next = (at.left ≡ None) × IsReplied life at line reply next
@@ -388,7 +389,7 @@ Tells config life at line (answer.NotRecovered fault) next = IsRecover line
 Tells config life at line answer.NumbersSpent next = IsRecover line
     × ((l : Left) × (at.left ≡ Some l)) × (next ≡ at)
 Tells config life at line answer.CellRefused next = AreUncounted at line None next
--- a store couldn't tell whose its records were: the one of this line, or that of an earlier one
+-- a store couldn't tell whose its records were: the store of this line, or that of an earlier line
 Tells config life at line answer.SeatUnknown next = AreUncounted at line None next
     ⊎ (IsRecover line × ((l : Left) × (at.left ≡ Some l)) × (next ≡ at))
 Tells config life at line answer.Down next =

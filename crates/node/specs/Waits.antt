@@ -72,8 +72,8 @@ abbrev pub IsReplyAt : Node → ℕ → Reply → Type 0
 IsReplyAt (Up m) place reply = option_map (λ (r : Record). r.reply) (slice_get m.knows.history place) ≡ Some reply
 IsReplyAt node place reply = ⊥
 
--- What a try comes to: an answer, or to wait for a roll. With the place of a record the answer is the record's reply.
--- With a refusal it is what the node answers to that.
+-- What a try comes to: an answer, or a wait for a roll. If it is the place of a record, the answer is the record's
+-- reply. If it is a refusal, the answer is what the node answers to that.
 abbrev pub TriesLine : Node → Command → Node → Tried → Type 0
 TriesLine old command new (tried.Replied place) = (reply : Reply) × IsReplyAt new place reply
     × Serves old command new (Some (answers.Reply reply)) × MakesTry old command new (Some (answers.Reply reply))
@@ -84,7 +84,8 @@ TriesLine old command new (tried.Refused r) = (is_up new ≡ true)
 TriesLine old command new tried.Down =
     Serves old command new (Some answers.Down) × MakesTry old command new (Some answers.Down)
 
--- A node that is up just makes a roll. An answer is why it was refused. Any other node does nothing.
+-- A node that is up just makes a roll. If there is an answer, it tells why the roll was refused. Any other node does
+-- nothing.
 abbrev pub MakesOpen : Node → Node → Option Answer → Type 0
 MakesOpen (Up m) new (Some answer) = (r : Refusal) × (w : World)
     × Rolls (world fleet_state m) (Err r) w × (answer ≡ refusal_answer r) × IsLeftIn w answer new
@@ -92,7 +93,7 @@ MakesOpen (Up m) new None =
     (head : ℕ) × (w : World) × Rolls (world fleet_state m) (Ok head) w × (world_of new ≡ Some w)
 MakesOpen old new answer = (new ≡ old) × (answer ≡ Some answers.Down)
 
--- A node that is up makes just a roll, and then tries the command. Any other does nothing.
+-- A node that is up makes just a roll, and then tries the command. Any other node does nothing.
 abbrev pub MakesTryAfterRoll : Node → Command → Node → Answer → Type 0
 MakesTryAfterRoll (Up m) command new answer = (result : Result Reply Refusal) × (w : World)
     × TriesAfterRoll (world fleet_state m) command result w × (answer ≡ reply_told result) × IsLeftIn w answer new

@@ -14,7 +14,7 @@ use Rattle.tablet_will.specs.Rule.{parts_by_rule}
 use Rattle.tablet_will.specs.Sizes.{are_limits}
 use Rattle.answers.specs.declared.limits.Limits.{Limits}
 
--- the parts are those of the rule, by the sizes of all objects of the contents
+-- the parts are those that the rule makes, by the sizes of all objects in the contents
 abbrev pub IsWillOf : List Tablet → Contents → Limits → List Part → Type 0
 IsWillOf tablets contents limits parts = (sizes : List Size) × AreSizesOf contents sizes
     × (parts ≡ parts_by_rule limits.bytes limits.objects tablets sizes)

@@ -1,4 +1,4 @@
-//! Clients over the master of a node, beside a cleaner.
+//! The line `clients`: clients over the master of a node, beside a cleaner.
 
 ghost use Rattle.std.specs.Prelude.{◌≡◌, ◌≤◌, ◌<◌, ◌^◌, ◌↔◌, ℕ, true, IfSome, IsTrue};
 ghost use Rattle.backup.specs.declared.fleet.MemoryFleet.{MemoryFleet as FleetValue};
@@ -20,19 +20,19 @@ use store_clients::locked_log::CallFault;
 use store_clients::master::Refusal;
 use store_clients::{Outcome, Workload, clients_over};
 
-/// What came of the clients of a line.
+/// What came of a line of clients.
 #[derive(Drop)]
 pub struct Served {
     pub answer: Answer,
-    /// Whether their store could tell whose its records were.
+    /// Whether the store of the clients could tell whose its records were.
     pub is_known: bool,
 }
 
 impl Node {
     ghost use Rattle.lines.specs.Grammar.{Clients};
 
-    /// Has clients make their rounds beside a cleaner. The history of the master may have just so many records. What
-    /// was done stays done.
+    /// Has clients make their rounds over the master, beside a cleaner. `records` is how many records the master's
+    /// history takes. After a refusal, what was done stays done.
     pub fn serve_clients<H: Threads + Wait + Sync>(
         &mut self,
         rt: &H,
@@ -68,8 +68,8 @@ impl Node {
         }
     }
 
-    /// Hands the master to clients, and takes it back. It tells how many of their calls were accepted, or the first
-    /// refusal, and whether the store could tell whose its records were.
+    /// Lends the master to clients, and takes it back. The result is how many of their calls were accepted, or the
+    /// first refusal, and whether the store could tell whose its records were.
     fn lend<H: Threads + Wait + Sync>(
         &mut self,
         rt: &H,
@@ -96,7 +96,7 @@ impl Node {
         (calls, is_known)
     }
 
-    /// Answers the first refusal of clients.
+    /// The answer to the first refusal of clients.
     fn refuse_call(&mut self, fault: CallFault) -> Answer
         requires { is_up self.old ≡ true }
         ensures { RefusesCall self.old fault self.new result }
@@ -106,13 +106,13 @@ impl Node {
             CallFault::Unsure(_, refusal) => self.refuse_work(refusal),
             CallFault::SeatUnknown => Answer::SeatUnknown,
             CallFault::CellRefused => Answer::CellRefused,
-            // Clients settle nothing.
+            // Clients settle nothing, so this never comes.
             CallFault::NotYours => Answer::SeatUnknown,
         }
     }
 
-    /// Answers a refusal of clients. What a fleet was under the lock isn't known. So if it refused an op as spent, it
-    /// is asked whether it is. Tests alone show that it always is.
+    /// Answers a refusal of clients. No contract says how the fleet was under the lock, so after Spent the fleet is
+    /// asked whether it takes no more ops. That it never takes more then is tested, not proved.
     fn refuse_work(&mut self, refusal: Refusal) -> Answer
         requires { is_up self.old ≡ true }
         ensures { RefusesWork self.old refusal self.new result }

@@ -68,7 +68,7 @@ fn answer_of(made: StepAnswer) -> Answer
 impl Node {
     ghost use Rattle.lines.specs.Grammar.{Roll, Clean, Log, Room, Hex, Stop, Fault, Crash, Lose, Holdings};
 
-    /// Applies a command, which may lie anywhere, and pushes until its record is durable.
+    /// Applies a command, whose bytes may lie anywhere, and pushes until its record is durable.
     #[inline(always)]
     pub fn serve(&mut self, command: &CommandRef<'_>) -> Tried
         ensures { TriesLine self.old (shown_command command.now) self.new result }
@@ -112,7 +112,8 @@ impl Node {
         }
     }
 
-    /// Begins a roll if none is under way, and pushes until nothing waits. It answers `None` if the head is open then.
+    /// Begins a roll if none is under way, and pushes until nothing waits. `None` says that the head is open then.
+    /// Otherwise the answer tells why not.
     pub fn make_room(&mut self) -> Option<Answer>
         ensures told { (config : Config) → MakesRoom self.old config self.new result }
         ensures rolled { MakesOpen self.old self.new result }
@@ -128,7 +129,7 @@ impl Node {
         }
     }
 
-    /// Answers a refusal. If the fleet takes no more ops, this drops the master and lifts the limit.
+    /// Answers a refusal. If the fleet takes no more ops, the master is dropped and the limit lifted.
     pub fn refuse(&mut self, refusal: Refusal) -> Answer
         requires { is_up self.old ≡ true }
         ensures { Refuses self.old refusal self.new result }
@@ -146,7 +147,7 @@ impl Node {
         }
     }
 
-    /// Drops the master of a node that is up. The fleet stays as it is, and so does the fault that it is asked for.
+    /// Drops the master of a node that is up. The fleet stays as it is, with the fault that it is asked for.
     pub fn drop_master(&mut self)
         requires { is_up self.old ≡ true }
         ensures left { IsDropped self.old self.new }
@@ -202,7 +203,7 @@ impl Node {
         }
     }
 
-    /// Makes a step by hand, and answers what comes of it.
+    /// Makes one step that a line asks for, and answers what came of it.
     pub fn step(&mut self, step: Step) -> Answer
         ensures told { (config : Config) → AnswersStep self.old config step self.new result }
         ensures stepped { MakesStep self.old step self.new result }
@@ -281,7 +282,7 @@ impl Node {
         }
     }
 
-    /// Lets the fleet take this many more ops.
+    /// Lets the fleet take this many more ops, and then no more.
     pub fn stop(&mut self, takes: u64) -> Answer
         ensures told { (config : Config) → AnswersLine self.old config (Stop takes) self.new result }
         ensures limited { LimitsFleet self.old takes self.new }
@@ -297,7 +298,8 @@ impl Node {
         Answer::Stop(takes)
     }
 
-    /// Asks the fleet for a fault of this take from now, whose op is taken or not.
+    /// Asks the fleet for a fault in one of the takes from now on, 1 for the next one. `taken` says whether its op is
+    /// taken.
     pub fn fault(&mut self, takes: u64, taken: bool) -> Answer
         ensures told { (config : Config) → AnswersLine self.old config (Fault takes taken) self.new result }
         ensures same { AsksFault self.old takes taken self.new }
@@ -326,7 +328,7 @@ impl Node {
         }
     }
 
-    /// Has a backup lose all that it holds.
+    /// Makes a backup lose all that it holds, if there is no master.
     pub fn lose(&mut self, backup: u64) -> Answer
         ensures told { (config : Config) → AnswersLine self.old config (Lose backup) self.new result }
         ensures lost { LosesOne self.old backup self.new }

@@ -1,15 +1,17 @@
-//! What a command's line comes to at a try.
+//! What a command of a line comes to when it is tried.
 
 use store_clients::master::Refusal;
 
-/// What a command's line comes to at a try. It has no answer in it, which is large: most lines of commands need none.
+/// What a command of a line comes to when it is tried. It has no answer in it, since an answer is large and most
+/// commands need none.
 #[derive(Drop)]
 pub enum Tried {
     /// The record at this place of the history has the reply, and is durable.
     Replied(u64),
     /// The command has to wait for a roll, and nothing was done.
     Waits,
-    /// The command was refused, or a push of its record was. What `Node::refuse` makes of it is the answer.
+    /// The command was refused, or a push of its record was: then the command was applied, and a backup may have taken
+    /// the op. `Node::refuse` makes the answer.
     Refused(Refusal),
     /// No master is up, and nothing was done.
     Down,

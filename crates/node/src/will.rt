@@ -1,4 +1,4 @@
-//! The will is made anew of a master's live objects.
+//! Makes the will anew from a master's live objects.
 
 ghost use Rattle.std.specs.Prelude.{◌≡◌, IfOk, IfErr, OnErr};
 ghost use Rattle.store_clients.specs.master.master_state.declared.config.Config.{Config};
@@ -14,7 +14,7 @@ use std::alloc::Global;
 use store_clients::master::{Master, Refusal};
 use tablet_will::{Part, Will, WillFault, make_will};
 
-/// Makes the will of a master's live objects in place of another, which stays at a fault. It answers the parts.
+/// Makes the will of a master's live objects in place of `will`, and answers its parts. If this fails, `will` stays.
 fn renew<F: Fleet>(
     alloc: Global,
     master: &Master<F>,
@@ -43,7 +43,7 @@ fn renew<F: Fleet>(
 impl Node {
     ghost use Rattle.lines.specs.Grammar.{Will as WillLine};
 
-    /// Makes the will of the live objects, and hands it over in place of another, which stays at a refusal.
+    /// Makes the will of the live objects, and hands it over in place of `will`. If the line is refused, `will` stays.
     pub fn will(&self, alloc: Global, limits: Limits, will: &mut Will) -> Answer
         ensures told { (config : Config) → AnswersLine self.now config WillLine self.now result }
         ensures handed { HandsOver will.old result will.new }

@@ -56,7 +56,7 @@ pub record AreGathered (qs : List Part) (segments : List (List Entry)) (n : ℕ)
 
 -- ---- lists
 
--- the list has what the entries mean, in order, and the version is safe behind all of them; they are clean
+-- the list has what the entries mean, in order; the safe version is above all their versions; the entries are clean
 pub record IsListed (es : List Entry) (recorded : ℕ) (os : List Object) (safe : ℕ) : Type 0 where
   pub meaning : IsMeaning (among es) (contents_of os)
   pub ordered : AreOrdered os

@@ -128,7 +128,7 @@ fn claims_divided<'a>(
 /// - Stray: the key of an entry that is in no partition.
 /// - Clash: two values of one key and version, even if a later version covers them.
 /// - NoMemory: each number of the order is below the count of groups, and if the order names each group once, the ids
-/// of the segments differ.
+///   of the segments differ.
 ///
 /// If the order names each group once, the ids differ, the log is clean and each key has a partition, then only want
 /// of memory refuses.

@@ -16,7 +16,7 @@ use crate::reading::segments_of;
 use replica::{Holding, Inventory};
 use std::alloc::Global;
 
-// The plan with what is found of each listed segment. It asks for memory before it looks the segments up.
+// The plan with what is found of each listed segment. It asks for memory before each is looked up.
 fn found_plan<'h, 'a>(
     alloc: Global,
     holdings: &'h [Holding<'a>],

@@ -18,7 +18,7 @@ pub record Streams : Type 0 where
   pub output : Option (List ℕ)
   pub errors : Errors
 
--- how the end of a run is reported: Ok by status 0, and a fault by its lines and its status
+-- how the end of a run is reported: Ok by status 0 alone, and a fault by its lines and its status
 abbrev pub IsReported : RunResult → Errors → Errors → ℕ → Type 0
 IsReported (Ok done) old new status = (new ≡ old) × (status ≡ 0)
 IsReported (Err fault) old new status = Writes old new (fault_lines old.explains fault) × (status ≡ exit_status fault)

@@ -19,7 +19,7 @@ use Rattle.next_master.specs.answers.Texts.{answer_text}
 
 -- ---- lines
 
--- a fleet of so many has the backup that the line names
+-- a fleet of this many backups has the one that the line names
 abbrev pub IsOfFleet : ℕ → LineValue → Type 0
 IsOfFleet backups (Lose backup) = backup < backups
 IsOfFleet backups _ = Unit {0}
@@ -89,7 +89,8 @@ abbrev pub RunResult : Type 0
 RunResult = Result (Unit {0}) ScriptFault
 
 -- What was taken of the reader: the lines that were run, and then nothing, or a bad line, which has the next number,
--- or part of a line at a fault. A writer fails at the answer of the last of them, or while part of the next is read.
+-- or part of a line at a fault. If the writer fails, it fails at the answer of the last line that was run, or while
+-- part of the next line is read.
 abbrev pub EndsWith : ℕ → List Told → List ℕ → Option (List ℕ) → Result (Unit {0}) ScriptFault → Type 0
 EndsWith backups told taken left (Ok done) = AreLines told taken × IsAtEnd left
 EndsWith backups told taken left (Err (BadLine number why)) =
@@ -101,13 +102,14 @@ EndsWith backups told taken left (Err WriteFailed) =
 EndsWith backups told taken left (Err NoMemory) =
     (part : List ℕ) × (taken ≡ texts_of told ++ part) × (length part ≤ 4097)
 
--- all answers were written but the last, and of that a front
+-- all answers but the last were written, and a front of the last
 abbrev pub CutsLast : Option (List ℕ) → Option (List ℕ) → List Told → Type 0
 CutsLast old new told = (before : List Told) × (last : Told) × (front : List ℕ) × (rest : List ℕ)
     × (told ≡ before ++ last ∷ []) × (answer_text last.answer ≡ front ++ rest)
     × Appends old new (answers_of before ++ front)
 
--- What was written: the answers and nothing else. Only if the writer failed, the end of the last may be missing.
+-- What was written: the answers and nothing else. Only if the writer failed, the end of the last answer may be
+-- missing.
 abbrev pub Prints : Option (List ℕ) → Option (List ℕ) → List Told → Result (Unit {0}) ScriptFault → Type 0
 Prints old new told (Err WriteFailed) = Appends old new (answers_of told) ⊎ CutsLast old new told
 Prints old new told result = Appends old new (answers_of told)
@@ -119,7 +121,7 @@ pub record RunsScript (options : Options) (had left held holds : Option (List �
   pub taken : List ℕ
   pub consumed : Consumes had left taken
   pub lines : All (IsScriptLine options.backups) told
-  -- what they tell of one life after another, and what they make of one session; without a line there may be none
+  -- the lines tell of one life after another, and were run on one session; without a line there may be no session
   pub tells : TellLives (config_of options 1) told
   pub session : (told ≡ []) ⊎ AreRun options told
   pub ends : EndsWith options.backups told taken left result

@@ -38,7 +38,7 @@ use Rattle.next_master.specs.Recoveries.{Asked, Ends, MakesLimit, Recovers, ask,
 abbrev pub IsCovered : Session → Type 0
 IsCovered s = Covers (tables_to s.options.tables) s.will
 
--- any head may be used of each master with a greater number than those that were used
+-- any head of a master with a greater number than those that were used may be used
 abbrev pub AreLaterUnraised : Session → Type 0
 AreLaterUnraised s = IfSome (fleet_of s.node) (AreUnraisedAbove s.used)
 
@@ -80,8 +80,8 @@ MakesWill old line new answer = new.will ≡ old.will
 
 -- ---- lines
 
--- What a line makes of the session's word that each store of clients could tell whose its records were. That is given
--- up by clients alone, not by those of whom a call count is answered, and never taken up again.
+-- What a line makes of `is_known`, which says that each store of clients could tell whose its records were. Only a
+-- line of clients may make it false, and only if the answer is no count of calls. It never becomes true again.
 abbrev pub KeepsWord : Session → LineValue → Session → Answer → Type 0
 KeepsWord old (Clients clients rounds passes) new answer = (old.is_known ≡ false → new.is_known ≡ false)
     × ((calls : ℕ) → answer ≡ Counted clients rounds calls → new.is_known ≡ old.is_known)
@@ -104,8 +104,7 @@ pub record SessionAnswers (old : Session) (line : LineValue) (new : Session) (an
   pub word : KeepsWord old line new answer
   pub format : MakesFormat old line new
 
--- The answer of a line whose command waited for a roll. It is told of what the node stood for before the command had to
--- wait.
+-- The answer of a line whose command waited for a roll. It tells of what the node stood for before the command waited.
 pub record AnswersAfterRoll (mid : Session) (line : LineValue) (new : Session) (answer : Answer) : Type 0 where
   pub number : new.master ≡ mid.master
   pub options : new.options ≡ mid.options
@@ -124,8 +123,8 @@ pub record AnswersAfterRoll (mid : Session) (line : LineValue) (new : Session) (
 abbrev pub asked_of : Session → ReplayOrder → Asked
 asked_of s order = ask s.master s.used s.will (order_named order)
 
--- A recovery of a session ended. It has a master, or each store of clients could tell whose its records were: then it
--- ended as one of its node does. Or there is no master, and a store couldn't: then nothing is recovered any more.
+-- A recovery of a session ended. If the session has a master, or if each store of clients could tell whose its records
+-- were, it ended as a recovery of its node does. Otherwise nothing is recovered any more.
 abbrev pub EndsFor : Session → ReplayOrder → Session → Answer → Type 0
 EndsFor old order new answer =
     (((is_up old.node ≡ true) ⊎ (old.is_known ≡ true))
@@ -133,14 +132,14 @@ EndsFor old order new answer =
     new.master)
     ⊎ ((is_up old.node ≡ false) × (old.is_known ≡ false) × (answer ≡ answers.SeatUnknown) × (new ≡ old))
 
--- The coordinator's will stays. But once a master has adopted the table, so that a later recovery is for that one, the
+-- The coordinator's will stays until a master has adopted the table. Then a later recovery is for that master, and the
 -- will is one partition over all tablets.
 abbrev pub RenewsWill : Session → Session → Type 0
 RenewsWill old new = ((new.master ≡ old.master) × (new.will ≡ old.will))
     ⊎ ((new.master ≡ old.master → ⊥) × (new.will ≡ one_partition (tables_to old.options.tables)))
 
--- The options stay those of the master that a recovery is for. So once a master has adopted the table, they are those
--- of later masters.
+-- The options are those of the master that a later recovery is for. Once a master has adopted the table, they are
+-- those of later masters.
 abbrev pub RenewsOptions : Session → Session → Type 0
 RenewsOptions old new = ((new.master ≡ old.master) × (new.options ≡ old.options))
     ⊎ ((new.master ≡ old.master → ⊥) × (new.options ≡ later_options old.lists_lengths old.options))
@@ -169,7 +168,7 @@ pub record SessionRecovers (old : Session) (line : LineValue) (new : Session) (a
 abbrev pub RunsLine : Session → LineValue → Session → Answer → Type 0
 RunsLine old line new answer = SessionAnswers old line new answer ⊎ SessionRecovers old line new answer
 
--- what a line comes to is printed as this answer: with the place of a record, as the record's reply
+-- an outcome is printed as this answer; if it is the place of a record, the answer is the record's reply
 abbrev pub IsPrintedAs : Session → Outcome → Answer → Type 0
 IsPrintedAs s (outcome.Answered a) answer = a ≡ answer
 IsPrintedAs s (outcome.Replied place) answer =

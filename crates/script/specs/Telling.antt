@@ -33,9 +33,9 @@ abbrev pub AreTelling : Standing → List Told → Standing → Type 0
 AreTelling from [] last = last ≡ from
 AreTelling from (t ∷ ts) last = (next : Standing) × Moves from t.line t.answer next × AreTelling next ts last
 
--- The lines tell of one life after another. The first is of a master of this configuration and begins with no keys, and
--- each next begins with what was recovered of the one before it. Their replies are the versioned map's, and they have
--- no records but those of the lines.
+-- The lines tell of one life after another. The first is of a master of this configuration and begins with no keys,
+-- and each next one begins with what was recovered of the one before it. The replies are the versioned map's, and the
+-- lives have only the records that the lines made.
 abbrev pub TellLives : Config → List Told → Type 0
 TellLives config told = (life : Life) × (life.opening ≡ empty_state)
     × (last : Standing) × AreTelling (at_first config life) told last × IsTold last

@@ -60,8 +60,9 @@ PrintsText old new text number held holds (Err fault.WriteFailed) =
     (answer : Answer) × RunsText old text new answer × AppendsFront held holds (answer_text answer)
 PrintsText old new text number held holds (Err fault.NoMemory) = Keeps held holds
 
--- What came of the line with this number. It was run and more may come, it was the last, there was none, or a fault
--- came. If the writer failed, it took a front of the line's answer, or was to be flushed before more was read.
+-- What came of the line with this number. It was run and more may come, it was the last one, there was none, or a
+-- fault came. If the writer failed, it took a front of the line's answer, or failed as it was flushed before more was
+-- read.
 abbrev pub TakesTurn : Session → Session → ℕ → Known → Known → Known → Known → Result Bool ScriptFault → Type 0
 TakesTurn old new number had left held holds (Ok true) =
     (text : List ℕ) × IsLineText text × Consumes had left (text ++ 10 ∷ [])

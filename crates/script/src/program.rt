@@ -17,7 +17,7 @@ use std::io::{BufRead, Write};
 use std::sync::Wait;
 use std::thread::Threads;
 
-/// Runs the program. It reads the options from the words, does what they say, and answers the exit status. The first
+/// Runs the program: it reads the options from the words, does what they say, and answers the exit status. The first
 /// word is the program's name.
 ///
 /// The error is clap's. Nothing was read then, and nothing was written to either output: the caller prints the error's
@@ -30,7 +30,7 @@ pub fn run_program<'a, H: Threads + Wait + Sync, R: BufRead, W: Write, E: Write 
     writer: &mut W,
     errors: &mut ErrorOutput<E>,
 ) -> Result<u8, Error>
-    // What is done is what the options say that clap finds in the words.
+    // The program does what the options say that clap finds in the words.
     ensures ran { IfOk result (RunsMatches (ramlog_matches (texts words.entry.now))
         (record { input = R.remaining reader.old; output = W.contents writer.old; errors = errors.old })
         (record { input = R.remaining reader.new; output = W.contents writer.new; errors = errors.new })) }

@@ -89,7 +89,7 @@ fn run_lines<H: Threads + Wait + Sync, R: BufRead, W: Write>(
     no_more(reader, writer, &mut lines)
 }
 
-/// Takes the next line and runs it. It has this number. Answers whether more lines may come.
+/// Takes the next line, which has this number, and runs it. Answers whether more lines may come.
 fn run_next<H: Threads + Wait + Sync, R: BufRead, W: Write>(
     rt: &H,
     reader: &mut R,
@@ -142,8 +142,8 @@ fn run_text<H: Threads + Wait + Sync, W: Write>(
     }
 }
 
-/// Runs the line of a command, and writes its answer. It has no room for an answer: mostly the reply is written from the
-/// history.
+/// Runs the line of a command, and writes its answer. It makes no room for an answer, since the reply is mostly
+/// written from the history.
 #[inline(always)]
 fn run_command<W: Write>(
     writer: &mut W,
@@ -202,7 +202,7 @@ fn run_other<H: Threads + Wait + Sync, W: Write>(
     match session.run_any(rt, line) {
         Ok(answer) => print_answer(writer, &answer),
         Err(LineFault::Bad) => {
-            // This text says no other line.
+            // This text is that of no other line.
             one_line();
             Err(ScriptFault::BadLine(number, Reason::NoBackup(backups)))
         }
@@ -210,7 +210,7 @@ fn run_other<H: Threads + Wait + Sync, W: Write>(
     }
 }
 
-/// Writes what a line came to.
+/// Writes the answer that a line came to.
 fn print<W: Write>(writer: &mut W, session: &Session, outcome: &Outcome) -> Result<(), ScriptFault>
     requires { (answer : AnswerValue) × IsPrintedAs session.now outcome.now answer }
     ensures { (answer : AnswerValue) → IsPrintedAs session.now outcome.now answer →
@@ -235,7 +235,7 @@ fn print_answer<W: Write>(writer: &mut W, answer: &Answer) -> Result<(), ScriptF
     }
 }
 
-/// Once a number can count no more lines, only the end of the input may follow.
+/// Ends a run of which no further line can have a number: only the end of the input may follow.
 fn no_more<R: BufRead, W: Write>(
     reader: &mut R,
     writer: &mut W,

@@ -62,13 +62,15 @@ pub(crate) const FIRST_MASTER: u64 = 1;
 /// What a script drives: a node, which is a fleet with the master over it if there is one, and what outlives the
 /// masters of a node: the coordinator's will, the numbers that masters had, and the format of later masters.
 ///
-/// `start` makes an empty fleet with a master whose head is open. `serve` applies the command of a line, and mostly gives
-/// the place of the record whose reply is to be printed; else `finish` gives the answer. `run_any` runs any other line.
+/// `start` makes an empty fleet, and a master over it whose head is open. `serve` applies the command of a line, and
+/// mostly gives the place of the record whose reply is to be printed. Otherwise `finish` gives the answer. `run_any`
+/// runs any other line.
 ///
 /// - What holds: the will covers the tablets, the node stands for one life of a master after another, and later masters
 ///   may begin (*Stands*).
-/// - Refusals: a line that the node refuses is answered, and the session goes on. `LineFault` comes only for a line
-///   that names a backup that there isn't, or if memory runs out before the line began; then nothing has changed.
+/// - Refusals: a line that the node refuses is answered, and the session goes on. A command that is refused as Halted or
+///   Lost may have been applied, and a backup may have taken its op. `LineFault` comes only for a line that names a
+///   backup that isn't there, or if memory runs out before the line began; then nothing has changed.
 /// - Cost: what the node's own call costs. A session has no more than the node, a will and a few words.
 ///
 /// ```text
@@ -90,8 +92,8 @@ pub struct Session {
     used: u64,
     /// The coordinator's will: by which partitions a recovery divides the master's log.
     will: Will,
-    /// Whether each store of clients could tell whose its records were. Otherwise nothing is recovered any more. Tests
-    /// alone show that it always is so.
+    /// Whether each store of clients could tell whose its records were. If one couldn't, nothing is recovered any
+    /// more. That each can is tested, not proved.
     is_known: bool,
     node: Node,
 }
@@ -143,8 +145,8 @@ impl Session {
         self.node.write_reply(place, writer)
     }
 
-    /// Runs one line that has no command. It is out of line, since a command would make room for the results of all
-    /// other lines too.
+    /// Runs one line that has no command. It is not inlined, since a command would then make room for the results of
+    /// all other lines, too.
     #[inline(never)]
     pub(crate) fn run_any<H: Threads + Wait + Sync>(
         &mut self,
@@ -216,8 +218,8 @@ impl Session {
         self.node.will(self.alloc, limits, &mut self.will)
     }
 
-    /// Runs the line that recovers what the master left. From the end of an adoption on, the new master is the one that
-    /// a recovery is for, the options are those of the new master, and the will is one partition again.
+    /// Runs the line that recovers what the master left. Once a master has adopted the table, a later recovery is for
+    /// this new master, the options are those of the new master, and the will is one partition again.
     fn run_recover<H: Threads + Wait + Sync>(&mut self, rt: &H, order: ReplayOrder) -> Answer
         requires order { IsOrder order }
         requires stands { Stands self.old }
@@ -297,8 +299,8 @@ impl Session {
         self.node.serve(&line_command(line))
     }
 
-    /// Goes on with the line of a command that was tried, up to its answer. It is out of line, since most lines have
-    /// their reply at once, and need no room for an answer.
+    /// Goes on with a command that was tried, up to its answer. It is not inlined, since most commands have their
+    /// reply at once, and need no room for an answer.
     #[inline(never)]
     pub(crate) fn finish(&mut self, line: CommandLine<'_>, tried: Tried) -> Outcome
         requires value { HasValue (shown_command line) }
