@@ -40,7 +40,7 @@ fn call<B: Naming, R: Wait>(
     unreachable!()
 }
 
-/// The same once. None if memory was refused, and there is no record.
+/// Calls once. None if memory was refused before there was a record.
 fn try_call<B: Naming, R: Wait>(
     rt: &R,
     alloc: Global,
@@ -67,7 +67,7 @@ fn try_call<B: Naming, R: Wait>(
     }
 }
 
-/// Goes on with the record at a place, whose call was left unsure.
+/// Goes on with the record at a place whose call was left unsure.
 fn settle<B: Naming, R: Wait>(
     rt: &R,
     store: &Store<MemoryFleet, B>,
@@ -86,7 +86,7 @@ fn settle<B: Naming, R: Wait>(
     unreachable!()
 }
 
-/// Makes the step of a line, or looks.
+/// Makes the step of a line, or shows what the line asks for.
 fn take<B: Naming, R: Wait>(
     rt: &R,
     alloc: Global,
@@ -101,7 +101,7 @@ fn take<B: Naming, R: Wait>(
     unreachable!()
 }
 
-/// The same once. None if memory was refused.
+/// Does so once. None if memory was refused.
 fn try_take<B: Naming, R: Wait>(
     rt: &R,
     alloc: Global,
@@ -123,7 +123,7 @@ fn try_take<B: Naming, R: Wait>(
     }
 }
 
-/// The answer, if it isn't that memory was refused.
+/// The answer, or None if it says that memory was refused.
 fn given(answer: Answer) -> Option<Answer> {
     match answer {
         Answer::Refused(Refusal::NoMemory) => None,
@@ -157,7 +157,7 @@ fn roll<B: Naming, R: Wait>(rt: &R, alloc: Global, store: &Store<MemoryFleet, B>
     }
 }
 
-/// The head.
+/// The id of the head.
 fn head<B: Naming, R: Wait>(rt: &R, store: &Store<MemoryFleet, B>) -> Answer {
     for _ in rt.forever() {
         if let Ok(Shown::Digest(ids)) = store.look(rt, Look::Digest) {

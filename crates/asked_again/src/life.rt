@@ -39,7 +39,7 @@ pub fn live<R: Wait, O: Write>(
     unreachable!()
 }
 
-/// The same once. If memory for the store was refused, the master comes back.
+/// Does so once. If memory for the store was refused, the master comes back.
 fn try_live<R: Wait, O: Write>(
     rt: &R,
     alloc: Global,
@@ -57,7 +57,7 @@ fn try_live<R: Wait, O: Write>(
     }
 }
 
-/// The same with the parts of a store, which this brand names.
+/// Does so with the parts of a store that this brand names.
 fn live_in<B: Naming, R: Wait, O: Write>(
     rt: &R,
     alloc: Global,

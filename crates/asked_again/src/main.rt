@@ -1,6 +1,6 @@
 //! The program `asked_again`: it runs scripts through a store of one seat, step by step. What is refused for want of
-//! memory is asked for again until it is done. So it prints the same whichever request for memory is refused, if only a
-//! few are: the answers, the recovered tables, and the replies in the history of each master.
+//! memory is asked for again until it is done. So whichever few requests for memory are refused, the program prints
+//! the same answers, recovered tables, and replies in the history of each master.
 #![tactic(auto)]
 
 mod asking;

@@ -5,13 +5,13 @@ use store_lines::Options;
 /// The lines of one life after another.
 type Lives = &'static [&'static [&'static [u8]]];
 
-/// Lives, and whether recoveries take what they replay in reverse.
+/// Lives, and whether recoveries replay the groups in reverse.
 pub struct Script {
     pub lives: Lives,
     pub is_reversed: bool,
 }
 
-/// All stores have these options.
+/// The options of all stores.
 pub const OPTIONS: Options = Options {
     backups: 3,
     replicas: 2,
@@ -26,7 +26,7 @@ pub const OPTIONS: Options = Options {
     format: 1,
 };
 
-/// Tombstones.
+/// A script with tombstones.
 const TOMBSTONES: Lives = &[&[
     b"put 1 a x",
     b"put 1 a y",
@@ -35,7 +35,7 @@ const TOMBSTONES: Lives = &[&[
     b"put 1 a w",
 ]];
 
-/// Tombstones that a pass carries, and one that drops them.
+/// A script with tombstones that a pass carries, and with a pass that drops them.
 const CARRIED: Lives = &[
     &[
         b"put 1 a x",
@@ -52,7 +52,7 @@ const CARRIED: Lives = &[
     &[b"put 1 a q"],
 ];
 
-/// A delete in the midst of a pass.
+/// A script with a delete in the midst of a pass.
 const DELETED: Lives = &[
     &[
         b"put 1 a x",
@@ -71,7 +71,7 @@ const DELETED: Lives = &[
     &[],
 ];
 
-/// A plan of three segments.
+/// A script whose plan has three segments.
 const PLANNED: Lives = &[
     &[
         b"put 1 a x",

@@ -93,7 +93,7 @@ IsNumberIn option (Some text) n = IsNumeral 10 (without_leading_plus text)
 abbrev pub HasNumber : NumberOption → List Row → ℕ → Type 0
 HasNumber option rows n = IsNumberIn option (one_of option.name rows) n
 
--- this holds of each option and its field
+-- the relation holds of each option and its field
 pub record HasEach (Is : NumberOption → ℕ → Type 0) (o : Options) : Type 0 where
   pub backups : Is backups o.backups
   pub replicas : Is replicas o.replicas

@@ -7,7 +7,8 @@ use locked_log::{CallFault, Naming, Seat, Store};
 use replica::Fleet;
 use std::sync::Wait;
 
-/// One command, until its record is durable. The reply isn't looked at. The faults are those of `Store::call`.
+/// Makes one call, and answers once the command's record is durable. The reply isn't looked at. The faults are those
+/// of `Store::call`.
 pub fn call<F: Fleet, B: Naming, R: Wait>(
     rt: &R,
     store: &Store<F, B>,

@@ -11,7 +11,7 @@ use locked_log::master::Master;
 use locked_log::{Naming, Seat, Store};
 use replica::Fleet;
 
-/// Takes the master of a store back. Answers whether the book's numbers of all given seats are their own.
+/// Takes the master of a store back. Answers whether the book's numbers of all given seats are the seats' own.
 pub fn take_back<F: Fleet, B: Naming>(store: Store<F, B>, seats: Vec<Seat<B>>) -> (Master<F>, bool)
     ensures known { IsTrue result.1 → AreServed result.0.knows seats.items }
     ensures made { IsMade B.made (world F.state result.0) }

@@ -1,8 +1,9 @@
 //! A store for whoever counts its calls, and looks at no reply.
 //!
-//! `call` makes one call: with Ok its seat made just one record more. `take_back` closes a store, gives its master
-//! always, and answers whether the history has just the records that the given seats count. What clients promise rests
-//! on these two, so the wrong bodies that would break it are tried here, in a crate that is proved soon.
+//! `call` makes one call: with Ok its seat made just one record more. `take_back` closes a store, always gives its
+//! master, and answers whether the history has just the records that the given seats count. The promises of clients
+//! rest on these two calls. Wrong programs that would break those promises are tried here, since this crate is proved
+//! fast.
 //!
 //! The crate stands on `locked_log`. It waits, and starts no thread.
 #![tactic(auto)]

@@ -18,7 +18,7 @@ use Rattle.driving.specs.Rolls.{Advances, is_lost}
 
 -- ---- an open failover
 
--- so many pushes of an open failover were accepted, one after another
+-- this many pushes of an open failover were accepted, one after another
 abbrev pub AreMended : ℕ → World → World → Type 0
 AreMended zero old new = new ≡ old
 AreMended (suc count) old new = (mid : World) × AreMended count old mid × IsSome mid.knows.failover
@@ -28,25 +28,25 @@ AreMended (suc count) old new = (mid : World) × AreMended count old mid × IsSo
 abbrev pub IsMended : World → World → Type 0
 IsMended old new = (count : ℕ) × AreMended count old new × (new.knows.failover ≡ None)
 
--- or one of its pushes is refused
+-- one of the pushes of an open failover is refused
 abbrev pub IsNotMended : World → Refusal → World → Type 0
 IsNotMended old r new =
     (count : ℕ) × (mid : World) × AreMended count old mid × IsSome mid.knows.failover × Declines mid Push r new
 
 -- ---- what is under way
 
--- So many steps were made, each the one that was under way: an open failover goes on, then what a pass has left to copy
--- and to seal, then a roll, or the pass's commit begins; and then what waits is freed.
+-- This many steps were made, each the one that was under way: those of an open failover, then what a pass has left to
+-- copy and to seal, then a roll or the begin of the pass's commit, and then the freeing of what waits for it.
 abbrev pub AreTurned : ℕ → World → World → Type 0
 AreTurned zero old new = new ≡ old
 AreTurned (suc count) old new = (mid : World) × AreTurned count old mid
     × (step : Step) × (pending_step mid.knows ≡ Some step) × Advances step mid new
 
--- they were made until nothing was under way
+-- steps were made until nothing was under way
 abbrev pub TurnsOut : World → World → Type 0
 TurnsOut old new = (count : ℕ) × AreTurned count old new × (pending_step new.knows ≡ None)
 
--- they were made until one was refused for good
+-- steps were made until one was refused for good
 abbrev pub TurnsUntil : World → Refusal → World → Type 0
 TurnsUntil old r new = (count : ℕ) × (mid : World) × AreTurned count old mid
     × (step : Step) × (pending_step mid.knows ≡ Some step) × Declines mid step r new × (is_lost r ≡ false)

@@ -22,7 +22,7 @@ IsDurable place w = place < durable_of (log_of w.knows)
 abbrev pub IsAwaited : ℕ → World → Type 0
 IsAwaited place w = durable_of (log_of w.knows) ≤ place
 
--- so many pushes were made, one after another, each while the record was not durable
+-- this many pushes were made, one after another, each while the record was not durable
 abbrev pub ArePushedFor : ℕ → ℕ → World → World → Type 0
 ArePushedFor place zero old new = new ≡ old
 ArePushedFor place (suc count) old new = (mid : World) × ArePushedFor place count old mid

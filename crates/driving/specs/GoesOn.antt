@@ -1,4 +1,4 @@
--- What is kept by no step, and by many: the laws of `Driven`.
+-- The laws of `Driven`: what holds if no step is made, and if many are made.
 use Rattle.std.proofs.Common.{[], refl, sym, ◌∙◌}
 use Rattle.std.proofs.Math.Nat.{le_refl, le_trans}
 use Rattle.std.proofs.lemmas.List.{append-nil}

@@ -26,7 +26,7 @@ abbrev pub Advances : Step → World → World → Type 0
 Advances step old new = ((answer : StepAnswer) × Accepts old step answer new)
     ⊎ ((b : ℕ) × Declines old step (refusal.Lost b) new)
 
--- so many pushes were made, one after another
+-- this many pushes were made, one after another
 abbrev pub ArePushed : ℕ → World → World → Type 0
 ArePushed zero old new = new ≡ old
 ArePushed (suc count) old new = (mid : World) × ArePushed count old mid × Advances Push mid new

@@ -22,7 +22,8 @@ is_of_push refusal.Spent = true
 is_of_push refusal.NoMemory = true
 is_of_push _ = false
 
--- the master goes on: its configuration is the same, as much is durable or more, and it has these records more
+-- the master goes on: its configuration is the same, as much is durable or more, and its history has these records
+-- more
 pub record LivesOn (old new : MasterData) (more : List Record) : Type 0 where
   pub config : new.config ≡ old.config
   pub origin : new.origin ≡ old.origin
@@ -53,7 +54,7 @@ pub record IsServedAt (old : World) (command : Command) (at : ℕ) (new : World)
   pub tried : Tries old command (Ok reply) new
   pub place : at ≡ length old.knows.history
 
--- The command's record was added, and pushes were taken until one was refused, though something waited.
+-- The command's record was added, and pushes were made until one was refused, though something waited.
 pub record IsUnpushed (old : MasterData) (command : Command) (r : Refusal) (new : World) : Type 0 where
   pub reply : Reply
   pub place : ℕ

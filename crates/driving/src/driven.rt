@@ -1,4 +1,4 @@
-//! What can push and begin a roll.
+//! What can push and begin a roll: a master, or one that is loaded.
 
 ghost use Rattle.master.specs.Steps.{Steps};
 
@@ -9,10 +9,10 @@ use replica::Fleet;
 pub trait Driven {
     ghost use Rattle.master.specs.World.{World};
 
-    /// What it knows, and the state of its fleet.
+    /// What the master knows, and the state of its fleet.
     ghost world: { Self → World };
 
-    /// What a push and the begin of a roll keep, whatever they answer.
+    /// What each push and each begin of a roll keeps, whatever it answers.
     ghost goes_on: { World → World → Type 0 };
 
     /// Hands one op to one backup.
@@ -25,10 +25,10 @@ pub trait Driven {
         ensures gives { Steps (world self.old) Step.BeginRoll result (world self.new) }
         ensures goes_on { goes_on (world self.old) (world self.new) };
 
-    /// It is kept if nothing is done.
+    /// The relation `goes_on` holds if nothing is done.
     ghost stays: { (w : World) → goes_on w w };
 
-    /// It is kept by many steps, one after another.
+    /// The relation `goes_on` holds of two steps, one after another, if it holds of each.
     ghost further: { (a b c : World) → goes_on a b → goes_on b c → goes_on a c };
 }
 

@@ -13,8 +13,7 @@ use crate::driven::Driven;
 use master::{Master, Refusal};
 use replica::Fleet;
 
-/// Pushes until nothing waits, or a push is refused for good. A backup that failed is no end: its failover is pushed
-/// too.
+/// Pushes until nothing waits, or a push is refused for good. If a backup fails, the pushes go on with its failover.
 pub fn push_all<D: Driven>(master: &mut D) -> Result<(), Refusal>
     ensures goes_on { D.goes_on (D.world master.old) (D.world master.new) }
     ensures open { IfOk result (λ _. is_working (D.world master.new).knows ≡ true) }
@@ -52,7 +51,7 @@ pub fn roll_all<D: Driven>(master: &mut D) -> Result<(), Refusal>
 }
 
 /// Pushes until the record at this place is durable, or a push is refused for good. Something waits until then, so no
-/// push is refused as Nothing. A backup that failed is no end.
+/// push is refused as Nothing. If a backup fails, the pushes go on.
 #[inline(always)]
 pub fn push_until<F: Fleet>(master: &mut Master<F>, place: u64) -> Result<(), Refusal>
     requires { place < length master.old.knows.history }

@@ -10,8 +10,9 @@ use crate::pushing::push_until;
 use master::{CommandRef, Master, Refusal};
 use replica::Fleet;
 
-/// Applies a command of seat 0, which may lie anywhere, and pushes until its record is durable. The answer is the place
-/// of the record, which has the reply.
+/// Applies a command of seat 0, whose bytes may lie anywhere, and pushes until its record is durable. The result is
+/// the place of the record, which has the reply. If a push was refused, the command was applied, and a backup may have
+/// taken an op of it.
 #[inline(always)]
 pub fn serve<F: Fleet>(master: &mut Master<F>, command: &CommandRef<'_>) -> Result<u64, Refusal>
     ensures served { IfOk result (λ place.

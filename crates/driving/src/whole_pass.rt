@@ -24,7 +24,7 @@ fn mend_all<F: Fleet>(master: &mut Master<F>) -> Result<(), Refusal>
     Ok(())
 }
 
-/// Makes what is under way until nothing is, or a step is refused for good. No failover is open as it begins.
+/// Makes the steps that are under way until there is none, or one is refused for good. No failover may be open before.
 fn turn_all<F: Fleet>(master: &mut Master<F>) -> Result<(), Refusal>
     requires { master.old.knows.failover ≡ None }
     ensures goes_on { LivesOn master.old.knows master.new.knows [] }
@@ -43,7 +43,7 @@ fn turn_all<F: Fleet>(master: &mut Master<F>) -> Result<(), Refusal>
     Ok(())
 }
 
-/// Cleans these segments. It answers the survivors and the head that is in force then. After a refusal, what was done
+/// Cleans these segments, and answers the survivors and the head that is in force then. After a refusal, what was done
 /// stays done.
 pub fn clean_all<F: Fleet>(
     master: &mut Master<F>,

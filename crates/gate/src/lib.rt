@@ -1,13 +1,13 @@
-//! Who is told when workers begin and end. Whoever starts threads takes a gate; a test's gate can hold a worker for a
-//! while.
+//! A gate, which is told when workers begin and end. Whoever starts threads takes a gate. In tests a gate can hold a
+//! worker up for a while.
 #![tactic(auto)]
 
-/// Is told by each worker, in the worker's thread. The calls return, and change nothing that a worker sees.
+/// A gate is told by each worker, in the worker's thread. The calls return, and change nothing that a worker sees.
 pub trait Gate {
-    /// The worker of this number, from 0, has begun.
+    /// The worker with this number, from 0, has begun.
     fn enter(&self, worker: usize);
 
-    /// The worker is at its end.
+    /// The worker with this number is at its end.
     fn leave(&self, worker: usize);
 }
 

@@ -12,7 +12,7 @@ names = map (λ s. s.note.cell)
 abbrev pub known_of : Option Kept → Option Record
 known_of = option_map (λ (k : Kept). k.what)
 
--- and each cell of a row
+-- the record that each cell of a row is known to have
 abbrev pub row_of : List Slot → List (Option Record)
 row_of = map (λ s. known_of s.note.known)
 

@@ -9,7 +9,7 @@ use entry::KeyRef;
 use history::{CommandRef, RecordRef, ReplyRef};
 use std::marker::Model;
 
-/// A record as clauses see it. It takes no bytes: the record itself is in the history.
+/// A record as contracts see it. It takes no bytes: the record itself is in the history.
 #[derive(Drop)]
 pub struct Kept {
     pub ghost what: { Record },
@@ -19,7 +19,7 @@ impl Model for Kept {
     ghost also_owns = { λ _. ftrue };
 }
 
-// A struct with `also_owns` has neither by itself. This one owns nothing.
+// A struct with `also_owns` is by itself neither Send nor Sync. This one owns nothing.
 unsafe impl Send for Kept {}
 
 unsafe impl Sync for Kept {}

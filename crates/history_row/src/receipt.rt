@@ -8,7 +8,7 @@ use crate::labels::Labels;
 use once_cell::race::Note;
 use std::marker::{Model, PhantomData};
 
-/// The record of a place, for good. Contracts see both.
+/// A receipt of a place: the record there stays for good. Contracts see the place and the record.
 #[derive(Drop)]
 pub struct Receipt<B: Labels> {
     pub(crate) place: u64,
@@ -48,7 +48,7 @@ impl<B: Labels> Receipt<B> {
         }
     }
 
-    /// Two receipts of one place have the same record. Nothing changes.
+    /// Shows that two receipts of one place have the same record. Nothing changes.
     pub fn agree(&mut self, other: &mut Receipt<B>)
         requires { self.old.place ≡ other.old.place }
         ensures same { (self.new ≡ self.old) × (other.new ≡ other.old) }

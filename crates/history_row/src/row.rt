@@ -18,7 +18,7 @@ use std::marker::{Model, PhantomData};
 #[derive(Drop)]
 pub struct Cells {
     slots: Vec<Slot>,
-    /// A box for the next record, or none.
+    /// The box that was reserved for the next record, if one was.
     spare: Vec<Box<Kept>>,
 }
 
@@ -34,7 +34,7 @@ impl Model for Cells {
 #[derive(Drop)]
 pub struct Row<B: Labels> {
     slots: Vec<Slot>,
-    /// A box for the next record, or none.
+    /// The box that was reserved for the next record, if one was.
     spare: Vec<Box<Kept>>,
     of: PhantomData<B>,
 }
@@ -53,7 +53,7 @@ impl<B: Labels> Model for Row<B> {
 }
 
 impl Cells {
-    /// So many empty cells.
+    /// A row of `count` empty cells.
     pub fn new(alloc: Global, count: usize) -> Result<Cells, AllocError>
         ensures { IfOk result (λ c. c.row ≡ replicate count None) }
     {
@@ -65,7 +65,7 @@ impl Cells {
         Ok(Cells { slots, spare })
     }
 
-    /// The cells under their name.
+    /// The same cells, under the name that the brand has for them.
     pub fn named<B: Labels>(self) -> Row<B>
         requires { self.names ≡ B.cells }
         ensures { result ≡ self.row }
@@ -115,8 +115,8 @@ impl<B: Labels> Row<B> {
         }
     }
 
-    /// Sets a cell to this record, and answers whether it took it. If it did not, nothing changes. It asks for memory
-    /// only if none was reserved, and does not take the record if that is refused.
+    /// Sets a cell to this record, and answers whether the cell took it. If it did not, nothing changes. Memory is
+    /// asked for only if none was reserved. If it is refused, the cell doesn't take the record.
     pub fn set(&mut self, alloc: Global, place: usize, what: &RecordRef<'_>) -> bool
         requires { place < length self.old }
         ensures { MatchBool result (self.new ≡ slice_set self.old place (Some (shown_record what.now)))
@@ -143,7 +143,8 @@ impl<B: Labels> Row<B> {
         }
     }
 
-    /// Tells that a history that this is the row of has the receipt's record at its place. Nothing changes.
+    /// Shows that the history has the receipt's record at its place, if this is the row of that history. Nothing
+    /// changes.
     pub fn tell(&mut self, receipt: &mut Receipt<B>)
         requires { receipt.old.place < length self.old }
         ensures same { (self.new ≡ self.old) × (receipt.new ≡ receipt.old) }

@@ -25,7 +25,8 @@ impl Slot {
         Slot { cell, note }
     }
 
-    /// Sets the cell to this record, and answers whether it took it. If it did not, what is known of it stays.
+    /// Sets the cell to this record, and answers whether the cell took it. If it did not, what is known of the cell
+    /// stays.
     pub fn set(&mut self, kept: Box<Kept>) -> bool
         ensures cell { self.new.note.cell ≡ self.old.note.cell }
         ensures known { MatchBool result (self.new.note.known ≡ Some kept.value)
@@ -49,7 +50,7 @@ impl Slot {
         self.note.again()
     }
 
-    /// What a note of this cell knows is what is known here, if something is.
+    /// Shows that a note of this cell knows what is known here, if something is.
     pub fn compare(&mut self, note: Note<Kept>)
         requires { note.cell ≡ self.old.note.cell }
         ensures same { self.new.note ≡ self.old.note }

@@ -28,20 +28,20 @@ pub record IsState (h : Held) (made : Made) : Type 0 where
   pub written : IsWritten h.row (history h) h.is_refused
   -- each seat has an account
   pub accounts : length h.book ≡ made.seats
-  -- its first number is at most the durable count
+  -- the first number of each account is at most the durable count
   pub firsts : (k : ℕ) (a : Account) → slice_get h.book k ≡ Some a → a.first ≤ durable h
-  -- its second number is the count of its records
+  -- the second number of each account is the count of the seat's records
   pub counts : (k : ℕ) (a : Account) → slice_get h.book k ≡ Some a → a.count ≡ count_of k (history h)
-  -- the history has no records of others
+  -- the history has no record of a seat that the store doesn't have
   pub no_others : AreOfSeats made.seats (history h)
-  -- and is as long as the ledger's total
+  -- the history is as long as the ledger's total
   pub total : h.total ≡ length (history h)
 
--- the first number of each account is no lower
+-- no account's first number is lower than before
 abbrev pub RaisesFirsts : List Account → List Account → Type 0
 RaisesFirsts old new = (k : ℕ) (a b : Account) → slice_get old k ≡ Some a → slice_get new k ≡ Some b → a.first ≤ b.first
 
--- What whatever is done under the lock keeps: no first number and no durable count falls, and no record changes.
+-- What each call under the lock keeps: no first number and no durable count falls, and no record changes.
 pub record Lasts (most : ℕ) (s t : Held) : Type 0 where
   pub keeps : Keeps most s.world t.world
   pub accounts : length t.book ≡ length s.book

@@ -9,7 +9,7 @@ use Rattle.store_step.specs.Turns.{MakesTurn}
 use Rattle.store_seat.specs.Stops.{StopsPush}
 use Rattle.locked_log.specs.Held.{Held, knows}
 
--- One step that is no command: of Next the one that the master says is next. Book, row and total stay.
+-- One step that is no command. For Next it is the step that the master says is next. Book, row and total stay.
 pub record Turns (s : Held) (turn : CleanTurn) (answer : Result StepAnswer Refusal) (t : Held) : Type 0 where
   pub steps : MakesTurn s.world turn answer t.world
   pub history : (knows t).history ≡ (knows s).history
@@ -20,8 +20,8 @@ pub record Turns (s : Held) (turn : CleanTurn) (answer : Result StepAnswer Refus
 
 -- ---- a push of a call
 
--- Whoever pushes may go on: the push was made; or nothing waits, since another thread made it; or a backup failed in it,
--- and further pushes end the failover.
+-- Whoever pushes may go on: the push was made, or nothing waits, since another thread made it, or a backup failed in
+-- the push, and further pushes end the failover.
 abbrev pub GoesOn : Result StepAnswer Refusal → Type 0
 GoesOn (Ok answer) = Unit {0}
 GoesOn (Err refusal.Nothing) = Unit {0}

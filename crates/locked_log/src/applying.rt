@@ -12,7 +12,7 @@ use store_step::apply_command;
 use store_step::master::{Command, Refusal, Reply};
 
 impl<F: Fleet, B: Naming> State<F, B> {
-    /// One command of this seat. Memory for the cell of its record is had before the step.
+    /// Applies one command of this seat. Memory for the cell of its record is taken before the step.
     pub fn apply_held(
         &mut self,
         seat: &mut Seat<B>,
@@ -29,7 +29,8 @@ impl<F: Fleet, B: Naming> State<F, B> {
         self.apply_reserved(seat, command)
     }
 
-    /// Takes memory for the cell of one record, unless there is some. Answers whether there is; nothing else changes.
+    /// Takes memory for the cell of one record, unless it has some. Answers whether it has it then. Nothing else
+    /// changes.
     fn reserve(&mut self) -> bool
         ensures same { self.new ≡ self.old }
         ensures valid { IsState (held F.state self.new) B.made }
@@ -37,7 +38,8 @@ impl<F: Fleet, B: Naming> State<F, B> {
         self.row.reserve(self.alloc).is_ok()
     }
 
-    /// Why a command of this seat is refused if memory for its cell was: by the test that fails, or else for memory.
+    /// Why a command of this seat is refused if its cell gets no memory: by the test that fails, or else for want of
+    /// memory.
     fn want(&self, seat: &Seat<B>, command: &Command) -> CallFault
         ensures { AppliesHeld (held F.state self.now) seat.now command.now (Err result)
             (held F.state self.now) seat.now }
@@ -55,7 +57,7 @@ impl<F: Fleet, B: Naming> State<F, B> {
         CallFault::Refused(Refusal::NoMemory)
     }
 
-    /// One command of this seat, once there is memory for the cell of its record.
+    /// Applies one command of this seat, once there is memory for the cell of its record.
     fn apply_reserved(
         &mut self,
         seat: &mut Seat<B>,
@@ -95,7 +97,7 @@ impl<F: Fleet, B: Naming> State<F, B> {
         Ok((place, reply))
     }
 
-    /// Whether the command of this seat would be applied but for a roll that has to come first.
+    /// Whether the command of this seat would be applied if no roll had to come first.
     pub(crate) fn waits_for_roll(&self, seat: &Seat<B>, command: &Command) -> bool
         ensures { IsTrue result ↔ WaitsForRoll (held F.state self.now) seat.now command.now }
     {

@@ -12,8 +12,8 @@ use store_seat::{CallFault, Naming, Seat, claim, owns};
 use store_step::master::Reply;
 
 impl<F: Fleet, B: Naming> State<F, B> {
-    /// Whether there is a record at the place, it is this seat's, and the place isn't below the seat's first number. It
-    /// takes no memory.
+    /// Whether the record at the place is this seat's, and the place isn't below the seat's first number. False if
+    /// there is no record. It takes no memory.
     pub fn owns_held(&self, seat: &Seat<B>, place: u64) -> bool
         ensures { IsTrue result ↔ Owns self.now.master.knows.history seat.now place }
     {

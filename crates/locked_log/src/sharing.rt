@@ -22,7 +22,7 @@ use store_step::master::{History, Master};
 #[derive(Clone, Copy)]
 pub enum ShareFault {
     NoMemory,
-    /// A new cell did not take its record. Tests alone show that this never comes.
+    /// A new cell did not take its record. That this never comes is tested, not proved.
     CellRefused,
     /// A record is of a seat that the store doesn't have.
     StrangeSeat,
@@ -37,8 +37,8 @@ impl From<NoMemory> for ShareFault {
 }
 
 impl<F: Fleet, B: Naming> Store<F, B> {
-    /// A store over a master that has a history, and its seats, each with the count of its records. If it can't be
-    /// made, the master comes back as it was.
+    /// Makes a store over a master that has a history, and its seats, each with the count of its records. If the store
+    /// can't be made, the master comes back as it was.
     pub fn share(
         alloc: Global,
         blank: Blank,

@@ -25,7 +25,8 @@ pub struct State<F: Fleet, B: Naming> {
     pub(crate) book: Vec<Account>,
     pub(crate) total: Book<B>,
     pub(crate) row: Row<B>,
-    /// Some cell did not take its record, or the book had other numbers of a seat after its record.
+    /// Whether some cell did not take its record, or the book's numbers of a seat weren't the seat's own after its
+    /// record.
     pub(crate) is_refused: bool,
 }
 
@@ -54,9 +55,10 @@ impl<F: Fleet, B: Naming> Model for State<F, B> {
 }
 
 impl<F: Fleet, B: Naming> State<F, B> {
-    /// What is true whenever the lock is free. The master is valid: its history is legal, memory and the replicas hold
-    /// its map, and whichever backups are left, they hold a prefix with each durable record. The row is the history up
-    /// to a cell that refused its record, each account is of the history, and the ledger's total is its length.
+    /// Shows what is true whenever the lock is free. The master is valid: its history is legal, memory and the
+    /// replicas hold its map, and whichever backups are left, they hold a prefix with each durable record. The row is
+    /// the history up to a cell that refused its record, each account is of the history, and the ledger's total is the
+    /// history's length.
     pub fn show_valid(&self)
         ensures { IsState (held F.state self.now) B.made }
     {

@@ -15,7 +15,7 @@ abbrev pub tables_to : ℕ → List Tablet
 tables_to zero = []
 tables_to (suc n) = tables_to n ++ whole_table (suc n) ∷ []
 
--- no secret: each run is the same
+-- the configuration of a master with this number; it has no secret, so each run is the same
 abbrev pub config_of : Options → ℕ → Config
 config_of o master = record {
   master = master;
@@ -36,7 +36,7 @@ abbrev pub later_format : Bool → ℕ → ℕ
 later_format true format = 2
 later_format false format = format
 
--- the options of those
+-- the options of masters that start later
 abbrev pub later_options : Bool → Options → Options
 later_options lists o = record o { format = later_format lists o.format }
 

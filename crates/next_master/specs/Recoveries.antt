@@ -43,7 +43,8 @@ use Rattle.node.specs.Told.{IsFoundAt, Tells}
 
 -- ---- what is asked
 
--- A recovery is of this master. Its log is divided by the will, and the groups are replayed in the order.
+-- What a recovery is asked for: the log of this master is divided by the will, and the groups are replayed in the
+-- order.
 pub record Asked : Type 0 where
   pub master : ℕ
   -- the greatest number that a master had, or was to have
@@ -54,29 +55,29 @@ pub record Asked : Type 0 where
 abbrev pub ask : ℕ → ℕ → List Part → GroupOrder → Asked
 ask master used will order = record { master = master; used = used; will = will; order = order }
 
--- the order of the groups that a line names: several workers take them in order
+-- the order of the groups that a line names; several workers take the groups in the order of the log
 abbrev pub order_named : ReplayOrder → GroupOrder
 order_named replay_order.Forward = group_order.Forward
 order_named replay_order.Reverse = group_order.Reverse
 order_named (replay_order.Threads workers) = group_order.Forward
 
--- what such a recovery rebuilds of what a fleet holds, or why it rebuilds nothing
+-- what such a recovery rebuilds from what a fleet holds, or why it rebuilds nothing
 abbrev pub Rebuilds : FleetState → Asked → Result Rebuilt RecoveryFault → Type 0
 Rebuilds f a result = IsOfHeld (shown_of f a.master) a.master a.will a.order result
 
 -- ---- a table that is found
 
--- where a node stands that stands for this master
+-- the standing of a node that stands for this master
 abbrev pub standing_of : Config → MasterData → Position → Standing
 standing_of config d at = record { config = config; life = life_of d; at = at }
 
--- whatever is left on the fleet of a master of this configuration, its recovery gives this table
+-- whatever a master of this configuration left on the fleet, its recovery gives this table
 abbrev pub FindsTable : MemoryFleet → Config → Rebuilt → Type 0
 FindsTable fleet config r = (d : MasterData) (at : Position) → IsNodeAt (Down fleet) config d at →
     (l : Left) × (at.left ≡ Some l) × IsFoundAt config (life_of d) at l r
 
--- A table was found, and a configuration for a master with a greater number, by the options of later masters. The fleet
--- holds no replica of that one, and any of its heads may be used.
+-- A table was found, and a configuration for a master with a greater number, by the options of later masters. The
+-- fleet holds no replica of this new master, and any of its heads may be used.
 pub record IsFoundIn (fleet : MemoryFleet) (options : Options) (lists : Bool) (master : ℕ) (r : Rebuilt)
     (config : Config) : Type 0 where
   pub table : FindsTable fleet (config_of options master) r
@@ -85,7 +86,7 @@ pub record IsFoundIn (fleet : MemoryFleet) (options : Options) (lists : Bool) (m
   pub unused : (b s : ℕ) → (fleet_state fleet).picture b config.master s ≡ None
   pub least : IsUnraised config.master (fleet_state fleet)
 
--- whatever is left on the fleet of a master of this configuration, this answer tells why nothing was found
+-- whatever a master of this configuration left on the fleet, this answer tells why nothing was found
 abbrev pub FindsNone : MemoryFleet → Config → Answer → Type 0
 FindsNone fleet config answer = (order : ReplayOrder) (d : MasterData) (at : Position)
     → IsNodeAt (Down fleet) config d at → Tells config (life_of d) at (Recover order) answer at
@@ -118,7 +119,7 @@ pub record IsDeclined (f : FleetState) (r : Rebuilt) (config : Config) (new : No
   pub told : answer ≡ refusal_answer why
   pub down : IsDownOn (after_answer answer left) new
 
--- A table was adopted over this fleet, and the new master is up. Or it was refused, and the answer tells so.
+-- Either the table was adopted over this fleet, and the new master is up, or it was refused, and the answer tells so.
 abbrev pub Adopts : FleetState → Rebuilt → Config → Node → Option Answer → Type 0
 Adopts f r config new None = (m : MasterValue MemoryFleet) × (new ≡ Up m) × IsAdopted config r m.knows
     × IsValid m.knows (fleet_state m.fleet) × IsAdoptedOn config.master f (fleet_state m.fleet)
@@ -136,7 +137,7 @@ IsCut f answer = ⊥
 abbrev pub HasNoOther : FleetState → ℕ → Type 0
 HasNoOther f master = (b m s : ℕ) → (m ≡ master → ⊥) → f.picture b m s ≡ None
 
--- The replicas of all other masters were freed. Or that was cut short, and the master was dropped.
+-- Either the replicas of all other masters were freed, or that was cut short, and the master was dropped.
 abbrev pub RetiresOthers : MasterData → Node → Option Answer → Type 0
 RetiresOthers d new None = (m : MasterValue MemoryFleet) × (new ≡ Up m) × (m.knows ≡ d)
     × IsValid d (fleet_state m.fleet) × HasNoOther (fleet_state m.fleet) d.config.master
@@ -149,12 +150,12 @@ pub record Frees (old : World) (freed : Result Unit TakeFault) (new : World) : T
   pub valid : IsValid new.knows new.fleet
   pub retires : Retires old.fleet old.knows.config.master freed new.fleet
 
--- how it is told that not all were freed
+-- the answer if the freeing of replicas ended in this fault
 abbrev pub fault_answer : TakeFault → Answer
 fault_answer take_fault.Spent = Stopped
 fault_answer fault = NotRetired fault
 
--- the master of a node freed them, and goes on; or the answer tells why not, and the node has the fleet alone
+-- the master of a node freed the replicas, and goes on; or the answer tells why not, and the node has the fleet alone
 abbrev pub EndsFreeing : World → Node → Option Answer → Type 0
 EndsFreeing old new None = (next : World) × Frees old (Ok tt) next × (world_of new ≡ Some next)
 EndsFreeing old new (Some answer) = (fault : TakeFault) × (next : World) × Frees old (Err fault) next
@@ -167,14 +168,14 @@ abbrev pub adopted_answer : Rebuilt → Result Unit TakeFault → Answer
 adopted_answer table (Ok u) = Recovered table
 adopted_answer table (Err fault) = fault_answer fault
 
--- the node has the new master, and its fleet holds no replica of another; or it has the fleet alone
+-- the node has the new master, and its fleet holds no replica of another one; or it has the fleet alone
 abbrev pub StandsAfter : World → Result Unit TakeFault → Node → Type 0
 StandsAfter next (Ok u) new = (world_of new ≡ Some next) × HasNoOther next.fleet next.knows.config.master
 StandsAfter next (Err fault) new = IsDownOn (after_answer (fault_answer fault) next.fleet) new
     × (fault ≡ take_fault.Spent → IsSpent next.fleet)
 
--- A master of this configuration adopted the table over this fleet, and freed the replicas of all others, or that was
--- cut short.
+-- A master of this configuration adopted the table over this fleet, and freed the replicas of all others, or the
+-- freeing was cut short.
 pub record IsTakenOver (f : FleetState) (r : Rebuilt) (config : Config) (new : Node) (answer : Answer) : Type 0 where
   pub freed : Result Unit TakeFault
   pub next : World
@@ -182,9 +183,9 @@ pub record IsTakenOver (f : FleetState) (r : Rebuilt) (config : Config) (new : N
   pub told : answer ≡ adopted_answer r freed
   pub stands : StandsAfter next freed new
 
--- A recovery of what this fleet holds ended, and a later one is for the master with this number. Nothing was found, and
--- nothing changed. Or a table was found, and a master with the next number and these options was to adopt it: it did,
--- or it didn't.
+-- A recovery of what this fleet holds ended, and a later one is for the master with this number. Either nothing was
+-- found, and nothing changed. Or a table was found, and a master with the next number and these options was to adopt
+-- it: it did, or it didn't.
 abbrev pub EndsOn : FleetState → Options → Asked → ℕ → Node → Node → Answer → ℕ → Type 0
 EndsOn f options a used old new answer number =
     (FindsNothing f a answer × (new ≡ old) × (number ≡ a.master) × (used ≡ a.used))
@@ -192,13 +193,14 @@ EndsOn f options a used old new answer number =
     × ((IsDeclined f table (config_of options used) new answer × (number ≡ a.master))
     ⊎ (IsTakenOver f table (config_of options used) new answer × (number ≡ used))))
 
--- A recovery of a node ended. The node has a master, and nothing was done. Or it has a fleet alone.
+-- A recovery of a node ended. If the node has a master, nothing was done. Otherwise it was a recovery of the node's
+-- fleet.
 abbrev pub Ends : Node → Options → Asked → ℕ → Node → Answer → ℕ → Type 0
 Ends old options a used new answer number =
     ((is_up old ≡ true) × (answer ≡ answers.Up) × (new ≡ old) × (number ≡ a.master) × (used ≡ a.used))
     ⊎ ((f : FleetState) × IsDownOn f old × EndsOn f options a used old new answer number)
 
--- a recovery that is stopped lifts the fleet's limit, and at any other end the limit stays
+-- a recovery that is stopped lifts the fleet's limit; at any other end the limit stays
 abbrev pub MakesLimit : Node → Node → Answer → Type 0
 MakesLimit old new Stopped = (f : FleetState) × IsDownOn f new × (f.end ≡ no_limit)
 MakesLimit old new answer =
@@ -206,15 +208,15 @@ MakesLimit old new answer =
 
 -- ---- lives
 
--- whatever the node stood for, that life ended, and the new node stands for the next and has the fleet after it
+-- whatever life the node stood for, that life ended, and the new node stands for the next one, with the fleet after it
 abbrev pub BeginsNext : Node → Config → ReplayOrder → Node → Config → Answer → Type 0
 BeginsNext old config order new next answer = (d : MasterData) (at : Position) → IsNodeAt old config d at →
     (e : MasterData) × (to : Position) × IsNodeAt new next e to × (e.history ≡ [])
     × (s : Succeeds (standing_of config d at) (Recover order) answer (standing_of next e to))
     × (fleet_of new ≡ Some s.fleet)
 
--- What a recovery makes of a node, and of the number that a later recovery asks for. The life of the master goes on, or
--- the next begins, by the options of later masters.
+-- What a recovery makes of a node, and of the number of the master that a later recovery is for. Either the life of
+-- the master goes on, or the next life begins, by the options of later masters.
 abbrev pub Recovers : Node → Options → Bool → ℕ → ReplayOrder → Node → Answer → ℕ → Type 0
 Recovers old options lists master order new answer number =
     ((number ≡ master) × AnswersLine old (config_of options master) (Recover order) new answer)

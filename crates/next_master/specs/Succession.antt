@@ -36,8 +36,9 @@ abbrev pub IsAloneAt : Config → Life → FleetState → Type 0
 IsAloneAt config life f = (d : MasterData) × HasLived config life d f
     × ((b m s : ℕ) → (m ≡ config.master → ⊥) → f.picture b m s ≡ None)
 
--- How a recovery ended whose table was adopted, and which left this fleet. The new master is there, and the replicas of
--- all others are freed. Or that was cut short, by the limit or by a fault, and the new master was dropped.
+-- How a recovery ended whose table was adopted, and which left this fleet. Either the new master is there, and the
+-- replicas of all others are freed, or the freeing was cut short, by the limit or by a fault, and the new master was
+-- dropped.
 abbrev pub EndsRecovery : Standing → FleetState → Rebuilt → Answer → Type 0
 EndsRecovery to f table (answer.Recovered r) =
     (r ≡ table) × (to.at.left ≡ None) × IsAloneAt to.config (life_to to.life 0) f
@@ -60,6 +61,6 @@ pub record Succeeds (from : Standing) (line : LineValue) (answer : Answer) (to :
   pub opening : to.life.opening ≡ state_of_table table
   pub made : to.at.made ≡ 0
   pub acknowledged : to.at.acknowledged ≡ 0
-  -- the fleet after it
+  -- the fleet after the recovery
   pub fleet : FleetState
   pub ends : EndsRecovery to fleet table answer

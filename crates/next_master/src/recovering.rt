@@ -48,15 +48,15 @@ pub struct Recovery {
     pub used: u64,
 }
 
-/// The table of a master, and the configuration of the one that is to adopt it.
+/// The table of a master, and the configuration of the master that is to adopt it.
 #[derive(Drop)]
 struct Inheritance {
     rebuilt: Rebuilt,
     config: Config,
 }
 
-/// The least number above this one and above those of all masters in the inventory. None if there is none.
-/// It reads each replica's label once.
+/// The least number above `master` and above the masters of all replicas in the inventory. None if there is none. It
+/// reads each replica's label once.
 pub fn next_number(inventory: &[Holding<'_>], master: u64) -> Option<u64>
     ensures next { IfSome result (λ n. n ≡ suc (max master (greatest_of inventory.now))) }
     ensures spent { result ≡ None → max master (greatest_of inventory.now) ≡ 2 ^ 64 - 1 }
@@ -71,14 +71,14 @@ pub fn next_number(inventory: &[Holding<'_>], master: u64) -> Option<u64>
     Some(greatest + 1)
 }
 
-/// The answer if a recovery lacks memory before it begins.
+/// The answer to a recovery if memory runs out before it begins.
 fn want() -> Answer
     ensures { result ≡ Answer.NotRecovered (RecoveryFault.Plan PlanFault.NoMemory) }
 {
     Answer::NotRecovered(RecoveryFault::Plan(PlanFault::NoMemory))
 }
 
-/// The order of the groups that a line asks for. Several workers take them as one does.
+/// The order of the groups that a line asks for. Several workers take the groups in the order of the log.
 fn groups_in(order: ReplayOrder) -> GroupOrder
     ensures { result ≡ order_named order }
 {
@@ -89,7 +89,7 @@ fn groups_in(order: ReplayOrder) -> GroupOrder
     }
 }
 
-/// What a recovery gives that is asked for by a line: by this thread, or by so many workers in threads of their own.
+/// Recovers as a line asks: by this thread, or by this many workers in threads of their own.
 fn recover_by<H: Threads + Wait + Sync>(
     rt: &H,
     alloc: Global,
@@ -122,8 +122,8 @@ fn recover_by<H: Threads + Wait + Sync>(
     }
 }
 
-/// Recovers the table of the master with this number, and chooses the number of the next master, above all that were
-/// used. That one has the options of later masters.
+/// Recovers the table of the master with this number, and chooses the next master's number, which is above all that
+/// were used. The next master has the options of later masters.
 fn find_inheritance<H: Threads + Wait + Sync>(
     rt: &H,
     alloc: Global,
@@ -179,8 +179,8 @@ fn find_inheritance<H: Threads + Wait + Sync>(
 }
 
 /// Recovers the table of the master with this number, has the next master adopt it, and frees the replicas of all
-/// others. The will covers the tablets of the options. Any head may be used of a master with a greater number than those
-/// that were used. The next master has the options of later masters.
+/// other masters. The next master has the options of later masters. The will has to cover the tablets of the options.
+/// Any head of a master with a number above `used` may be used.
 pub fn recover_node<H: Threads + Wait + Sync>(
     rt: &H,
     alloc: Global,
@@ -254,8 +254,8 @@ pub fn recover_node<H: Threads + Wait + Sync>(
     }
 }
 
-/// Makes a master of this configuration that begins with the table. If it can't, it answers why; if the fleet took
-/// no more ops, it lifts the limit.
+/// Has a master of this configuration adopt the table. An answer tells why it can't. If the fleet takes no more ops,
+/// the limit is lifted.
 fn adopt(alloc: Global, node: &mut Node, rebuilt: &Rebuilt, config: Config) -> Option<Answer>
     requires config { config_fault config ≡ None }
     requires fleet { (fleet : FleetValue) × (node.old ≡ Down fleet)
@@ -273,7 +273,8 @@ fn adopt(alloc: Global, node: &mut Node, rebuilt: &Rebuilt, config: Config) -> O
     answer
 }
 
-/// Frees the replicas of all other masters. If that is cut short, it drops the master and answers why.
+/// Frees the replicas of all other masters. If the freeing is cut short, the master is dropped, and the answer tells
+/// why.
 fn retire(node: &mut Node) -> Option<Answer>
     requires { is_up node.old ≡ true }
     ensures others { (d : MasterData) → IsOf node.old None d → RetiresOthers d node.new result }
@@ -294,8 +295,8 @@ fn retire(node: &mut Node) -> Option<Answer>
     }
 }
 
-/// The node that an adoption leaves, and why it has no master if it has none. If the fleet took no more ops, the limit
-/// is lifted.
+/// The node after an adoption, and an answer that tells why it has no master, if it has none. If the fleet takes no
+/// more ops, the limit is lifted.
 fn adopted(
     alloc: Global,
     rebuilt: &Rebuilt,

@@ -49,7 +49,8 @@ pub fn configuration(alloc: Global, options: &Options, master: u64) -> Result<Co
     })
 }
 
-/// The options of masters that start later. Once format 2 was asked for, they list each segment with its length.
+/// The options of masters that start later. If format 2 was asked for, these masters list each segment with its
+/// length.
 pub fn later_options(options: &Options, lists_lengths: bool) -> Options
     ensures { result ≡ later_options lists_lengths options.now }
 {

@@ -1,4 +1,4 @@
-//! What outlives a master, and the next of them.
+//! What outlives a master, and how the next master's beginning is found.
 
 ghost use Rattle.std.specs.Prelude.{IfOk};
 ghost use Rattle.backup.specs.State.{fleet_state};
@@ -13,20 +13,20 @@ use store_lines::master::Config;
 use store_lines::recovery::{GroupOrder, Rebuilt, RecoveryFault, Will, make_will, recover};
 use store_lines::{Answer, FIRST_MASTER, Options, configuration, next_config, want};
 
-/// What outlives a master.
+/// What outlives a master: its number, the will, and the format of later masters.
 #[derive(Drop)]
 pub struct Coordinator {
     /// The number of the master that a recovery is for.
     pub master: u64,
     /// The greatest number that a master had, or was to have.
     pub used: u64,
-    /// By which partitions a recovery divides the master's log.
+    /// The will by which a recovery divides the master's log.
     pub will: Will,
     /// Whether a line asked for format 2. Then masters that start later list each segment with its length.
     pub lists_lengths: bool,
 }
 
-/// The table of a master, and what the one that is to adopt it begins with.
+/// The table of a master, and what the master that is to adopt it begins with.
 #[derive(Drop)]
 pub struct Inheritance {
     pub rebuilt: Rebuilt,
@@ -44,7 +44,7 @@ pub fn whole_will(alloc: Global, options: &Options) -> Result<Will, NoMemory> {
 }
 
 impl Coordinator {
-    /// The first master is in charge, or was.
+    /// The coordinator of the first master.
     pub fn new(will: Will) -> Coordinator {
         Coordinator {
             master: FIRST_MASTER,
@@ -54,7 +54,7 @@ impl Coordinator {
         }
     }
 
-    /// Recovers the table of the last master, and chooses the next master's number. If it can't, it answers why.
+    /// Recovers the table of the last master, and chooses the next master's number. An answer tells why this failed.
     pub fn find_inheritance(
         &self,
         alloc: Global,

@@ -62,7 +62,7 @@ fn find_next<R: Wait, I: BufRead + Drop, O: Write + Drop>(
     unreachable!()
 }
 
-/// Runs the line that was read. It answers the table of the last master, if it asks for that.
+/// Runs the line that was read. If the line asks for a recovery, the result is the table of the last master.
 fn run_text<I: BufRead + Drop, O: Write + Drop>(
     alloc: Global,
     dialogue: &mut Dialogue<I, O>,
@@ -95,7 +95,7 @@ fn run_text<I: BufRead + Drop, O: Write + Drop>(
     None
 }
 
-/// What a line answers while there is no master.
+/// The answer to a line while there is no master.
 fn answer_of(
     alloc: Global,
     options: &Options,
@@ -189,7 +189,7 @@ fn adopt<I: BufRead + Drop, O: Write + Drop>(
     }
 }
 
-/// Frees the replicas of all other masters. Answers whether that was done; if not, it was said why.
+/// Frees the replicas of all other masters, and answers whether they were freed. If not, the reason was printed.
 fn retire<I: BufRead + Drop, O: Write + Drop>(
     dialogue: &mut Dialogue<I, O>,
     master: &mut Master<MemoryFleet>,

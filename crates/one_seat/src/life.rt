@@ -21,14 +21,14 @@ pub struct Life<B: Naming> {
     seats: Vec<Seat<B>>,
     /// The receipts of all calls that were answered.
     receipts: Vec<Receipt<B>>,
-    /// The replies that were printed. The last may be missing.
+    /// The replies that were printed. The last one may be missing.
     replies: Vec<Reply>,
     /// How many calls made a record.
     calls: usize,
 }
 
 impl<B: Naming> Life<B> {
-    /// A life in which no call was made.
+    /// A life before its first call.
     pub fn new(alloc: Global, store: Store<MemoryFleet, B>, seats: Vec<Seat<B>>) -> Life<B> {
         Life {
             alloc,
@@ -40,7 +40,7 @@ impl<B: Naming> Life<B> {
         }
     }
 
-    /// Runs one line. If it ends the life, it answers Crashed or Stopped.
+    /// Runs one line. The answer is Crashed or Stopped if the line ends the life.
     pub fn run_line<R: Wait>(
         &mut self,
         rt: &R,
@@ -89,7 +89,7 @@ impl<B: Naming> Life<B> {
             }
             Line::Lose { .. } => Ok(Answer::Up),
             Line::Recover { .. } => Ok(Answer::Up),
-            // One seat serves no clients.
+            // A store of one seat serves no clients.
             Line::Clients { .. } => Ok(Answer::Refused(Refusal::NoMemory)),
             _ => Ok(Answer::Silent),
         }
@@ -112,7 +112,7 @@ impl<B: Naming> Life<B> {
             }
             Err(CallFault::SeatUnknown) => Err(LineFault::SeatUnknown),
             Err(CallFault::CellRefused) => Err(LineFault::CellRefused),
-            // Nothing is settled here.
+            // Nothing is settled here, so this never comes.
             Err(CallFault::NotYours) => Err(LineFault::SeatUnknown),
         }
     }
@@ -130,7 +130,8 @@ impl<B: Naming> Life<B> {
         }
     }
 
-    /// Closes the store, and says what of the receipts isn't so. The master is dropped, and the fleet is left.
+    /// Closes the store, and prints which receipts don't fit the history. The master is dropped, and the fleet is
+    /// left.
     pub fn close<I: BufRead + Drop, O: Write + Drop>(
         self,
         dialogue: &mut Dialogue<I, O>,
@@ -177,7 +178,7 @@ fn call_first<B: Naming, R: Wait>(
     }
 }
 
-/// Says which receipts tell of something else than the history, and whether the history has other records.
+/// Prints which receipts don't fit the history, and whether the history has other records.
 fn compare<B: Naming, I: BufRead + Drop, O: Write + Drop>(
     dialogue: &mut Dialogue<I, O>,
     row: &mut Row<B>,
@@ -197,7 +198,7 @@ fn compare<B: Naming, I: BufRead + Drop, O: Write + Drop>(
     }
 }
 
-/// Whether the receipt's record is in the history at its place, of seat 0 and with this reply.
+/// Whether the history has the receipt's record at its place, of seat 0 and with this reply.
 fn is_told<B: Naming>(
     row: &mut Row<B>,
     receipt: &mut Receipt<B>,

@@ -41,7 +41,7 @@ pub fn live<R: Wait, I: BufRead + Drop, O: Write + Drop>(
     }
 }
 
-/// The same with the parts of a store, which this brand names.
+/// Runs them with the parts of a store that this brand names.
 fn live_in<B: Naming, R: Wait, I: BufRead + Drop, O: Write + Drop>(
     rt: &R,
     alloc: Global,
@@ -79,7 +79,7 @@ fn run_lines<B: Naming, R: Wait, I: BufRead + Drop, O: Write + Drop>(
     coordinator: &mut Coordinator,
     life: &mut Life<B>,
 ) {
-    // Nothing refuses these pushes but want of memory.
+    // Only want of memory can refuse these pushes.
     if take_all(rt, &life.store, Phase::Pushes).is_err() {
         dialogue.fail(ScriptFault::NoMemory);
     }

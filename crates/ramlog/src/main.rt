@@ -26,7 +26,7 @@ fn fail(rt: &HostRuntime, fault: ScriptFault) -> ExitCode {
     ExitCode::from(report(&fault, &mut errors))
 }
 
-/// The words of the command line. If they can't be read, that was reported, and this is the exit status.
+/// The words of the command line. If they can't be read, that was reported, and the error is the exit status.
 fn read_arguments(rt: &HostRuntime) -> Result<Vec<String>, ExitCode> {
     match env::args(rt) {
         Ok(all) => match all.collect(rt.alloc()) {
@@ -43,7 +43,7 @@ fn read_arguments(rt: &HostRuntime) -> Result<Vec<String>, ExitCode> {
     }
 }
 
-/// Prints what clap says of the words.
+/// Prints what clap says of the words, and answers the exit status.
 fn refuse(rt: &HostRuntime, error: &Error) -> ExitCode {
     if error.kind() == ErrorKind::OutOfMemory {
         return fail(rt, ScriptFault::NoMemory);
@@ -57,7 +57,7 @@ fn refuse(rt: &HostRuntime, error: &Error) -> ExitCode {
 }
 
 /// Runs the program from standard input to standard output. It writes in blocks, and writes what it answered before it
-/// waits for more input. Only a handle that `main` passes on as this bound can start threads.
+/// waits for more input. `threads` and `rt` are one handle, but only a parameter with these bounds can start threads.
 fn run<H: Threads + Wait + Sync>(
     threads: &H,
     rt: &HostRuntime,

@@ -1,9 +1,9 @@
-//! A reader that asks nothing more of its source once that has ended.
+//! A reader that doesn't read from its source again once that has ended.
 
 use std::io::{self, Read};
 
-/// A reader over another, which it doesn't ask again once that gave no byte. So at a terminal it is enough to end the
-/// input once, however often the program looks for the end.
+/// A reader over another one, from which it doesn't read again once that gave no byte. So at a terminal it is enough
+/// to end the input once, however often the program looks for the end.
 #[derive(Drop)]
 pub struct UntilEnd<R> {
     reader: R,

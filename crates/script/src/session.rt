@@ -68,8 +68,8 @@ pub(crate) const FIRST_MASTER: u64 = 1;
 ///
 /// - What holds: the will covers the tablets, the node stands for one life of a master after another, and later masters
 ///   may begin (*Stands*).
-/// - Refusals: a line that the node refuses is answered, and the session goes on. A command that is refused as Halted or
-///   Lost may have been applied, and a backup may have taken its op. `LineFault` comes only for a line that names a
+/// - Refusals: a line that the node refuses is answered, and the session goes on. A command that is refused as Halted
+///   or Lost may have been applied, and a backup may have taken its op. `LineFault` comes only for a line that names a
 ///   backup that isn't there, or if memory runs out before the line began; then nothing has changed.
 /// - Cost: what the node's own call costs. A session has no more than the node, a will and a few words.
 ///

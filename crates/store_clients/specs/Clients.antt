@@ -13,12 +13,12 @@ pub record IsSeatOf (m n : SeatValue) : Type 0 where
   pub count : m.count ≤ n.count
   pub amount : n.amount + m.count ≡ m.amount + n.count
 
--- The seat's second number and its share rose by just this.
+-- The seat's count of records and its share rose by just this.
 pub record HasMade (made : ℕ) (m n : SeatValue) : Type 0 where
   pub count : n.count ≡ m.count + made
   pub amount : n.amount ≡ m.amount + made
 
--- A client that answers a count answers twice the rounds, and its seat made just so many records. A seat that comes
+-- If a client answers a count, that is twice the rounds, and its seat made just this many records. A seat that comes
 -- back is the seat that was given.
 pub record IsClient {B : Type 0} (rounds : ℕ) (m : SeatValue) (c : Client B) : Type 0 where
   pub accepted : IfOk c.calls
@@ -27,7 +27,7 @@ pub record IsClient {B : Type 0} (rounds : ℕ) (m : SeatValue) (c : Client B) :
 
 -- ---- several
 
--- The lists are as long, and what stands at one place is so related.
+-- The lists have the same length, and the values at each place are related by R.
 pub record Matches {A B : Type 0} (R : A → B → Type 0) (xs : List A) (ys : List B) : Type 0 where
   pub count : length ys ≡ length xs
   pub each : (k : ℕ) (a : A) → slice_get xs k ≡ Some a → (b : B) × (slice_get ys k ≡ Some b) × R a b

@@ -5,7 +5,7 @@ use Rattle.history.specs.Seats.{count_of, AreOfSeats}
 use Rattle.counted_calls.specs.locked_log.store_seat.Seats.{SeatValue}
 use Rattle.store_clients.specs.declared.client.Client.{Client}
 
--- Each of so many clients, whose seats are numbered from 1, made twice the rounds as records. No other seat made one.
+-- Each of these clients, whose seats are numbered from 1, made twice the rounds as records. No other seat made one.
 pub record AreAccepted (clients rounds : ℕ) (old new : List Record) : Type 0 where
   pub own : count_of 0 new ≡ count_of 0 old
   pub each : (k : ℕ) → 1 ≤ k → k ≤ clients → count_of k new ≡ count_of k old + 2 * rounds

@@ -6,14 +6,14 @@ use replica::Fleet;
 use std::sync::Wait;
 use std::thread;
 
-/// How many turns may give nothing.
+/// After this many turns that did nothing the cleaner ends.
 const IDLE: u64 = 1000;
 
-/// Makes the turns that are next until so many passes have ended or a thousand turns gave nothing, and then ends an
-/// open pass. A pass that was open before counts too. If a turn opens a failover, the cleaner pushes to its end. Any
-/// other refusal ends the cleaner.
+/// Makes the turns that are next until this many passes have ended or a thousand turns did nothing, and then ends an
+/// open pass. A pass that was open before counts too. If a turn opens a failover, the cleaner pushes it to its end.
+/// Any other refusal ends the cleaner.
 pub(crate) fn clean<F: Fleet, B: Naming, R: Wait>(rt: &R, store: &Store<F, B>, passes: u64) {
-    // Nobody else begins a pass. So if enough have begun, the open one is the last.
+    // Nobody else begins a pass, so once enough have begun, the open one is the last.
     let mut begun: u64 = if store.has_pass(rt) { 1 } else { 0 };
     let mut idle: u64 = 0;
     let mut is_mending = false;
@@ -32,7 +32,7 @@ pub(crate) fn clean<F: Fleet, B: Naming, R: Wait>(rt: &R, store: &Store<F, B>, p
             Ok(StepAnswer::Begun(_)) => begun = begun.saturating_add(1),
             Ok(_) => {}
             Err(Refusal::Lost(_)) => is_mending = true,
-            // While a failover is open, a push is next.
+            // While a failover is open, the next turn is a push.
             Err(Refusal::Nothing) => {
                 is_mending = false;
                 idle = idle.saturating_add(1);

@@ -28,7 +28,7 @@ pub(crate) struct Ended<B: Naming> {
     pub(crate) calls: Result<u64, CallFault>,
 }
 
-/// What a client's thread promises: so many rounds by the seat of this number, which has made so many records before.
+/// What a client's thread promises: this many rounds by the seat of this number, which made this many records before.
 #[derive(Clone, Copy)]
 pub(crate) struct Rounds {
     pub(crate) rounds: u64,
@@ -43,7 +43,7 @@ impl<B: Naming> Promise<Ended<B>> for Rounds {
         × IfOk r.calls (λ n. (n ≡ 2 * p.rounds) × (r.seat.count ≡ p.count + n)) };
 }
 
-/// All rounds of a client. The gate is told when its first put was answered, and of its end.
+/// Makes all rounds of a client. The gate is told when its first put was answered, and when the client ends.
 pub(crate) fn serve<F: Fleet, B: Naming, R: Wait, G: Gate>(
     rt: &R,
     store: &Store<F, B>,
@@ -62,7 +62,7 @@ pub(crate) fn serve<F: Fleet, B: Naming, R: Wait, G: Gate>(
     Ended { seat, calls }
 }
 
-/// All rounds of a client, up to the first refusal.
+/// Makes all rounds of a client, up to the first refusal.
 fn serve_all<F: Fleet, B: Naming, R: Wait, G: Gate>(
     rt: &R,
     store: &Store<F, B>,
@@ -85,7 +85,7 @@ fn serve_all<F: Fleet, B: Naming, R: Wait, G: Gate>(
     Ok(2 * task.rounds)
 }
 
-/// One call, if there was memory for the command.
+/// Makes one call, if there was memory for the command.
 fn serve_one<F: Fleet, B: Naming, R: Wait>(
     rt: &R,
     store: &Store<F, B>,

@@ -58,10 +58,10 @@ impl<B: Naming> Started<B> {
     }
 }
 
-/// Each seat's client makes so many rounds, in a thread of its own, beside a cleaner that makes so many passes. The
-/// answer has the clients in the order of their seats. A client whose thread can't be started is refused for want of
-/// memory, and its seat is gone. A cleaner whose thread can't be started makes no turn. Each client, by its place from
-/// 0, tells the gate that its first put was answered, and that it is at its end. On NoMemory the seats are gone, and no
+/// Each seat's client makes this many rounds, in a thread of its own, beside a cleaner that makes this many passes.
+/// The result has the clients in the order of their seats. A client whose thread can't be started is refused for want
+/// of memory, and its seat is gone. A cleaner whose thread can't be started makes no turn. Each client, by its place
+/// from 0, tells the gate that its first put was answered, and that it ends. With NoMemory the seats are gone, and no
 /// thread was started.
 pub fn run_clients<
     F: Fleet + Send,

@@ -40,16 +40,16 @@ pub struct Workload {
 pub struct Outcome<F: Fleet> {
     /// The master, which goes on with its history.
     pub master: Master<F>,
-    /// How many calls were accepted, or the first refusal, by lowest client.
+    /// How many calls were accepted, or the first refusal of the lowest client that was refused.
     pub calls: Result<u64, CallFault>,
-    /// Whether the store was closed as it should be, so that it could tell whose its records are.
+    /// Whether the store could tell whose its records are when it was closed.
     pub is_known: bool,
 }
 
-/// Makes a store over the master, has the clients make their rounds beside a cleaner, and takes the master back. The
-/// history of the master may have just so many records. If all calls were accepted, but the store can't tell whose its
-/// records are, or not all are durable, the refusal is `SeatUnknown`. This comes only if no call was made over records
-/// that weren't durable.
+/// Makes a store over the master, has the clients make their rounds beside a cleaner, and takes the master back.
+/// `records` is how many records the master's history takes. If all calls were accepted, but the store can't tell
+/// whose its records are, or not all are durable, the refusal is `SeatUnknown`. As tests show, it comes only if no
+/// call was made, and records of before weren't durable.
 pub fn clients_over<F: Fleet + Send, R: Threads + Wait + Sync, G: Gate + Sync>(
     rt: &R,
     alloc: Global,
@@ -81,7 +81,7 @@ pub fn clients_over<F: Fleet + Send, R: Threads + Wait + Sync, G: Gate + Sync>(
     }
 }
 
-/// The same over the parts of a store, which this brand names.
+/// Does so with the parts of a store that this brand names.
 fn clients_in<F: Fleet + Send, B: Naming + Send + Sync, R: Threads + Wait + Sync, G: Gate + Sync>(
     rt: &R,
     alloc: Global,
@@ -120,7 +120,7 @@ fn clients_in<F: Fleet + Send, B: Naming + Send + Sync, R: Threads + Wait + Sync
     };
     let outcome = run_seats(rt, alloc, &store, &mut seats, work, gate);
     let (master, is_known) = take_back(store, seats);
-    // If any call was made, the last record is an answered one, so all are durable. Tests alone show that.
+    // If any call was made, the last record was answered, so all are durable. Only tests show that it is so.
     let is_durable = master.durable() == master.history().len() as u64;
     match outcome {
         Ok(()) if is_known && is_durable => Outcome {

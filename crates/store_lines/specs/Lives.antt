@@ -7,12 +7,12 @@ use Rattle.next_master.specs.master.master_state.Data.{MasterData}
 use Rattle.next_master.specs.master.Registry.{IsUnraised}
 use Rattle.replica.specs.Picture.{FleetState}
 
--- it is within its limits, and has as many records as the options say
+-- the configuration is within its limits, and takes as many records as the options say
 pub record IsChecked (options : Options) (config : Config) : Type 0 where
   pub valid : config_fault config ≡ None
   pub records : config.history ≡ options.history
 
--- its history is empty, and takes as many records as the options say
+-- the master's history is empty, and takes as many records as the options say
 pub record IsOpening (options : Options) (d : MasterData) : Type 0 where
   pub records : d.config.history ≡ options.history
   pub empty : d.history ≡ []

@@ -22,7 +22,7 @@ pub fn command_of(alloc: Global, line: CommandLine<'_>) -> Result<Command, LineF
     }
 }
 
-/// A put. A line has no longer values than an entry takes.
+/// The put of a line. No value of a line is too long for an entry.
 fn put(
     alloc: Global,
     table: u64,

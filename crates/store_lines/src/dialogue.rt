@@ -5,23 +5,23 @@ use next_master::answers::{Answer, ScriptFault, write_answer};
 use std::alloc::Global;
 use std::io::{BufRead, Write};
 
-/// A script that is open. Lines come from the reader, and answers go to the writer.
+/// An open script. Lines come from the reader, and answers go to the writer.
 #[derive(Drop)]
 pub struct Dialogue<I: BufRead + Drop, O: Write + Drop> {
     reader: I,
     writer: O,
-    /// The lines, of which the last is shown.
+    /// The reader of the lines. It shows the last one.
     pub lines: LineReader,
-    /// The number of the last line, from 1.
+    /// The number of the last line, counted from 1.
     number: u64,
-    /// No line follows.
+    /// Whether no line follows.
     is_over: bool,
-    /// Why the run ends early.
+    /// Why the run ends early, if it does.
     fault: Option<ScriptFault>,
 }
 
 impl<I: BufRead + Drop, O: Write + Drop> Dialogue<I, O> {
-    /// A script of which no line was read.
+    /// A script of which no line was read yet.
     pub fn new(alloc: Global, reader: I, writer: O) -> Dialogue<I, O> {
         Dialogue {
             reader,
@@ -33,7 +33,7 @@ impl<I: BufRead + Drop, O: Write + Drop> Dialogue<I, O> {
         }
     }
 
-    /// Reads the next line. Answers whether there is one to be run.
+    /// Reads the next line, and answers whether there is one to run.
     pub fn advance(&mut self) -> bool {
         if self.is_over {
             return false;
@@ -67,7 +67,7 @@ impl<I: BufRead + Drop, O: Write + Drop> Dialogue<I, O> {
         }
     }
 
-    /// Writes an answer that nobody needs any longer.
+    /// Writes an answer, and drops it.
     pub fn answer(&mut self, answer: Answer) {
         self.print(&answer);
     }
@@ -79,7 +79,7 @@ impl<I: BufRead + Drop, O: Write + Drop> Dialogue<I, O> {
         }
     }
 
-    /// Writes that the record of a place isn't the one that its receipt tells of.
+    /// Writes that the record at a place isn't the one of its receipt.
     pub fn say_differs(&mut self, place: u64) {
         if writeln!(self.writer, "receipt {place} differs").is_err() {
             self.fail(ScriptFault::WriteFailed);
@@ -99,7 +99,7 @@ impl<I: BufRead + Drop, O: Write + Drop> Dialogue<I, O> {
         }
     }
 
-    /// Hands over what the writer holds back, and tells how the run ended.
+    /// Flushes the writer, and tells how the run ended.
     pub fn end(&mut self) -> Result<(), ScriptFault> {
         if self.writer.flush().is_err() {
             self.fail(ScriptFault::WriteFailed);

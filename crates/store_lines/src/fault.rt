@@ -9,12 +9,12 @@ use std::io::{BufRead, Write};
 /// Why a line has no answer.
 #[derive(Clone, Copy)]
 pub enum LineFault {
-    /// It names a backup that isn't there. This is how many there are.
+    /// The line names a backup that isn't there. The fleet has this many.
     NoBackup(u64),
     NoMemory,
-    /// The store doesn't know the seat. Tests alone show that this never comes.
+    /// The store doesn't know the seat. That this never comes is tested, not proved.
     SeatUnknown,
-    /// A cell refused its record. Tests alone show that this never comes.
+    /// A cell refused its record. That this never comes is tested, not proved.
     CellRefused,
 }
 

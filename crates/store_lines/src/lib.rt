@@ -1,11 +1,12 @@
 //! What the lines of a script ask of a store, and how its answers are printed.
 //!
-//! A line is a command, which a seat calls with (`command_of`), some turns of the cleaner or of the log (`turn_line`),
-//! a look (`look_line`, `renew`), or something that ends a life or is for the time between two. `Dialogue` is the open
-//! script. No contract says what a store did under its lock, so of lines nothing is promised but that the code is safe.
-//! `first_master` and `next_config` say what a life begins with.
+//! A line is a command, with which a seat calls (`command_of`), some turns of the cleaner or of the log (`turn_line`),
+//! a look (`look_line`, `renew`), or something that ends a life or belongs between two lives. `Dialogue` is the open
+//! script. No contract says what a store did under its lock, so of lines nothing is promised but that the code is
+//! safe. `first_master` and `next_config` say what a life begins with.
 //!
-//! The crate stands on `locked_log`, and on `next_master` for options, answers and faults. It waits, and starts no thread.
+//! The crate stands on `locked_log`, and on `next_master` for options, answers and faults. It waits, and starts no
+//! thread.
 #![tactic(auto)]
 
 mod command;

@@ -12,7 +12,7 @@ use std::alloc::Global;
 use std::sync::Wait;
 use tablet_will::{Will, WillFault, make_will};
 
-/// What a line that changes nothing shows, of the store. None if it is no such line.
+/// The answer to a line that shows something of the store and changes nothing. None if the line is another one.
 pub fn look_line<B: Naming, R: Wait>(
     rt: &R,
     store: &Store<MemoryFleet, B>,
@@ -36,7 +36,7 @@ fn look_of(line: Line<'_>) -> Option<(Look, u64)> {
     }
 }
 
-/// What is printed of what is shown.
+/// The answer for what is shown.
 fn answer_of(shown: Shown, segment: u64) -> Answer {
     match shown {
         Shown::Digest(ids) => Answer::Log(ids),
@@ -48,7 +48,7 @@ fn answer_of(shown: Shown, segment: u64) -> Answer {
     }
 }
 
-/// Makes the will of the live objects in place of another, which stays at a refusal.
+/// Makes the will of the live objects in place of `will`. If the line is refused, `will` stays.
 pub fn renew<B: Naming, R: Wait>(
     rt: &R,
     alloc: Global,
@@ -97,7 +97,7 @@ fn will_of(alloc: Global, options: &Options, sizes: &Row<Size>) -> Result<Will, 
     )
 }
 
-/// Puts a will in the place of another, and answers its parts.
+/// Puts a new will in place of `will`, and answers its parts.
 fn replace(alloc: Global, will: &mut Will, made: Will, limits: Limits) -> Answer {
     match Vec::from_slice(alloc, made.parts()) {
         Ok(parts) => {

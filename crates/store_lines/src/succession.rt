@@ -35,8 +35,8 @@ pub fn first_master(
     }
 }
 
-/// The configuration of the master that follows those up to the number `greatest`, and those whose replicas were found.
-/// Once format 2 was asked for, it lists each segment with its length.
+/// The configuration of the next master. Its number is above `greatest`, and above the masters of all replicas that
+/// were found. If format 2 was asked for, the master lists each segment with its length.
 pub fn next_config(
     alloc: Global,
     options: &Options,
@@ -58,7 +58,7 @@ pub fn next_config(
     }
 }
 
-/// The configuration, if a master can begin with it over the fleet. That it can't never comes.
+/// The configuration, if a master can begin with it over the fleet. The case that it can't never comes.
 fn fitting(options: &Options, fleet: &MemoryFleet, config: Config) -> Result<Config, Answer>
     requires records { config.history ≡ options.now.history }
     requires unused { (b s : ℕ) → (fleet_state fleet.now).picture b config.master s ≡ None }
@@ -73,7 +73,7 @@ fn fitting(options: &Options, fleet: &MemoryFleet, config: Config) -> Result<Con
     }
 }
 
-/// The answer if a recovery lacks memory.
+/// The answer to a recovery for which memory ran out.
 pub fn want() -> Answer {
     Answer::NotRecovered(RecoveryFault::Plan(PlanFault::NoMemory))
 }

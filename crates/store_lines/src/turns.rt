@@ -31,7 +31,7 @@ impl Phase {
     }
 }
 
-/// What a line of the log or of the cleaner answers. None if it is no such line.
+/// The answer to a line of the log or of the cleaner. None if the line is another one.
 pub fn turn_line<B: Naming, R: Wait>(
     rt: &R,
     alloc: Global,
@@ -51,7 +51,7 @@ pub fn turn_line<B: Naming, R: Wait>(
     }
 }
 
-/// The turn of a line that makes one step.
+/// The turn that a line of one step asks for.
 fn turn_of(alloc: Global, line: Line<'_>) -> Result<Option<CleanTurn>, LineFault> {
     match line {
         Line::BeginRoll => Ok(Some(CleanTurn::BeginRoll)),
@@ -65,7 +65,7 @@ fn turn_of(alloc: Global, line: Line<'_>) -> Result<Option<CleanTurn>, LineFault
     }
 }
 
-/// One step.
+/// Makes one step, and gives its answer.
 fn take_turn<B: Naming, R: Wait>(rt: &R, store: &Store<MemoryFleet, B>, turn: CleanTurn) -> Answer {
     match store.turn(rt, turn) {
         Ok(answer) => answer_of(answer),
@@ -73,7 +73,7 @@ fn take_turn<B: Naming, R: Wait>(rt: &R, store: &Store<MemoryFleet, B>, turn: Cl
     }
 }
 
-/// What is printed of a step.
+/// The answer for a step that was made.
 fn answer_of(answer: StepAnswer) -> Answer {
     match answer {
         StepAnswer::Applied(_, reply) => Answer::Reply(reply),
@@ -93,7 +93,7 @@ fn answer_of(answer: StepAnswer) -> Answer {
     }
 }
 
-/// What is printed of a refusal. If the fleet takes no more ops, this lifts the limit.
+/// The answer for a refusal. If the fleet takes no more ops, the limit is lifted.
 pub fn refuse<B: Naming, R: Wait>(
     rt: &R,
     store: &Store<MemoryFleet, B>,
@@ -108,8 +108,8 @@ pub fn refuse<B: Naming, R: Wait>(
     }
 }
 
-/// Takes turns of one kind until nothing is left to do, or one is refused for good. A backup that failed is no end: its
-/// failover is pushed to its end.
+/// Takes turns of one kind until nothing is left to do, or one is refused for good. If a backup fails, the turns don't
+/// end: its failover is pushed to its end.
 pub fn take_all<B: Naming, R: Wait>(
     rt: &R,
     store: &Store<MemoryFleet, B>,
@@ -149,7 +149,7 @@ fn roll_all<B: Naming, R: Wait>(rt: &R, store: &Store<MemoryFleet, B>) -> Result
     }
 }
 
-/// The head in force.
+/// The id of the head in force.
 fn head<B: Naming, R: Wait>(rt: &R, store: &Store<MemoryFleet, B>) -> Result<u64, Refusal> {
     match store.look(rt, Look::Digest) {
         Ok(shown) => head_in(&shown).ok_or(Refusal::NoMemory),
@@ -157,7 +157,7 @@ fn head<B: Naming, R: Wait>(rt: &R, store: &Store<MemoryFleet, B>) -> Result<u64
     }
 }
 
-/// The last of the ids that are shown: it is the head's.
+/// The last of the ids that are shown, which is the head's.
 fn head_in(shown: &Shown) -> Option<u64> {
     match shown {
         Shown::Digest(ids) => ids.as_slice().last().copied(),
@@ -175,7 +175,8 @@ fn roll<B: Naming, R: Wait>(rt: &R, store: &Store<MemoryFleet, B>) -> Answer {
     }
 }
 
-/// Cleans these segments, from the begin of a pass to the last free. A failover that is open is pushed to its end first.
+/// Cleans these segments, from the begin of a pass to the last free. If a failover is open, it is pushed to its end
+/// first.
 fn clean<B: Naming, R: Wait>(
     rt: &R,
     alloc: Global,
@@ -207,7 +208,7 @@ fn mend<B: Naming, R: Wait>(
     }
 }
 
-/// Why a pass without victims is refused: since a failover is open, or a pass is, or there are no victims.
+/// Why a pass without victims is refused: a failover is open, a pass is open, or there are no victims.
 fn refused_pass<B: Naming, R: Wait>(
     rt: &R,
     alloc: Global,
@@ -217,8 +218,8 @@ fn refused_pass<B: Naming, R: Wait>(
     store.turn(rt, CleanTurn::BeginClean(victims)).err()
 }
 
-/// Makes all of a pass that has begun. Answers the head that is in force then. A failover may end the pass, or leave
-/// replicas of its survivors to be sealed anew before another roll.
+/// Makes all of a pass that has begun, and answers the head that is in force then. A failover may end the pass, or
+/// leave replicas of its survivors to be sealed anew before another roll.
 fn finish_pass<B: Naming, R: Wait>(
     rt: &R,
     alloc: Global,

@@ -15,6 +15,6 @@ abbrev pub SettlesIn : List Account → SeatValue → ℕ → ℕ → List Accou
 SettlesIn book m place durable next n = (place < durable) × Knows book m
     × (next ≡ slice_set book m.number (account (place + 1) m.count)) × (n ≡ answered m place)
 
--- the place isn't durable, or the book has other numbers of the seat
+-- nothing changes: the place isn't durable, or the book's numbers of the seat aren't the seat's own
 abbrev pub SettlesNothingIn : List Account → SeatValue → ℕ → ℕ → List Account → SeatValue → Type 0
 SettlesNothingIn book m place durable next n = (place < durable → Knows book m → ⊥) × (next ≡ book) × (n ≡ m)

@@ -24,13 +24,13 @@ pub record Answers (m : SeatValue) (command : Command) (reply : Reply) (receipt 
   pub above : m.first ≤ receipt.place
   pub seat : n ≡ answered (noted m receipt) receipt.place
 
--- One record was made at this place, and the seat has a note of it; nobody has answered it.
+-- One record was made at this place. The seat has a note of it, and no call has answered it.
 pub record LeavesUnsure (m : SeatValue) (command : Command) (place : ℕ) (n : SeatValue) : Type 0 where
   pub reply : Reply
   pub above : m.first ≤ place
   pub seat : n ≡ noted m (told place (record_by m.number command reply))
 
--- At most one record was made, and the share counts it.
+-- At most one record was made, and the seat's share counts it.
 pub record LeavesRefused (m n : SeatValue) : Type 0 where
   pub number : n.number ≡ m.number
   pub first : n.first ≡ m.first
@@ -40,7 +40,8 @@ pub record LeavesRefused (m n : SeatValue) : Type 0 where
   pub amount : n.amount + m.count ≡ m.amount + n.count
   pub mark : n.mark ≡ m.mark
 
--- A call pushes rolls and failovers to their end, so neither is a reason to refuse it or to leave it without an answer.
+-- A call pushes rolls and failovers to their end, so neither is a reason to refuse it or to leave its record
+-- unanswered.
 abbrev pub Calls : SeatValue → Command → Result (Reply × Told) CallFault → SeatValue → Type 0
 Calls m command (Ok r) n = Answers m command r.0 r.1 n
 Calls m command (Err (Refused e)) n = RefusesCall e × (n ≡ m)
@@ -57,6 +58,6 @@ IsLeft place SeatUnknown = ⊥
 IsLeft place CellRefused = Unit {0}
 IsLeft place NotYours = ⊥
 
--- the seat was shown this place
+-- the seat after it was shown this place
 abbrev pub met : SeatValue → ℕ → SeatValue
 met m place = if nat_lt place m.first then m else answered m place

@@ -1,4 +1,4 @@
--- How a seat comes by a record of its own again.
+-- How a seat gets a record of its own again.
 use Rattle.std.specs.Prelude.{◌≡◌, ◌≤◌, ℕ, List, Some, Result, Ok, Err, slice_get}
 use Rattle.master_core.specs.master_state.declared.step.Refusal.TheVariants as refusal
 use Rattle.versioned_map.specs.declared.command.Command.{Command}
@@ -48,14 +48,15 @@ ClaimsSeat m place (Err SeatUnknown) = Unit {0}
 ClaimsSeat m place (Err CellRefused) = Unit {0}
 ClaimsSeat m place (Err NotYours) = Unit {0}
 
--- If the seat has a note of this place, as a call that was left without an answer leaves it, the reply and the receipt
--- are those of the note.
+-- If the seat has a note of this place, as after a call that was left without an answer, the reply and the receipt are
+-- those of the note.
 abbrev pub IsAsNoted : SeatValue → ℕ → Reply → Told → Type 0
 IsAsNoted m place reply receipt =
     (what : Record) → m.last ≡ Some (told place what) → (reply ≡ what.reply) × (receipt ≡ told place what)
 
 -- A record of the seat is durable, and the seat was answered up to it. Its count and its share stay. A fault changes
--- nothing of the seat, and Unsure says the place again. An open failover is no reason for it: it is pushed to its end.
+-- nothing of the seat, and Unsure names the place again. An open failover is no reason for Unsure, since it is pushed
+-- to its end.
 abbrev pub SettlesSeat : SeatValue → ℕ → Result (Reply × Told) CallFault → SeatValue → Type 0
 SettlesSeat m place (Ok r) n = IsOwn m place r.0 r.1 × IsAsNoted m place r.0 r.1 × (n ≡ answered m place)
 SettlesSeat m place (Err (Refused e)) n = ⊥

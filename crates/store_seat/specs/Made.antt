@@ -5,8 +5,8 @@ use Rattle.master_core.specs.master_state.declared.config.Config.{Config}
 use Rattle.master_core.specs.master_state.Data.{Origin, no_origin}
 use Rattle.places.specs.Secrets.{fast_hasher}
 
--- How many seats it has, the configuration of its master, what the history began with, which records it had when the
--- store was made, of which so many were durable, and the least heads that its fleet had then.
+-- What a store was made of: the number of its seats, the configuration of its master, what the history began with,
+-- which records it had then and how many of them were durable, and the least heads of the fleet then.
 pub record Made : Type 0 where
   pub seats : ℕ
   pub config : Config
@@ -15,7 +15,7 @@ pub record Made : Type 0 where
   pub durable : ℕ
   pub least : ℕ → ℕ
 
--- no store's
+-- what stands for no store
 abbrev pub nobody : Made
 nobody = record {
   seats = 0;

@@ -9,12 +9,12 @@ use Rattle.store_seat.specs.Calls.{AppliesSeat}
 use Rattle.store_seat.specs.Seats.{SeatValue, answered}
 use Rattle.store_seat.specs.Stops.{RefusesRoll}
 
--- The command is done; or it has to wait for a roll, which was begun or refused, and the seat stays as it is.
+-- Either the command is done, or it has to wait for a roll, which was begun or refused, and the seat stays as it is.
 abbrev pub AttemptsSeat : SeatValue → Command → Attempt → SeatValue → Type 0
 AttemptsSeat m command (Done r) n = AppliesSeat m command r n
 AttemptsSeat m command (Rolls back why) n = (back ≡ command) × (n ≡ m) × IfSome why RefusesRoll
 
--- The seat is answered up to the place; or nothing changes.
+-- Either the seat is answered up to the place, or nothing changes.
 abbrev pub ProceedsSeat : SeatValue → ℕ → Progress → SeatValue → Type 0
 ProceedsSeat m place Answered n = n ≡ answered m place
 ProceedsSeat m place Waits n = n ≡ m

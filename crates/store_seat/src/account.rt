@@ -9,7 +9,7 @@ use crate::seat::Seat;
 /// What the book has of a seat.
 #[derive(Clone, Copy)]
 pub struct Account {
-    /// The last place that the seat was acknowledged or met, plus 1.
+    /// The last place that the seat was answered or shown, plus 1.
     pub first: u64,
     /// How many records of the seat there are.
     pub count: u64,

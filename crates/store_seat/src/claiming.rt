@@ -1,4 +1,4 @@
-//! How a seat comes by a record of its own again.
+//! How a seat gets a record of its own again.
 
 ghost use Rattle.std.specs.Prelude.{◌≡◌, ◌<◌, ◌↔◌, IsTrue, IfOk, IfSome, length, slice_get};
 ghost use Rattle.history_row.specs.Rows.{IsRowOf};
@@ -28,8 +28,8 @@ pub fn owns<B: Naming>(history: &History, seat: &Seat<B>, place: u64) -> bool
     }
 }
 
-/// The reply of a record that the seat owns, and a receipt of its place. Nothing changes. Memory is taken for a
-/// value that was found, above 15 bytes; if that is refused, the seat is as unsure of the record as it was.
+/// The reply of a record that the seat owns, and a receipt of its place. Nothing changes. Memory is asked for only if
+/// the reply has a value of more than 15 bytes. If it is refused, the seat knows no more of the record than before.
 pub fn claim<B: Naming>(
     alloc: Global,
     history: &History,

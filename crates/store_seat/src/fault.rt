@@ -7,14 +7,15 @@ use master_core::Refusal;
 pub enum CallFault {
     /// 1: the step was refused, and there is no record.
     Refused(Refusal),
-    /// 2: the record is at this place, without a receipt; a later step was refused.
+    /// 2: the command was applied, and its record is at this place, but a later step was refused. Nobody knows yet
+    /// whether the record will be durable: `settle` goes on with it.
     Unsure(u64, Refusal),
-    /// 3: the book has other numbers of the seat, and nothing changed.
+    /// 3: the book's numbers of the seat aren't the seat's own. Nothing changed.
     SeatUnknown,
-    /// 4: the cell of this record or of an earlier one did not take it, or the book has other numbers of the seat after
-    /// the record. Every later call is answered so.
+    /// 4: the cell of this record or of an earlier one did not take it, or the book's numbers of the seat weren't the
+    /// seat's own after the record. The command may have been applied. Every later call is answered so.
     CellRefused,
-    /// 5: only of `settle`. There is no record at the place, it is another seat's, or the place is below the seat's
-    /// first number. Nothing changed.
+    /// 5: comes only of `settle`. There is no record at the place, it is another seat's, or the place is below the
+    /// seat's first number. Nothing changed.
     NotYours,
 }

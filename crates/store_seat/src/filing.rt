@@ -13,8 +13,8 @@ use history_row::Row;
 use std::alloc::Global;
 use std::sync::ledger::Book;
 
-/// Files a record: in its cell, in the book and in the ledger. Answers whether the cell took it; then the seat has a
-/// receipt of it. If it did not, the store is marked as refused.
+/// Files a record: in its cell, in the book and in the ledger. Answers whether the cell took the record. If it did,
+/// the seat has a receipt of it. If it did not, the store is marked as refused.
 pub fn file<B: Naming>(
     alloc: Global,
     row: &mut Row<B>,
@@ -50,8 +50,8 @@ pub fn file<B: Naming>(
     took
 }
 
-/// Answers the seat up to this place, in the book too, if so many records are durable that it is and if the book's
-/// numbers of the seat are the seat's own. Else nothing changes. It takes no memory.
+/// Marks the seat as answered up to this place, in the book too, if the place is below the durable count and the
+/// book's numbers of the seat are the seat's own. Otherwise nothing changes. It takes no memory.
 pub fn settle<B: Naming>(
     book: &mut Vec<Account>,
     seat: &mut Seat<B>,
@@ -69,7 +69,7 @@ pub fn settle<B: Naming>(
     true
 }
 
-/// Answers the seat up to this place, in the book too.
+/// Marks the seat as answered up to this place, in the book too.
 fn answer<B: Naming>(book: &mut Vec<Account>, seat: &mut Seat<B>, place: u64)
     requires known { Knows book.old.items seat.old }
     requires room { place + 1 < 2 ^ 64 }

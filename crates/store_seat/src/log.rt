@@ -18,34 +18,35 @@ use versioned_map::{Command, Reply};
 pub enum Attempt {
     /// It was applied or refused.
     Done(Result<(u64, Reply), CallFault>),
-    /// A roll has to come first. It was begun, or that was refused.
+    /// A roll has to come before the command. The roll was begun, or its begin was refused for this reason.
     Waits(Command, Option<Refusal>),
 }
 
-/// How far a place is.
+/// Whether the seat was answered up to the place of its record.
 pub enum Progress {
-    /// The seat was answered up to it.
+    /// The record is durable, and the seat was answered up to it.
     Answered,
-    /// It is not durable.
+    /// The record is not durable yet.
     Waits,
-    /// The book has other numbers of the seat.
+    /// The book's numbers of the seat aren't the seat's own.
     Unknown,
 }
 
-/// The log under the lock. Each call is one holding of the lock; what it does to the log is the log's to say.
+/// The log under the lock. Each call holds the lock once. The log itself says what a call does to it.
 pub trait Log<B: Naming> {
-    /// One command of this seat; or the begin of the roll that has to come first, which is one step too.
+    /// Applies one command of this seat. If a roll has to come first, it begins that roll instead, which is one step
+    /// too.
     fn attempt(&mut self, seat: &mut Seat<B>, command: Command) -> Attempt
         ensures seat { AttemptsSeat seat.old command result seat.new };
 
-    /// Answers the seat up to the place of its record, if that is durable. If the book has other numbers of the seat,
-    /// all later calls are refused.
+    /// Marks the seat as answered up to the place of its record, if that is durable. If the book's numbers of the seat
+    /// aren't the seat's own, all later calls are refused.
     fn proceed(&mut self, seat: &mut Seat<B>, place: u64) -> Progress
         requires { seat.old.first ≤ place }
         ensures seat { ProceedsSeat seat.old place result seat.new };
 
-    /// The seat is answered up to this place, if that is durable and the book's numbers of the seat are the seat's own.
-    /// Else nothing changes.
+    /// Marks the seat as answered up to this place, if that is durable and the book's numbers of the seat are the
+    /// seat's own. Answers whether it did. If not, nothing changes.
     fn settle(&mut self, seat: &mut Seat<B>, place: u64) -> bool
         requires { seat.old.first ≤ place }
         ensures seat { MatchBool result (seat.new ≡ answered seat.old place) (seat.new ≡ seat.old) };
@@ -54,8 +55,8 @@ pub trait Log<B: Naming> {
     fn claim(&mut self, seat: &Seat<B>, place: u64) -> Result<(Reply, Receipt<B>), CallFault>
         ensures seat { ClaimsSeat seat.now place result };
 
-    /// One push. If nothing waits, another thread made it; and if a backup fails in it, a failover is open, which further
-    /// pushes end. Neither is a refusal here.
+    /// Makes one push. It is no refusal if nothing waits, since another thread made the push. Nor is it one if a
+    /// backup fails in the push: then a failover is open, which further pushes end.
     fn push(&mut self) -> Result<(), Refusal>
         ensures stops { IfErr result StopsPush };
 }

@@ -3,8 +3,8 @@
 use history_row::Labels;
 use std::marker::Brand;
 
-/// Names the parts of one store: its ledger, its cells and the table of its mark. It has what the store was made of,
-/// too. Each call of a program that opens a store picks them.
+/// Names the parts of one store: its ledger, its cells and the table of its mark. It also has what the store was made
+/// of. Each call of a program that opens a store picks such a name.
 pub trait Naming: Labels {
     ghost use Rattle.atomic_table.specs.Seated.{TableId};
     ghost use Rattle.store_seat.specs.Made.{Made};

@@ -1,4 +1,4 @@
-//! Who calls.
+//! The seat of a caller.
 
 ghost use Rattle.std.specs.Prelude.{◌≡◌, ◌<◌, [], Some};
 ghost use Rattle.mark_word.specs.Marks.{nothing};
@@ -11,13 +11,14 @@ use mark_word::Pen;
 use std::marker::Model;
 use std::sync::ledger::Share;
 
-/// Who calls. Contracts see its numbers, its share of the ledger, its last record and what it knows of the mark.
+/// The seat of a caller. Contracts see its numbers, its share of the ledger, its last record and what it knows of the
+/// mark.
 #[derive(Drop)]
 pub struct Seat<B: Naming> {
     pub(crate) number: u64,
-    /// The last place that it was acknowledged or met, plus 1.
+    /// The last place that the seat was answered or shown, plus 1.
     pub(crate) first: u64,
-    /// How many records its calls made.
+    /// How many records the calls of the seat made.
     pub(crate) count: u64,
     pub(crate) share: Share<B>,
     pub(crate) pen: Pen,
@@ -63,7 +64,7 @@ impl<B: Naming> Seat<B> {
         }
     }
 
-    /// Its part of the ledger.
+    /// The seat's part of the ledger.
     pub fn into_share(self) -> Share<B>
         ensures { (result.parts ≡ self.parts) × (result.amount ≡ self.amount) }
     {
@@ -78,7 +79,7 @@ impl<B: Naming> Seat<B> {
         share
     }
 
-    /// Tells that a receipt of the place of the seat's last record has that record. Nothing changes.
+    /// Shows that a receipt of the place of the seat's last record has that record. Nothing changes.
     pub(crate) fn compare(&mut self, receipt: &mut Receipt<B>)
         ensures same { (self.new ≡ self.old) × (receipt.new ≡ receipt.old) }
         ensures agree { (r : Record) (q : Record) → self.old.last ≡ Some (told receipt.old.place r) →
@@ -92,7 +93,7 @@ impl<B: Naming> Seat<B> {
         }
     }
 
-    /// The last place that the seat was acknowledged or met, plus 1. It takes no memory.
+    /// The last place that the seat was answered or shown, plus 1. It takes no memory.
     pub fn first(&self) -> u64
         ensures { result ≡ self.now.first }
     {
@@ -106,7 +107,7 @@ impl<B: Naming> Seat<B> {
         self.number
     }
 
-    /// How many records its calls made. Its share of the ledger has just so many.
+    /// How many records the calls of the seat made. Its share of the ledger has just this amount.
     pub fn count(&self) -> u64
         ensures count { result ≡ self.now.count }
         ensures share { (self.now.parts ≡ 1) × (self.now.amount ≡ self.now.count) }

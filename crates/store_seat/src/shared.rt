@@ -49,7 +49,7 @@ impl<L: Log<B>, B: Naming> Shared<L, B> {
         state.into_inner()
     }
 
-    /// The greatest place that any seat raised the mark to. It waits for nobody, and takes no memory.
+    /// The greatest place to which any seat raised the mark. It waits for nobody, and takes no memory.
     pub fn mark(&self, seat: &mut Seat<B>) -> u64
         ensures value { (seat.old.mark.seen ≤ result) × (seat.old.mark.raised ≤ result) }
         ensures seat { seat.new ≡ record seat.old {
@@ -68,8 +68,9 @@ impl<L: Log<B>, B: Naming> Shared<L, B> {
         raise(&self.mark, &mut seat.pen, receipt.place())
     }
 
-    /// One command, until its record is durable. It rolls and pushes a step at a time, and lets the lock go between
-    /// them. Whoever opened a failover, it pushes that to its end.
+    /// Applies one command, and answers once its record is durable. The call rolls and pushes one step at a time, and
+    /// frees the lock between the steps. It pushes an open failover to its end, whoever opened it. After Unsure or
+    /// CellRefused the command may have been applied.
     pub fn call<R: Wait>(
         &self,
         rt: &R,
@@ -92,8 +93,8 @@ impl<L: Log<B>, B: Naming> Shared<L, B> {
         }
     }
 
-    /// Goes on with the record at this place, which a call of this seat left without an answer, until it is durable.
-    /// It adds no record.
+    /// Goes on with the record at this place, which a call of this seat left without an answer, and answers once the
+    /// record is durable. It adds no record.
     pub fn settle<R: Wait>(
         &self,
         rt: &R,
@@ -148,7 +149,7 @@ impl<L: Log<B>, B: Naming> Shared<L, B> {
         }
     }
 
-    /// Pushes until the place of a record is durable and the seat was answered up to it.
+    /// Pushes until the record at this place is durable, and the seat was answered up to it.
     fn finish<R: Wait>(&self, rt: &R, seat: &mut Seat<B>, place: u64) -> Result<(), CallFault>
         requires { seat.old.first ≤ place }
         ensures ok { OnOk result (seat.new ≡ answered seat.old place) }
@@ -167,8 +168,8 @@ impl<L: Log<B>, B: Naming> Shared<L, B> {
         unreachable!()
     }
 
-    /// Shows the seat a receipt of any seat: all that it is answered later is above that place. Answers whether it was
-    /// shown; if not, nothing changed.
+    /// Shows the seat a receipt of any seat: every place that the seat is answered later is above that of the receipt.
+    /// Answers whether the receipt was shown. If not, nothing changed.
     pub fn meet<R: Wait>(&self, rt: &R, seat: &mut Seat<B>, receipt: &Receipt<B>) -> bool
         ensures { MatchBool result (seat.new ≡ met seat.old receipt.now.place)
             ((seat.new ≡ seat.old) × (seat.old.first ≤ receipt.now.place)) }

@@ -26,21 +26,21 @@ step_of d turn.Copy = Some step.Copy
 step_of d turn.Seal = Some step.Seal
 step_of d turn.Free = Some step.Free
 
--- the master makes this step; without one nothing is done
+-- the master makes this step; if there is no step, nothing is done
 abbrev pub MakesStep : Option Step → World → Result StepAnswer Refusal → World → Type 0
 MakesStep None old answer new = (answer ≡ Err refusal.Nothing) × (new ≡ old)
 MakesStep (Some step) old answer new = Steps old step answer new
 
--- there is no memory to choose the victims of a next pass
+-- there was no memory to choose the victims of a next pass
 abbrev pub LacksVictims : World → CleanTurn → Result StepAnswer Refusal → World → Type 0
 LacksVictims old asked answer new = (asked ≡ turn.Next) × (old.knows.pass ≡ None) × NeedsChoice old.knows
     × (answer ≡ Err refusal.NoMemory) × (new ≡ old)
 
--- One step that is no command: of Next the one that the master says is next.
+-- One step that is no command. For Next it is the step that the master says is next.
 abbrev pub MakesTurn : World → CleanTurn → Result StepAnswer Refusal → World → Type 0
 MakesTurn old asked answer new = MakesStep (step_of old.knows asked) old answer new ⊎ LacksVictims old asked answer new
 
--- One command: its place and its reply, or the step's refusal.
+-- One command: with Ok the place of its record and its reply, and else the step's refusal.
 abbrev pub MakesCommand : World → ℕ → Command → Result (ℕ × Reply) Refusal → World → Type 0
 MakesCommand old seat command (Ok r) new = Accepts old (step.Apply seat command) (Applied r.0 r.1) new
 MakesCommand old seat command (Err e) new = Declines old (step.Apply seat command) e new

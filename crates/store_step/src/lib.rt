@@ -1,7 +1,7 @@
 //! The steps of a master as a store makes them: a seat's command, and the turns of a cleaner.
 //!
-//! Each makes at most one step of the master, and says which by the master's own relations (`specs/Turns.antt`). The
-//! crate stands on `master` alone. Nothing here waits.
+//! Each call makes at most one step of the master, and its contract says which one, by the master's own relations
+//! (`specs/Turns.antt`). The crate stands on `master` alone. Nothing here waits.
 #![tactic(auto)]
 
 mod steps;

@@ -12,7 +12,7 @@ use entry::NoMemory;
 use master::{Command, Master, Refusal, Reply, Step, StepAnswer};
 use replica::Fleet;
 
-/// One command of this seat: the place of its record, and the reply.
+/// Applies one command of this seat. The result is the place of its record, and the reply.
 pub fn apply_command<F: Fleet>(
     master: &mut Master<F>,
     seat: u64,
@@ -29,7 +29,7 @@ pub fn apply_command<F: Fleet>(
     }
 }
 
-/// A turn of the cleaner.
+/// Makes a turn of the cleaner.
 pub fn make_turn<F: Fleet>(master: &mut Master<F>, turn: CleanTurn) -> Result<StepAnswer, Refusal>
     ensures gives { MakesTurn (world F.state master.old) turn result (world F.state master.new) }
     ensures keeps { Keeps 1 (world F.state master.old) (world F.state master.new) }
