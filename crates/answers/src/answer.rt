@@ -28,8 +28,8 @@ use std::fmt::{Display, Write as _};
 use std::io::Write;
 use tablet_will::Part;
 
-/// What a line of a script answers. A command that was refused as Halted or Lost may have been applied, and a backup
-/// may have taken its op.
+/// What a line of a script answers. A command that was refused as Halted or NoMemory may have been applied. After a
+/// refusal as Halted or Lost a backup may have taken the op of the line.
 #[derive(Drop)]
 pub enum Answer {
     /// Nothing is printed.
@@ -46,7 +46,8 @@ pub enum Answer {
     Fault(u64, bool),
     /// Masters that start later write format 2.
     Format,
-    /// The fleet had taken as many ops as it may, and the master was dropped.
+    /// The fleet had taken as many ops as it may, and the master was dropped. The command of the line may have been
+    /// applied.
     Stopped,
     Crashed,
     /// The backup that lost all that it held.
@@ -104,9 +105,9 @@ pub enum Answer {
     Down,
     /// The line was refused: there is a master.
     Up,
-    /// A store of clients could not tell whose its records were. That this never comes is tested, not proved.
+    /// A store of clients could not tell whose its records were. Only tests show that this never comes.
     SeatUnknown,
-    /// A cell of a store of clients did not take its record. That this never comes is tested, not proved.
+    /// A cell of a store of clients did not take its record. Only tests show that this never comes.
     CellRefused,
 }
 

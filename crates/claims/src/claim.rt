@@ -71,7 +71,8 @@ impl<'a> Claim<'a> {
         !self.dead && !other.dead && !same_value
     }
 
-    /// The object of a claim that is not a tombstone's. It is not copied.
+    /// The object with the key, the version and the value of this claim. The value of a tombstone's claim is empty. No
+    /// byte is copied.
     pub fn object(&self) -> ObjectRef<'a>
         ensures object { shown_object result ≡ object_of (claimed self.now) }
         ensures valid { IsObject (object_of (claimed self.now)) }

@@ -35,7 +35,7 @@ IsWrongWord word _ = ⊥
 abbrev pub IsWrong : List (List ℕ) → Reason → Type 0
 IsWrong words why = (word : List ℕ) × IsAmong words word × IsWrongWord word why
 
--- What the reason says of the text of a bad line. If the text begins with no command, nothing more is said.
+-- What the reason says of the text of a bad line. Unknown says nothing of it.
 abbrev pub HasReason : List ℕ → Reason → Type 0
 HasReason text reason.CarriageReturn = (line : List ℕ) × (text ≡ line ++ 13 ∷ [])
 HasReason text (reason.Byte byte) = HasHidden text byte

@@ -22,7 +22,7 @@ use store_step::master::{History, Master};
 #[derive(Clone, Copy)]
 pub enum ShareFault {
     NoMemory,
-    /// A new cell did not take its record. That this never comes is tested, not proved.
+    /// A new cell did not take its record. Only tests show that this never comes.
     CellRefused,
     /// A record is of a seat that the store doesn't have.
     StrangeSeat,

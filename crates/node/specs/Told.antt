@@ -93,12 +93,12 @@ abbrev pub IsStepAt : Config → Life → Step → Result StepAnswer Refusal →
 IsStepAt config life step result = (old : World) × (new : World) × HasLived config life old.knows old.fleet
     × HasLived config life new.knows new.fleet × Steps old step result new
 
--- the same for a roll with its pushes
+-- a master that has lived this life makes this roll with its pushes, and has lived just this life after it, too
 abbrev pub IsRollAt : Config → Life → Result ℕ Refusal → Type 0
 IsRollAt config life result = (old : World) × (new : World) × HasLived config life old.knows old.fleet
     × HasLived config life new.knows new.fleet × Rolls old result new
 
--- the same for a whole cleaning of these segments
+-- a master that has lived this life cleans these segments, with this result, and has lived just this life after it
 abbrev pub IsCleanAt : Config → Life → List ℕ → Result (Survivors × ℕ) Refusal → Type 0
 IsCleanAt config life victims result = (old : World) × (new : World) × HasLived config life old.knows old.fleet
     × HasLived config life new.knows new.fleet × Cleans old victims result new

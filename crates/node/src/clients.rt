@@ -112,7 +112,7 @@ impl Node {
     }
 
     /// Answers a refusal of clients. No contract says how the fleet was under the lock, so after Spent the fleet is
-    /// asked whether it takes no more ops. That it never takes more then is tested, not proved.
+    /// asked whether it takes no more ops. Only tests show that it never takes more then.
     fn refuse_work(&mut self, refusal: Refusal) -> Answer
         requires { is_up self.old ≡ true }
         ensures { RefusesWork self.old refusal self.new result }

@@ -37,7 +37,7 @@ abbrev pub AreLives : List Life → FailData → Type 0
 AreLives [] on = Unit {0}
 AreLives (l ∷ ls) on = ((first_log ls on).opening ≡ taken_over l.recovered) × AreLives ls on
 
--- the same version and value, or a greater version
+-- y has the version and the value of x, or a greater version
 abbrev pub IsSameOrNewer : Versioned → Versioned → Type 0
 IsSameOrNewer x y = (x ≡ y) ⊎ (x.version < y.version)
 

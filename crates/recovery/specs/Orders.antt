@@ -19,7 +19,7 @@ abbrev pub NamesGroups : List Holding → ℕ → ℕ → List Part → GroupOrd
 NamesGroups inventory least master will order = (plan : Plan) → IsPlan inventory least master plan
     → IsOrderOf (count_of plan.segments will) (order_for plan will order)
 
--- the order does so for each inventory that lists just what is shown
+-- for each inventory that lists just what is shown, the order names each group of each plan once
 abbrev pub NamesHeld : Shown → ℕ → List Part → GroupOrder → Type 0
 NamesHeld shown master will order =
     (inventory : List Holding) → AreHeld inventory shown.holds → NamesGroups inventory shown.least master will order

@@ -31,7 +31,7 @@ pub record IsNewest (master : ℕ) (f : FleetState) : Type 0 where
   pub held : (b m s : ℕ) → master < m → f.picture b m s ≡ None
   pub least : AreUnraisedAbove master f
 
--- the same configuration, for the master with this number
+-- this configuration, for the master with this number
 abbrev pub with_number : ℕ → Config → Config
 with_number number c = record c { master = number }
 

@@ -21,8 +21,8 @@ pub fn orders_name_groups()
     ensures { OrdersNameGroups }
 {}
 
-/// Lives follow one another, and each begins with what was recovered of the one before. Of what was recovered, a key
-/// never has a lower version in a later life, nor another value at the same version.
+/// If each life begins with what was recovered of the one before, a key never has a lower version in a later life than
+/// it had in what was recovered, nor another value at the same version.
 pub fn versions_rise()
     ensures { VersionsRise }
 {}

@@ -131,7 +131,7 @@ IsLaterFault hs least master (Missing id) = IsMissing hs least master id
 IsLaterFault hs least master NoMemory = HasAllListed hs least master
 IsLaterFault hs least master _ = ⊥
 
--- the same, but if memory ran out, it is not known yet whether a segment is lost
+-- a fault that may come before it is known, if memory ran out, whether a segment is lost
 abbrev pub IsFoundFault : List Holding → ℕ → ℕ → PlanFault → Type 0
 IsFoundFault hs least master (Missing id) = IsMissing hs least master id
 IsFoundFault hs least master NoMemory = Unit {0}

@@ -48,7 +48,7 @@ Stands s = IsCovered s
     × ((d : MasterData) × (at : Position) × IsNodeAt s.node (config_of s.options s.master) d at)
     × AreLaterUnraised s
 
--- a new master of this configuration, over a fleet of so many backups that holds nothing
+-- a new master of this configuration, over an empty fleet of as many backups as it says
 abbrev pub new_world : Config → World
 new_world config = record { knows = fresh_data config; fleet = new_fleet config.backups }
 

@@ -69,8 +69,9 @@ pub(crate) const FIRST_MASTER: u64 = 1;
 /// - What holds: the will covers the tablets, the node stands for one life of a master after another, and later masters
 ///   may begin (*Stands*).
 /// - Refusals: a line that the node refuses is answered, and the session goes on. A command that is refused as Halted
-///   or Lost may have been applied, and a backup may have taken its op. `LineFault` comes only for a line that names a
-///   backup that isn't there, or if memory runs out before the line began; then nothing has changed.
+///   or NoMemory may have been applied, and after Halted or Lost a backup may have taken an op. `LineFault` comes only
+///   for a line that names a backup that isn't there, or if memory runs out before the line began; then nothing has
+///   changed.
 /// - Cost: what the node's own call costs. A session has no more than the node, a will and a few words.
 ///
 /// ```text
@@ -93,7 +94,7 @@ pub struct Session {
     /// The coordinator's will: by which partitions a recovery divides the master's log.
     will: Will,
     /// Whether each store of clients could tell whose its records were. If one couldn't, nothing is recovered any
-    /// more. That each can is tested, not proved.
+    /// more. Only tests show that each store can.
     is_known: bool,
     node: Node,
 }

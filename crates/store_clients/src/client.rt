@@ -15,9 +15,9 @@ use std::thread::Promise;
 /// What a client hands back.
 #[derive(Drop)]
 pub struct Client<B: Naming> {
-    /// Its seat, or `None` if its thread could not be started.
+    /// The client's seat, or `None` if its thread could not be started.
     pub seat: Option<Seat<B>>,
-    /// How many of its calls were accepted, or its first refusal.
+    /// How many of the client's calls were accepted, or its first refusal.
     pub calls: Result<u64, CallFault>,
 }
 

@@ -4,7 +4,7 @@
 //! cleaner. A client that answers a count answers twice the rounds, and its seat made just so many records
 //! (`specs/Clients.antt`).
 //!
-//! `clients_over` does so over a master that has a history: it makes a store, runs its clients, and takes the master
+//! `clients_over` runs clients over a master with a history: it makes a store, runs its clients, and takes the master
 //! back. If all calls were accepted, the history has twice the rounds more records of each client and no others, and
 //! all are durable (`specs/Workloads.antt`).
 //!

@@ -12,9 +12,9 @@ pub enum LineFault {
     /// The line names a backup that isn't there. The fleet has this many.
     NoBackup(u64),
     NoMemory,
-    /// The store doesn't know the seat. That this never comes is tested, not proved.
+    /// The store doesn't know the seat. Only tests show that this never comes.
     SeatUnknown,
-    /// A cell refused its record. That this never comes is tested, not proved.
+    /// A cell refused its record. Only tests show that this never comes.
     CellRefused,
 }
 

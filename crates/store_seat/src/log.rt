@@ -16,7 +16,7 @@ use versioned_map::{Command, Reply};
 /// What became of a command.
 #[derive(Drop)]
 pub enum Attempt {
-    /// It was applied or refused.
+    /// The command was applied or refused.
     Done(Result<(u64, Reply), CallFault>),
     /// A roll has to come before the command. The roll was begun, or its begin was refused for this reason.
     Waits(Command, Option<Refusal>),

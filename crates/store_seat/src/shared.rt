@@ -28,7 +28,7 @@ pub struct Shared<L: Log<B>, B: Naming> {
 }
 
 impl<L: Log<B>, B: Naming> Shared<L, B> {
-    /// This log and this mark.
+    /// This log, to be shared, and this mark beside it.
     pub fn new(log: L, mark: Mark) -> Shared<L, B>
         requires { (mark.shared.table_id ≡ B.table) × (mark.shared.table_id.words ≡ 1) }
     {
