@@ -85,7 +85,7 @@ abbrev pub label_text : Label → List ℕ
 label_text l =
     decimal l.backup ++ 32 ∷ decimal l.master ++ 32 ∷ decimal l.segment ++ 32 ∷ decimal l.len ++ state_text l.is_open
 
--- which take from now ends in a fault that was asked for, and whether its op is taken
+-- in which take from now a fault was asked for, 1 for the next one, and whether its op is taken
 abbrev pub asked_text : ℕ → Bool → List ℕ
 asked_text takes taken = codes "fault " ++ decimal takes ++ 32 ∷ fate_word taken ++ 10 ∷ []
 

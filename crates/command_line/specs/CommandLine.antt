@@ -142,7 +142,7 @@ ReadsNumber default (Some text) n = IsNumeral 10 (without_leading_plus text)
 abbrev pub ReadsOptions : (Text → Option Text) → Options → Type 0
 ReadsOptions text o = HasEach (λ option n. ReadsNumber option.default (text option.name) n) o
 
--- the command has this shape, and nothing in it excludes anything or is for subcommands
+-- the command has this shape, and it is plain: nothing in it excludes anything or is for subcommands
 pub record IsCommand (app : App) (command : Command) : Type 0 where
   pub shape : app_of command ≡ app
   pub plain : IsPlain command

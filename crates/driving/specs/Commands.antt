@@ -18,7 +18,7 @@ use Rattle.driving.specs.Rolls.{Advances, Rolls, is_lost}
 abbrev pub IsDurable : ℕ → World → Type 0
 IsDurable place w = place < durable_of (log_of w.knows)
 
--- it is not durable yet
+-- the record at this place is not durable yet
 abbrev pub IsAwaited : ℕ → World → Type 0
 IsAwaited place w = durable_of (log_of w.knows) ≤ place
 
@@ -61,13 +61,14 @@ Tries old command (Err r) new = Declines old (Apply 0 command) r new ⊎ IsCutSh
 
 -- ---- a line
 
--- A roll was made, and then the command was tried. Or the roll was refused, and nothing was tried.
+-- Either a roll was made, and then the command was tried, or the roll was refused, and nothing was tried.
 abbrev pub TriesAfterRoll : World → Command → Result Reply Refusal → World → Type 0
 TriesAfterRoll old command result new =
     ((head : ℕ) × (mid : World) × Rolls old (Ok head) mid × Tries mid command result new)
     ⊎ ((r : Refusal) × (result ≡ Err r) × Rolls old (Err r) new)
 
--- A command's line: the command is tried once. If that is refused as Rolling, one roll is made, and it is tried again.
+-- A command's line: the command is tried once. If the try is refused as Rolling, a roll is made, and it is tried
+-- again.
 abbrev pub RunsCommand : World → Command → Result Reply Refusal → World → Type 0
 RunsCommand old command result new =
     (Tries old command result new × (result ≡ Err Rolling → ⊥))

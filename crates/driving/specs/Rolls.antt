@@ -44,8 +44,8 @@ GoesRolling old new = ((answer : StepAnswer) × Accepts old BeginRoll answer new
 abbrev pub HasTurned : MasterData → Type 0
 HasTurned d = IfSome d.failover (λ (f : Failover). f.part ≡ part.Mends → ⊥)
 
--- A roll began if the head was open and no failover was, and pushes were made until nothing waited. The head has this
--- id now.
+-- A roll began if the head was open and no failover was open, and pushes were made until nothing waited. The head has
+-- this id now.
 pub record IsRolled (old : World) (id : ℕ) (new : World) : Type 0 where
   pub mid : World
   pub rolling : GoesRolling old mid
@@ -55,9 +55,9 @@ pub record IsRolled (old : World) (id : ℕ) (new : World) : Type 0 where
   pub head : id ≡ new.knows.head.id
   -- after an open head comes a new one
   pub later : is_working old.knows ≡ true → old.knows.next ≤ id
-  -- if no backup fails meanwhile, it has the first id that no segment had
+  -- if no backup fails meanwhile, the new head has the first id that no segment had
   pub next : new.knows.failed ≡ old.knows.failed → is_working old.knows ≡ true → id ≡ old.knows.next
-  -- and after a roll that was under way, or that a failover has made, comes the head of that roll
+  -- if a roll was under way, or a failover had made one, the head is that of this roll
   pub awaited : new.knows.failed ≡ old.knows.failed → HasTurned old.knows → (roll : Roll)
       → old.knows.head.roll ≡ Some roll → id ≡ roll.id
 

@@ -65,7 +65,7 @@ pub record IsUnpushed (old : MasterData) (command : Command) (r : Refusal) (new 
   pub pushed : StopsShort place mid r new
   pub waits : is_of_push r ≡ true
 
--- The command was not answered. Either a test refused it or memory ran out, and no record was added. Or its record was
+-- The command was not answered. Either a test refused it or memory ran out, and no record was added, or its record was
 -- added, and a push was refused.
 abbrev pub IsUnserved : MasterData → Command → Refusal → World → Type 0
 IsUnserved old command r new =

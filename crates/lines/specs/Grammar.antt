@@ -80,7 +80,7 @@ shown_line (line.Clients clients rounds passes) = Clients clients rounds passes
 
 -- ---- how a line is written
 
--- the words behind `recover` that name the order of the replay; without one it goes forward
+-- the words behind `recover` that name the order of the replay; without words the replay goes forward
 abbrev pub order_words : ReplayOrder → List (List ℕ)
 order_words Forward = []
 order_words Reverse = codes "reverse" ∷ []
@@ -131,8 +131,8 @@ IsOrder Forward = Unit {0}
 IsOrder Reverse = Unit {0}
 IsOrder (Threads workers) = IsWithin 1 64 workers
 
--- The numbers of the line have 64 bits, its key is a key, and a list of segments has one or more.
--- There are 1 to 63 clients, and 1 to 1,000,000 rounds, and the takes to a fault count from 1.
+-- The numbers of the line have 64 bits, its key is a word of at most 1,024 bytes, and a list of segments names one or
+-- more. There are 1 to 63 clients, and 1 to 1,000,000 rounds, and the takes to a fault count from 1.
 abbrev pub IsLine : LineValue → Type 0
 IsLine Idle = Unit {0}
 IsLine (Put table key value) = (table < 2 ^ 64) × IsKeyWord key

@@ -1,4 +1,4 @@
--- The lines that are taken of a reader. A line feed ends each line, but may be missing behind the last.
+-- The lines that are taken from a reader. A line feed ends each line, but the last line may lack it.
 use Rattle.std.specs.Prelude.{◌≡◌, ◌≢◌, ◌<◌, ◌≤◌, ◌+◌, ℕ, Bool, true, false, List, [], ◌∷◌, ◌++◌, length, take, min}
 use Rattle.std.specs.Prelude.{Option, Some, None, Result, Ok, Err}
 use Rattle.std.specs.List.{All}

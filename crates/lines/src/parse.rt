@@ -176,7 +176,7 @@ fn stop(words: Words<'_>) -> Option<Line<'_>>
     Some(Line::Stop { takes })
 }
 
-/// The words behind `fault` as which take ends in it, and whether its op is taken.
+/// The words behind `fault` as the number of the take that ends in the fault, and whether its op is taken.
 #[tactic(auto, using(crate::proofs::Spelling::decimal_is_word))]
 #[inline(never)]
 fn fault(mut words: Words<'_>) -> Option<Line<'_>>
@@ -189,7 +189,7 @@ fn fault(mut words: Words<'_>) -> Option<Line<'_>>
     }
 }
 
-/// The words as whether an op is taken.
+/// Whether an op is taken, as the words say.
 fn fate(mut words: Words<'_>) -> Option<bool>
     ensures sound { IfSome result (λ taken. words.entry ≡ fate_word taken ∷ []) }
     ensures complete { IsNone result → (taken : Bool) → words.entry ≢ fate_word taken ∷ [] }

@@ -79,7 +79,7 @@ impl<F: Fleet, B: Naming> State<F, B> {
         self.master.has_pass()
     }
 
-    /// Shows what the look asks for. Nothing changes.
+    /// Shows what the look asks for. Nothing changes. Only want of memory refuses it.
     pub fn look_held(&self, look: Look) -> Result<Shown, NoMemory>
         ensures shown { IfOk result (λ shown. IsShown (world F.state self.now.master) look shown) }
         ensures refused { OnErr result (NeedsMemory self.now.master.knows look) }
@@ -89,7 +89,7 @@ impl<F: Fleet, B: Naming> State<F, B> {
 }
 
 impl<F: Bench, B: Naming> State<F, B> {
-    /// Lets the fleet take `n` more ops.
+    /// Lets the fleet take `n` more ops, and then no more.
     pub fn limit_held(&mut self, n: u64)
         ensures limited { held F.Fleet.state self.new ≡ record (held F.Fleet.state self.old) {
           world = limited_world (held F.Fleet.state self.old).world n;
@@ -98,7 +98,8 @@ impl<F: Bench, B: Naming> State<F, B> {
         self.master.limit(n)
     }
 
-    /// Asks the fleet for a fault of the `n`-th take from now, whose op is taken or not. With 0 none comes.
+    /// Asks the fleet for a fault in the `n`-th take from now. `taken` says whether its op is taken. With 0 no fault
+    /// comes.
     pub fn fault_held(&mut self, n: u64, taken: bool)
         ensures { held F.Fleet.state self.new ≡ held F.Fleet.state self.old }
     {

@@ -1,4 +1,4 @@
-//! What a master left is recovered into a new master.
+//! Recovers what a master left into a new master.
 
 ghost use Rattle.std.specs.Prelude.{◌≡◌, ◌⊎◌, ◌≤◌, ◌<◌, ℕ, List, suc, max, false, true, None, Some, Ok, IfOk, IfErr};
 ghost use Rattle.std.specs.Prelude.{IfSome, ◌^◌, ◌-◌};

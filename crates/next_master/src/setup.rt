@@ -1,4 +1,4 @@
-//! From the command line to a master's configuration.
+//! Makes a master's configuration from the options of the command line.
 
 ghost use Rattle.std.specs.Prelude.{◌≡◌, ◌<◌, None, IfOk, OnErr};
 ghost use Rattle.node.specs.master.master_state.Config.{config_fault};

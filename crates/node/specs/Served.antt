@@ -251,7 +251,7 @@ AnswersLine old config line new answer = (d : MasterData) (at : Position) → Is
     (e : MasterData) × (next : Position) × IsNodeAt new config e next
     × LivesLonger d e × Tells config (life_of e) at line answer next
 
--- the line that asks for a step by hand; a command that is applied and not pushed has none
+-- the line that asks for a step by hand; no line asks to apply a command without pushing it
 abbrev pub line_of : Step → Option LineValue
 line_of (step.Apply seat command) = None
 line_of step.Push = Some Push

@@ -168,7 +168,8 @@ impl Node {
         *self = node;
     }
 
-    /// Begins a roll if none is under way, and pushes until the head is open.
+    /// Begins a roll if none is under way, and pushes until the head is open. Answers the head's number, or the
+    /// refusal.
     pub fn roll(&mut self) -> Answer
         ensures told { (config : Config) → AnswersLine self.old config Roll self.new result }
         ensures rolled { MakesRoll self.old self.new result }
@@ -186,7 +187,8 @@ impl Node {
         }
     }
 
-    /// Cleans these segments, from the begin of a pass to the last free.
+    /// Cleans these segments, from the begin of a pass to the last free. Answers the survivors and the head in force,
+    /// or the refusal. After a refusal, what was done stays done.
     pub fn clean(&mut self, victims: Row<u64>) -> Answer
         ensures told { (config : Config) → AnswersLine self.old config (Clean victims) self.new result }
         ensures cleaned { MakesClean self.old victims self.new result }
@@ -218,7 +220,7 @@ impl Node {
         }
     }
 
-    /// The ids of the digest in force.
+    /// Answers the ids of the digest in force. It is refused as NoMemory if memory for the list runs out.
     pub fn log(&self) -> Answer
         ensures told { (config : Config) → AnswersLine self.now config Log self.now result }
         ensures shown { ShowsDigest self.now result }
@@ -234,7 +236,7 @@ impl Node {
         }
     }
 
-    /// What the backups hold.
+    /// Answers what the backups hold, of all masters. It is refused as NoMemory if memory for the list runs out.
     pub fn holdings(&self, alloc: Global) -> Answer
         ensures told { (config : Config) → AnswersLine self.now config Holdings self.now result }
         ensures shown { ShowsFleet self.now result }
@@ -249,7 +251,8 @@ impl Node {
         }
     }
 
-    /// The image of a segment.
+    /// Answers the bytes of a segment's image, or NotInLog if the master has none. It is refused as NoMemory if memory
+    /// for the bytes runs out.
     pub fn hex(&self, segment: u64) -> Answer
         ensures told { (config : Config) → AnswersLine self.now config (Hex segment) self.now result }
         ensures shown { ShowsImage self.now segment result }
@@ -266,7 +269,7 @@ impl Node {
         }
     }
 
-    /// How many seglets of memory are counted, and how many are free.
+    /// Answers how many seglets of memory are counted as used, and how many are free.
     pub fn room(&self) -> Answer
         ensures told { (config : Config) → AnswersLine self.now config Room self.now result }
         ensures shown { ShowsRoom self.now result }
@@ -328,7 +331,7 @@ impl Node {
         }
     }
 
-    /// Makes a backup lose all that it holds, if there is no master.
+    /// Makes a backup lose all that it holds. With a master the answer is Up, and nothing changes.
     pub fn lose(&mut self, backup: u64) -> Answer
         ensures told { (config : Config) → AnswersLine self.old config (Lose backup) self.new result }
         ensures lost { LosesOne self.old backup self.new }

@@ -68,7 +68,7 @@ pub record IsListed (es : List Entry) (recorded : ℕ) (os : List Object) (safe 
 abbrev pub IsTopIn : List Part → List (List Entry) → ℕ → Object → Type 0
 IsTopIn qs segments n o = IsTop o.key (among (bag_in qs n segments)) (entry.Object o)
 
--- one above the greatest version in the first partitions, or 0
+-- one above the greatest version in the first n partitions, or 0
 abbrev pub bound_in : List Part → List (List Entry) → ℕ → ℕ
 bound_in qs segments zero = 0
 bound_in qs segments (suc n) = max (bound_in qs segments n) (bound_of (bag_in qs n segments))

@@ -42,7 +42,7 @@ IsGroupsFault qs segments fault.NoMemory = ⊤
 IsGroupsFault qs segments (fault.Stray k) = (e : Entry) × IsAmong e (segments_bag segments) × IsStray qs e k
 IsGroupsFault qs segments _ = ⊥
 
--- the fault of a division, passed on: its key is copied, unless memory for that runs out
+-- the fault of a division, passed on with a copy of its key; NoMemory if memory for the copy runs out
 abbrev pub IsPassedOn : DivideFault → ReplayFault → Type 0
 IsPassedOn f fault.NoMemory = ⊤
 IsPassedOn (divide_fault.Stray k) (fault.Stray j) = j ≡ shown_key k

@@ -17,11 +17,11 @@ use tablet_will::Will;
 /// segment by partition.
 #[derive(Drop)]
 pub enum GroupOrder {
-    /// As they are counted.
+    /// The groups come as they are counted.
     Forward,
-    /// The last comes first.
+    /// The last group comes first.
     Reverse,
-    /// As these numbers say. A recovery refuses an order that leaves a group out, or names one twice.
+    /// The groups come as these numbers say. A recovery refuses an order that leaves a group out, or names one twice.
     Given(Row<usize>),
 }
 

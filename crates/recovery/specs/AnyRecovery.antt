@@ -1,4 +1,4 @@
--- The headline is true of whichever recovery follows a run: by one thread or by several.
+-- The headline is true of each recovery that follows a run, by one thread or by several.
 use Rattle.std.specs.Prelude.{◌≡◌, ◌↔◌, ℕ, List, None, Result, IfOk, IfErr}
 use Rattle.tablet_will.specs.declared.part.Part.{Part}
 use Rattle.claims.specs.declared.rebuilt.Rebuilt.{Rebuilt}

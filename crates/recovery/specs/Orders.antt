@@ -1,4 +1,4 @@
--- Wills and orders that a recovery goes through with.
+-- What a recovery asks of its will and its order.
 use Rattle.std.specs.Prelude.{◌≡◌, ℕ, List, is_some, true}
 use Rattle.entry.specs.declared.tablet.Tablet.{Tablet}
 use Rattle.replica.specs.declared.holding.Holding.{Holding}

@@ -52,7 +52,7 @@ IsDrillBy start c answers recovered left =
 pub record IsSuccessor (c : Config) (r : Rebuilt) (left : FleetState) (retired : Result Unit TakeFault)
     (next : World) : Type 0 where
   pub adopted : IsAdopted c r next.knows
-  -- the fleet before others' replicas were freed
+  -- the fleet before the replicas of other masters were freed
   pub taken : FleetState
   pub on : IsAdoptedOn c.master left taken
   pub retires : Retires taken c.master retired next.fleet

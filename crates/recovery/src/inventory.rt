@@ -1,4 +1,4 @@
-//! Asking backups for what they hold.
+//! Asks backups for what they hold.
 
 ghost use Rattle.std.specs.Prelude.{◌<◌, length, IfOk, OnErr};
 ghost use Rattle.replica.specs.Picture.{AreHeld, IsOnce, left_on};

@@ -1,4 +1,4 @@
-//! Finding the newest head.
+//! Finds the newest head.
 
 ghost use Rattle.std.specs.Prelude.{◌≡◌, ◌++◌, ◌∷◌, [], ℕ, List, IfOk, IfErr};
 ghost use Rattle.replica.specs.declared.holding.Holding.{Holding as HoldingValue};

@@ -1,4 +1,4 @@
-//! Reading replicas.
+//! Reads replicas.
 
 ghost use Rattle.std.specs.Prelude.{◌≡◌, map, IfSome, IfNone, IfOk};
 ghost use Rattle.std.specs.List.{AllByRecursion};

@@ -34,7 +34,7 @@ pub record IsScriptLine (backups : ℕ) (t : Told) : Type 0 where
 abbrev pub texts_of : List Told → List ℕ
 texts_of told = flat_map (λ (t : Told). t.text ++ 10 ∷ []) told
 
--- the texts of their answers
+-- the texts of the answers to these lines
 abbrev pub answers_of : List Told → List ℕ
 answers_of told = flat_map (λ (t : Told). answer_text t.answer) told
 

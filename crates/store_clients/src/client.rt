@@ -12,7 +12,7 @@ use replica::Fleet;
 use std::sync::Wait;
 use std::thread::Promise;
 
-/// What a client hands back.
+/// What a client hands back at its end.
 #[derive(Drop)]
 pub struct Client<B: Naming> {
     /// The client's seat, or `None` if its thread could not be started.

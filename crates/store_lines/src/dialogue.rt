@@ -91,7 +91,7 @@ impl<I: BufRead + Drop, O: Write + Drop> Dialogue<I, O> {
         self.fail(ScriptFault::BadLine(self.number, reason));
     }
 
-    /// Ends the run. Its first fault stays.
+    /// Ends the run. Only the first fault is kept.
     pub fn fail(&mut self, fault: ScriptFault) {
         self.is_over = true;
         if self.fault.is_none() {

@@ -22,7 +22,7 @@ pub struct Seat<B: Naming> {
     pub(crate) count: u64,
     pub(crate) share: Share<B>,
     pub(crate) pen: Pen,
-    /// A receipt of the last of its records that a cell took.
+    /// A receipt of the last of the seat's records that a cell took.
     pub(crate) last: Option<Receipt<B>>,
 }
 
@@ -47,7 +47,7 @@ impl<B: Naming> Model for Seat<B> {
 }
 
 impl<B: Naming> Seat<B> {
-    /// A seat that made no record, with its part of the ledger and a pen of its own.
+    /// A seat without a record, with its part of the ledger and a pen of its own.
     pub fn new(number: u64, share: Share<B>, pen: Pen) -> Seat<B>
         requires within { number < B.made.seats }
         requires share { (share.parts ≡ 1) × (share.amount ≡ 0) }
@@ -100,7 +100,7 @@ impl<B: Naming> Seat<B> {
         self.first
     }
 
-    /// Which of the store's seats it is, from 0.
+    /// The seat's number among those of the store, from 0.
     pub fn number(&self) -> u64
         ensures { result ≡ self.now.number }
     {

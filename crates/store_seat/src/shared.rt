@@ -39,7 +39,7 @@ impl<L: Log<B>, B: Naming> Shared<L, B> {
         }
     }
 
-    /// The log alone.
+    /// Takes the log out, without the mark.
     pub fn into_log(self) -> L {
         let Shared {
             state,
