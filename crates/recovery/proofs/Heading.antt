@@ -32,7 +32,7 @@ use Rattle.recovery.specs.declared.recovery.RecoveryFault.{RecoveryFault}
 use Rattle.recovery.specs.Headline.{Asked, Headline, IsEmpty, IsLoss, IsMapAfter, IsNoMemory, IsWholeOrder, MakeOf}
 use Rattle.recovery.specs.Headline.{record_of, records_of}
 use Rattle.recovery.specs.Headline.{EndsIdle, IsIdlePush}
-use Rattle.recovery.specs.Seen.{seen}
+use Rattle.recovery.specs.AtStart.{at_start}
 use Rattle.recovery.specs.Kept.{is_kept}
 use Rattle.recovery.specs.Orders.{Covers, NamesHeld}
 use Rattle.recovery.specs.Recovered.{IsRecovered}
@@ -152,12 +152,12 @@ module _ (start stop : World) (steps : List Step) (kept : List ℕ) (will : List
       → NamesHeld (survivors (is_kept kept) (shown_of left start.knows.config.master)) start.knows.config.master will
       order
       → IfErr r Loss)
-      → Headline (seen start) steps answers durable pushes left (is_kept kept) will order r
+      → Headline (at_start start) steps answers durable pushes left (is_kept kept) will order r
   headline r prefix loss = record {
     history = stop.knows.history;
     interleaved = made_all start stop steps answers ran;
     replied = subst (λ (st : State). IsLegal st stop.knows.history) opening_is valid.legal;
-    takes = asked.0;
+    requests = asked.0;
     stopped = subst (λ (f : FleetState). MakeOf start.knows.config.master start.fleet asked.0 f) (sym same) asked.1;
     rebuilds = rebuilds r prefix;
     acknowledged = λ count idle.

@@ -17,7 +17,7 @@ use Rattle.recovery.specs.declared.recovery.RecoveryFault.{RecoveryFault}
 use Rattle.recovery.specs.Headline.{Headline}
 use Rattle.recovery.specs.Kept.{is_kept}
 use Rattle.recovery.specs.Recovered.{IsSomePrefix, IsSomeLoss}
-use Rattle.recovery.specs.Seen.{seen}
+use Rattle.recovery.specs.AtStart.{at_start}
 
 -- what `recover` and `recover_threads` promise of an inventory, in the same words
 pub record Recovers (inventory : List Holding) (least master : ℕ) (will : List Part) (order : GroupOrder)
@@ -36,4 +36,4 @@ AnyRecoveryHasHeadline = (start stop : World) (steps : List Step) (answers : Lis
     → durable ≡ durable_of (log_of stop.knows) → (stop.knows.failover ≡ None) ↔ (pushes ≡ 0)
     → AreHeld inventory (left_on (is_kept kept) stop.fleet.picture)
     → Recovers inventory (stop.fleet.least start.knows.config.master) start.knows.config.master will order recovered
-    → Headline (seen start) steps answers durable pushes stop.fleet (is_kept kept) will order recovered
+    → Headline (at_start start) steps answers durable pushes stop.fleet (is_kept kept) will order recovered

@@ -3,10 +3,13 @@
 -- exactly the objects and versions of the versioned map after a prefix of the commands that holds every acknowledged
 -- one; it refuses only by naming a lost head or segment, and never where both survive.
 --
--- A backup is honest if it returns what it took, unchanged. A segment is divided into groups, one for each partition
--- of a will, and groups are replayed in some order. A head and the segments that it lists surely survive if fewer
--- backups are lost than a segment has replicas. A failover is what a master does when a backup fails: it replicates
--- anew what that backup held.
+-- Some words. A master keeps a log of segments. The last one is the head: commands are appended to it. A push hands one
+-- piece of the log to one backup. A roll closes the head and opens a new one. A command is accepted if it gets a record
+-- with a reply, also if it is a get, or if its condition doesn't hold; a refused one changes nothing. A seat is the
+-- number of a caller. A backup is honest if it returns what it took, unchanged. A failover is what a master does when a
+-- backup fails: it replicates anew what that backup held. A will divides the keys into partitions. A segment is divided
+-- into groups, one for each partition, and groups are replayed in some order. A head and the segments that it lists
+-- surely survive if fewer backups are lost than a segment has replicas.
 use Rattle.std.specs.Prelude.{◌≡◌, ◌⊎◌, ℕ, ◌<◌, ◌≤◌, List, [], ◌∷◌, ◌++◌, map, take, length, Bool, None}
 use Rattle.std.specs.Prelude.{Result, Ok, Err, IfOk, IfErr}
 use Rattle.std.specs.List.Sorted.{IsStrictlySortedBy}
@@ -42,25 +45,26 @@ use Rattle.recovery.specs.Orders.{Covers}
 
 -- ---- a master
 
--- What the headline sees of a master before the first step. The master may be new, or in the midst of its life.
-pub record Seen : Type 0 where
+-- A master before the first step. It may be new, or in the midst of its life.
+pub record MasterAtStart : Type 0 where
   -- its number
   pub master : ℕ
-  -- how many backups there are, and how many of them have each segment
+  -- how many backups it uses, and how many of them have each segment; its fleet has no fewer
   pub backups : ℕ
   pub replicas : ℕ
   -- the keys that it serves
   pub tablets : List Tablet
   -- the map that its history begins with
   pub opening : State
-  -- the commands that it accepted before, with its replies
+  -- the commands that it accepted so far, with its replies
   pub history : List Record
   -- what its backups hold
   pub fleet : FleetState
 
 -- ---- steps
 
--- the record of a command that was accepted: who asked for it (its seat), the command, and the reply
+-- the record of a command that was accepted: its caller's seat, the command, and the reply; 'place' is how many records
+-- came before
 abbrev pub record_of : Step → Result StepAnswer Refusal → List Record
 record_of (Apply seat command) (Ok (Applied place reply)) =
     record { seat = seat; command = command; reply = reply } ∷ []
@@ -82,13 +86,13 @@ EndsIdle (step ∷ []) (answer ∷ []) = IsIdlePush step answer
 EndsIdle (step ∷ steps) (answer ∷ answers) = EndsIdle steps answers
 EndsIdle _ _ = ⊥
 
--- ---- takes
+-- ---- requests
 
--- One request and its answer. A backup is asked to change its replica of a segment. The registry is asked to refuse
--- each head that is older than this one.
+-- One request and its answer. A backup of this number is asked to change its replica of this segment. The registry is
+-- asked to refuse each head with a lower number than this one.
 pub data Asked : Type 0 where
-  Backup : ℕ → ℕ → ActValue → Result Unit TakeFault → Asked
-  Registry : ℕ → Result Unit TakeFault → Asked
+  Backup : (backup segment : ℕ) → ActValue → Result Unit TakeFault → Asked
+  Registry : (head : ℕ) → Result Unit TakeFault → Asked
 
 -- the request, with its answer, turns the fleet f into the fleet g
 abbrev pub Makes : ℕ → Asked → FleetState → FleetState → Type 0
@@ -141,11 +145,11 @@ IsEmpty st = (k : Key) → st.contents k ≡ None
 
 -- ---- the headline
 
--- A master took the steps, and gave the answers. As it stopped it told how many of its commands were durable, and how
--- many pushes an open failover still needed (0 if none was open). It left this fleet. Some backups of the fleet are
--- kept, and the others are lost. A recovery from those that are kept, by this will and in this order, gave what is
--- recovered.
-pub record Headline (start : Seen) (steps : List Step) (answers : List (Result StepAnswer Refusal)) (durable pushes : ℕ)
+-- A master took the steps, and gave the answers. 'durable' is how many of its first commands were durable as it stopped,
+-- and 'pushes' how many pushes an open failover still needed then: 0 just if none was open. It left this fleet. Some
+-- backups of the fleet are kept, and the others are lost. A recovery from those that are kept, by this will and in this
+-- order, gave what is recovered. That it read nothing else is said beside this record (*IsDrill*).
+pub record Headline (start : MasterAtStart) (steps : List Step) (answers : List (Result StepAnswer Refusal)) (durable pushes : ℕ)
     (left : FleetState) (keep : ℕ → Bool) (will : List Part) (order : GroupOrder)
     (recovered : Result Rebuilt RecoveryFault) : Type 0 where
   -- 'after any interleaving of client, compaction, cleaning and rolling steps': the history has just the commands that
@@ -154,22 +158,22 @@ pub record Headline (start : Seen) (steps : List Step) (answers : List (Result S
   pub interleaved : history ≡ start.history ++ records_of steps answers
   pub replied : IsLegal start.opening history
   -- 'stopped after any step': the fleet is what requests of this master made of it, each done whole or not at all
-  pub takes : List Asked
-  pub stopped : MakeOf start.master start.fleet takes left
+  pub requests : List Asked
+  pub stopped : MakeOf start.master start.fleet requests left
   -- 'rebuilds .. exactly the objects and versions of the versioned map after a prefix of the commands that holds every
   -- acknowledged one'
   pub rebuilds : IfOk recovered (IsMapAfter start.opening history durable)
-  -- 'every acknowledged one': a command is answered once it is durable. If a push finds that nothing waits, then each
-  -- command before that push is durable, and stays so.
+  -- 'every acknowledged one': whoever drives the master tells a reply only once its command is durable. If a push finds
+  -- that nothing waits, then each command before that push is durable, and stays so.
   pub acknowledged : (count : ℕ) → EndsIdle (take count steps) (take count answers)
       → length (start.history ++ records_of (take count steps) (take count answers)) ≤ durable
   -- if the last step is such a push, all commands are durable
   pub pushed : EndsIdle steps answers → durable ≡ length history
-  -- 'it refuses only by naming a lost head or segment', or if memory runs out
+  -- 'it refuses only by naming a lost head or segment', or if memory runs out. The will has to cover the keys that the
+  -- master serves, and the order to name each group; else the recovery may name a key or a group.
   pub refuses : Covers start.tablets will → IsWholeOrder order → IfErr recovered (λ e. IsLoss e ⊎ IsNoMemory e)
-  -- 'and never where both survive': if no failover is open, and fewer backups are lost than a segment has replicas,
-  -- then only want of memory refuses. The exception is an empty map: it is empty before a head was ever open, and no
-  -- head may be left then.
+  -- 'and never where both survive': if no failover is open, and fewer backups are lost than a segment has replicas, then
+  -- only want of memory refuses. If the map is empty, a recovery may also find no head: perhaps none was ever open.
   pub never : Covers start.tablets will → IsWholeOrder order → pushes ≡ 0
       → length (lost keep start.backups) < start.replicas
       → IfErr recovered (λ e. IsNoMemory e ⊎ IsEmpty (after start.opening (commands_of history)))

@@ -6,7 +6,7 @@ pub mod Lives
 pub mod Texts
 pub mod Drilled
 pub mod Headline
-pub mod Seen
+pub mod AtStart
 pub mod Succession
 pub use Rattle.recovery_plan.specs as recovery_plan
 pub use Rattle.claims.specs as claims

@@ -5,7 +5,7 @@ ghost use Rattle.replay.specs.master.World.{world};
 ghost use Rattle.recovery.specs.Drilled.{IsDrill, IsTold};
 ghost use Rattle.recovery.specs.Headline.{Headline};
 ghost use Rattle.recovery.specs.Kept.{is_kept};
-ghost use Rattle.recovery.specs.Seen.{seen};
+ghost use Rattle.recovery.specs.AtStart.{at_start};
 
 use crate::inventory::inventory_of;
 use crate::recovery::{RecoveryFault, recover};
@@ -44,7 +44,7 @@ pub fn run_drill<F: Fleet>(
         IsDrill (world F.state master) steps.now kept.now will.now order.now d.answers.items d.recovered
         (F.state d.fleet)) }
     ensures headline { IfOk result (λ d.
-        Headline (seen (world F.state master)) steps.now d.answers.items d.durable d.pushes_left (F.state d.fleet)
+        Headline (at_start (world F.state master)) steps.now d.answers.items d.durable d.pushes_left (F.state d.fleet)
         (is_kept kept.now) will.now order.now d.recovered) }
     ensures told { IfOk result (λ d.
         IsTold (world F.state master) steps.now d.answers.items d.durable d.pushes_left (F.state d.fleet)) }

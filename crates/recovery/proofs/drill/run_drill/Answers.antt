@@ -9,7 +9,7 @@ use Rattle.recovery.specs.Drilled.{IsDrill}
 use Rattle.recovery.specs.Recovered.{IsRebuiltFrom, IsRefusedFrom, IsSomeLoss, IsSomePrefix}
 use Rattle.recovery.specs.Headline.{Headline}
 use Rattle.recovery.specs.Kept.{is_kept}
-use Rattle.recovery.specs.Seen.{seen}
+use Rattle.recovery.specs.AtStart.{at_start}
 use Rattle.recovery.proofs.Drilling.{drilled, drilled_without, loss, prefix}
 use Rattle.recovery.proofs.Heading.{headline}
 use Rattle.recovery.proofs.drill.run_drill.Goals.{in-Ok-inventory_of, in-Err-inventory_of}
@@ -75,7 +75,7 @@ returns-clause-headline g c =
     let ran = c.in-Ok.ensures.ran in
     let valid = c.crash-fleet.ensures.valid in
     elim c.match-inventory_of.branch
-    as (λ _. Headline (seen start) steps answers durable pushes left (is_kept kept) will order
+    as (λ _. Headline (at_start start) steps answers durable pushes left (is_kept kept) will order
     c.match-inventory_of.recovered) [
       | in-Ok-inventory_of w ↦ (
           let r = w.recover-recovered in
@@ -84,7 +84,7 @@ returns-clause-headline g c =
           let least = w.least.ensures ∙ ap left.least number in
           let shown = w.in-Ok-inventory_of.ensures.shown in
           subst (λ (x : Result Rebuilt RecoveryFault).
-          Headline (seen start) steps answers durable pushes left (is_kept kept) will order x) (sym w.recovered-is)
+          Headline (at_start start) steps answers durable pushes left (is_kept kept) will order x) (sym w.recovered-is)
           (headline start stop steps kept will order answers ran left same valid durable pushes
           c.durable-durable.ensures.count c.failover_left-pushes_left.ensures.none r.result
           (prefix start stop steps kept will order answers ran left same valid hs shown r.result
@@ -94,7 +94,7 @@ returns-clause-headline g c =
           r.ensures.refused))))
       | in-Err-inventory_of w ↦
           subst (λ (x : Result Rebuilt RecoveryFault).
-          Headline (seen start) steps answers durable pushes left (is_kept kept) will order x) (sym w.recovered-is)
+          Headline (at_start start) steps answers durable pushes left (is_kept kept) will order x) (sym w.recovered-is)
           (headline start stop steps kept will order answers ran left same valid durable pushes
           c.durable-durable.ensures.count c.failover_left-pushes_left.ensures.none
           (Err (fault.Plan plan_fault.NoMemory)) tt (λ covers names. (inr tt, λ both. tt)))
