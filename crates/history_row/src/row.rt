@@ -53,7 +53,7 @@ impl<B: Labels> Model for Row<B> {
 }
 
 impl Cells {
-    /// A row of `count` empty cells.
+    /// `count` empty cells, which no type names yet.
     pub fn new(alloc: Global, count: usize) -> Result<Cells, AllocError>
         ensures { IfOk result (λ c. c.row ≡ replicate count None) }
     {

@@ -1,4 +1,4 @@
-//! How a store is made over a master that has a history, and how the master is taken back.
+//! How a store is made over a master that has a history.
 
 ghost use Rattle.std.specs.Prelude.{◌≡◌, ◌≤◌, ◌<◌, ◌+◌, None, Some, IfSome, OnOk, MatchResult, length, replicate};
 ghost use Rattle.std.specs.Prelude.{slice_get, take, true, ◌^◌};

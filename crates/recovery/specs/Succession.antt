@@ -90,8 +90,8 @@ AreLived start (c ∷ cs) (l ∷ ls) last = (next : World) × IsLived start c l 
 AreLived start [] (l ∷ ls) last = ⊥
 AreLived start (c ∷ cs) [] last = ⊥
 
--- how the row of lives ends: with the next master if no course is left, or else with what made the first course left
--- the last one
+-- how the row of lives ends: with the next master if no course is left, or else with the reason why the first course
+-- that is left was the last to be tried
 abbrev pub EndsIn : {F : Type 0} → (F → FleetState) → World → List Course → End F → Type 0
 EndsIn state last [] (the_end.Up m) = world state m ≡ last
 EndsIn state last [] _ = ⊥

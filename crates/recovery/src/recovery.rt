@@ -67,7 +67,8 @@ fn rebuild_in(
 
 /// Rebuilds the objects of a master, and a safe version for what follows, from what some backups hold. `least` is the
 /// lowest number of a head that may be used. The will says how each segment is divided into groups, and the order in
-/// which turn the groups are replayed.
+/// which turn the groups are replayed. The call is refused for a loss, for want of memory, for a will that leaves out
+/// a key of the log, for an order that doesn't name each group once, or for replicas that no master left.
 pub fn recover(
     alloc: Global,
     inventory: &Inventory<'_>,

@@ -187,12 +187,12 @@ fn live<F: Bench>(
 
 /// Lives one life after another. A life is the steps of its master, its end, its recovery from the backups that its
 /// course keeps, and a new master that adopts what was recovered and frees the replicas of all other masters. The new
-/// master has the next number, and else the same configuration. There may have been no master with a greater number
-/// than the first one's.
+/// master has the next number, and else the same configuration. No master with a greater number than the first one's
+/// may have been there before.
 ///
 /// The row of lives ends early if a recovery or an adoption is refused, or if memory runs out, and the call hands back
 /// what there is. If the freeing of replicas ends in a fault, the replicas of earlier masters stay, and the next life
-/// goes on beside them. A fault of a backup also halts the master of that life, and the life after it takes over.
+/// goes on beside them. A fault of a backup also halts the master of this next life, and the life after it takes over.
 pub fn run_lives<F: Bench>(
     alloc: Global,
     master: Master<F>,

@@ -15,7 +15,7 @@ pub record Made : Type 0 where
   pub durable : ℕ
   pub least : ℕ → ℕ
 
--- what stands for no store
+-- the value for a name that is no store's
 abbrev pub nobody : Made
 nobody = record {
   seats = 0;
