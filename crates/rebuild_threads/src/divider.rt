@@ -14,7 +14,8 @@ use std::marker::{Model, PhantomData};
 use tablet_will::Will;
 
 /// Hands out the groups of a log by their numbers: group n is of segment n / partitions and of partition n %
-/// partitions. A segment is divided when one of its groups is first asked for. Contracts see which segments are divided.
+/// partitions. A segment is divided when one of its groups is first asked for. Contracts see which segments are
+/// divided.
 #[derive(Drop)]
 pub struct Divider<'s, 'a, D: Division> {
     segments: &'s [SegmentRef<'a>],

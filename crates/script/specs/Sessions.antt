@@ -38,7 +38,7 @@ use Rattle.next_master.specs.Recoveries.{Asked, Ends, MakesLimit, Recovers, ask,
 abbrev pub IsCovered : Session → Type 0
 IsCovered s = Covers (tables_to s.options.tables) s.will
 
--- any head of a master with a greater number than those that were used may be used
+-- if the number of a master is above all that were used, any of its heads may be used
 abbrev pub AreLaterUnraised : Session → Type 0
 AreLaterUnraised s = IfSome (fleet_of s.node) (AreUnraisedAbove s.used)
 

@@ -48,8 +48,8 @@ pub struct Outcome<F: Fleet> {
 
 /// Makes a store over the master, has the clients make their rounds beside a cleaner, and takes the master back.
 /// `records` is how many records the master's history takes. If all calls were accepted, but the store can't tell
-/// whose its records are, or not all are durable, the refusal is `SeatUnknown`. As tests show, it comes only if no
-/// call was made, and records of before weren't durable.
+/// whose its records are, or not all are durable, the refusal is `SeatUnknown`. Only tests show that this comes just
+/// if no call was made, and earlier records weren't durable.
 pub fn clients_over<F: Fleet + Send, R: Threads + Wait + Sync, G: Gate + Sync>(
     rt: &R,
     alloc: Global,

@@ -13,7 +13,7 @@ pub enum CallFault {
     /// 3: the book's numbers of the seat aren't the seat's own. Nothing changed.
     SeatUnknown,
     /// 4: the cell of this record or of an earlier one did not take it, or the book's numbers of the seat weren't the
-    /// seat's own after the record. The command may have been applied. Every later call is answered so.
+    /// seat's own after the record. The command may have been applied. Every later call ends in this fault, too.
     CellRefused,
     /// 5: comes only of `settle`. There is no record at the place, it is another seat's, or the place is below the
     /// seat's first number. Nothing changed.
