@@ -1,6 +1,6 @@
 //! The program `one_seat [options] < script`: it runs a script as `ramlog` does and prints the same, but drives each
 //! master through a store of one seat. When a store is closed, the program compares the receipts of all calls with the
-//! history of the master that comes back, and prints one line more if they differ.
+//! history of the master that comes back, and prints what differs.
 #![tactic(auto)]
 
 ghost use Rattle.std.specs.Prelude.{IfOk};
