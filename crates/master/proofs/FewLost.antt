@@ -1,6 +1,6 @@
 -- If fewer backups are lost than a segment has replicas, the head and the segments survive.
 use Rattle.std.proofs.Common.{◌≡◌, ℕ, zero, suc, ◌⊎◌, ◌<◌, ◌≤◌, inl, inr, Bool, true, false, List, [], ◌∷◌, ◌++◌, length}
-use Rattle.std.proofs.Common.{max, refl, sym, ap, subst, ◌∙◌, arith}
+use Rattle.std.proofs.Common.{take, max, refl, sym, ap, subst, ◌∙◌, arith}
 use Rattle.std.specs.Prelude.{Option, Some, None, IfSome, IsSome, is_none, ◌==◌, if◌then◌else◌}
 use Rattle.std.specs.Prelude.{option_to_list}
 use Rattle.std.specs.Option.{option_map, option_map_or}
@@ -16,10 +16,11 @@ use Rattle.entry.proofs.BagLemmas.{among_either}
 use Rattle.entry.proofs.ListLemmas.{all_among}
 use Rattle.replica.specs.Picture.{FleetState}
 use Rattle.replica.specs.Survival.{IsHomeLeft, IsHeadLeft, HeadSurvives, SegmentsSurvive}
+use Rattle.versioned_map.specs.declared.command.Command.{Command}
 use Rattle.versioned_map.specs.declared.command.Record.{Record}
 use Rattle.versioned_map.specs.History.{commands_of}
 use Rattle.versioned_map.specs.Represents.{Represents}
-use Rattle.versioned_map.specs.Versioned.{State, after}
+use Rattle.versioned_map.specs.Versioned.{State, after, after_command}
 use Rattle.images.specs.Image.{Image}
 use Rattle.images.specs.Sorted.{replicas_of}
 use Rattle.master_core.specs.cleaner.declared.pass.Pass.{Pass}
@@ -29,12 +30,14 @@ use Rattle.master_core.proofs.cleaner.Lacking.{none_is_lacking}
 use Rattle.log_head.specs.declared.head.Roll.{Roll}
 use Rattle.log_head.specs.Head.{IsRollValue}
 use Rattle.log_head.specs.Log.{head_of, start_of}
-use Rattle.log_head.specs.log_model.Data.{Start, ids_of, records_before}
+use Rattle.log_head.specs.log_model.Data.{Start, LogUnit, ids_of, records_before}
+use Rattle.log_head.specs.log_model.Durable.{AreNumbered, with_first}
 use Rattle.log_head.specs.log_model.Ids.{has, without}
 use Rattle.log_head.proofs.log_model.Lengths.{ids_listed}
 use Rattle.master_core.specs.failover_model.Text.{Text, Replica as ModelReplica}
 use Rattle.master_core.specs.failover_model.Data.{Head, IsHome, IsNew, opening_for, front_entries, new_of}
 use Rattle.master_core.specs.failover_model.Data.{state_after}
+use Rattle.master_core.specs.failover_model.Durable.{TakenHead, heads_of, units_in}
 use Rattle.master_core.specs.failover_model.Log.{Texts, IsBase, IsReplica, IsLogHeld}
 use Rattle.master_core.specs.failover_bytes.Choice.{IsOpenedHead, IsNewestOpenedOrNone, is_opened as is_counted, greater}
 use Rattle.master_core.specs.failover_bytes.Choice.{greatest_opened, newest_opened}
@@ -42,6 +45,7 @@ use Rattle.master_core.specs.failover_bytes.Spelled.{read_replica}
 use Rattle.master_core.proofs.failover_bytes.NewestHomes.{taker}
 use Rattle.master_core.specs.failover_clean.Fleet.{read_of, shown_for}
 use Rattle.master_core.proofs.clean_model.CommitDigest.{all_out, without_from}
+use Rattle.master_core.proofs.failover_clean.Appending.{unit_none}
 use Rattle.master_core.proofs.failover_clean.KeptFleets.{kept_is_sound}
 use Rattle.master_core.specs.master_state.Budget.{victims_of, survivors_of, is_committing}
 use Rattle.master_core.specs.master_state.Data.{MasterData}
@@ -115,6 +119,28 @@ module _ (d : MasterData) (core : IsCore d) where
         (one.0, (parts.0, parts.1), one.2)
 
 -- ---- while no failover is open
+
+-- commands of which no unit is have changed nothing
+quiet : (st : State) (number : ℕ) (cs : List Command) → AreNumbered st number cs [] → (count : ℕ)
+    → after st (take count cs) ≡ st
+quiet st number cs is zero = refl
+quiet st number [] is (suc count) = refl
+quiet st number (c ∷ cs) (segment, rest, same, more) (suc count) =
+    let none = no_first number (unit_of st segment c) rest same in
+    let still : after_command st c ≡ st = unit_none st segment c none.0 in
+    let numbered : AreNumbered (after_command st c) (suc number) cs [] =
+    subst (AreNumbered (after_command st c) (suc number) cs) none.1 more in
+    quiet (after_command st c) (suc number) cs numbered count ∙ still
+  where
+    no_first : (number : ℕ) (unit : List Entry) (rest : List LogUnit) → [] ≡ with_first number unit rest
+        → (unit ≡ []) × (rest ≡ [])
+    no_first number [] rest is = (refl, sym is)
+    no_first number (e ∷ es) rest is = absurd (cc)
+
+-- a list of which nothing is, is empty
+no_past : (past : List TakenHead) → ((h : TakenHead) → IsAmong h past → ⊥) → past ≡ []
+no_past [] none = refl
+no_past (h ∷ hs) none = absurd (none h (inl refl))
 
 module _ (d : MasterData) (f : FleetState) (kept : IsWellKept d f) (keep : ℕ → Bool) (calm : d.failover ≡ None)
     (few : length (lost keep d.config.backups) < d.config.replicas) where
@@ -384,11 +410,31 @@ module _ (d : MasterData) (f : FleetState) (kept : IsWellKept d f) (keep : ℕ �
     go None is = is
     go (Some x) is = absurd ((bare.meaning k x).0 is).held
 
+  -- nor was there one before
+  never_had : is_headless d ≡ true → (count : ℕ) (k : Key) → (state_after (log_of d) count).contents k ≡ None
+  never_had none count k =
+      let past = kept.kept.intact.past in
+      let none_past : past ≡ [] = no_past past (λ h m.
+      let older = kept.kept.intact.before.older h m in
+      let zero : (log_of d).head.start.id ≡ 0 = ap (λ (h : Head). h.start.id) (force_headless d none) in
+      omega (arith, older, zero)) in
+      let units : units_in (heads_of past (log_of d)) ≡ [] =
+      ap (λ (hs : List TakenHead). units_in (heads_of hs (log_of d))) none_past
+      ∙ ap (λ (h : Head). h.units ++ []) (force_headless d none) in
+      let numbered = subst (AreNumbered (log_of d).opening 0 (commands_of d.history)) units
+      kept.kept.intact.before.counted.units in
+      let early = quiet (log_of d).opening 0 (commands_of d.history) numbered count in
+      let size = length-map d.history (λ (r : Record). r.command) in
+      let late : state_now d ≡ (log_of d).opening =
+      ap (after (log_of d).opening) (sym (take_all (length d.history) (commands_of d.history) (omega (arith, size))))
+      ∙ quiet (log_of d).opening 0 (commands_of d.history) numbered (length d.history) in
+      ap (λ (st : State). st.contents k) (early ∙ sym late) ∙ empty none k
+
 pub survives_few : (d : MasterData) (f : FleetState) → IsWellKept d f → SurvivesFew d f
 survives_few d f kept keep calm few = elim (headed_or d) [
   | inl force ↦ inl (record {
     head = head_survives d f kept keep calm few force;
     segments = segments_survive d f kept keep calm few force;
   })
-  | inr none ↦ inr (empty d f kept keep calm few none)
+  | inr none ↦ inr (never_had d f kept keep calm few none)
 ]

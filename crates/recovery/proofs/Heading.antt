@@ -29,7 +29,7 @@ use Rattle.replay.specs.master.Survive.{lost}
 use Rattle.replay.specs.master.Valid.{IsValid}
 use Rattle.replay.specs.master.World.{World}
 use Rattle.recovery.specs.declared.recovery.RecoveryFault.{RecoveryFault}
-use Rattle.recovery.specs.Headline.{Asked, Headline, IsEmpty, IsLoss, IsMapAfter, IsNoMemory, IsWholeOrder, MakeOf}
+use Rattle.recovery.specs.Headline.{Asked, Headline, IsLoss, IsMapAfter, IsNoMemory, IsWholeOrder, MakeOf, NeverHadAny}
 use Rattle.recovery.specs.Headline.{record_of, records_of}
 use Rattle.recovery.specs.Headline.{EndsIdle, IsIdlePush}
 use Rattle.recovery.specs.AtStart.{at_start}
@@ -184,13 +184,13 @@ module _ (start stop : World) (steps : List Step) (kept : List ℕ) (will : List
 
     never : pushes ≡ 0 → length (lost (is_kept kept) start.knows.config.backups) < start.knows.config.replicas
         → (r : Result Rebuilt RecoveryFault) → IfErr r Loss
-        → IfErr r (λ e. IsNoMemory e ⊎ IsEmpty (after (opening_of start.knows) (commands_of stop.knows.history)))
+        → IfErr r (λ e. IsNoMemory e ⊎ NeverHadAny (opening_of start.knows) stop.knows.history)
     never none few (Ok b) is = tt
     never none few (Err e) is =
         elim (valid.survive (is_kept kept) (calm.1 none)
         (subst (λ (c : Config). length (lost (is_kept kept) c.backups) < c.replicas) (sym config_is) few))
-        as (λ _. IsNoMemory e ⊎ IsEmpty (after (opening_of start.knows) (commands_of stop.knows.history))) [
+        as (λ _. IsNoMemory e ⊎ NeverHadAny (opening_of start.knows) stop.knows.history) [
           | inl both ↦ inl (is.1 both)
           | inr empty ↦ inr
-              (subst (λ (st : State). IsEmpty (after st (commands_of stop.knows.history))) opening_is empty)
+              (subst (λ (st : State). NeverHadAny st stop.knows.history) opening_is empty)
         ]

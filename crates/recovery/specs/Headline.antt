@@ -1,15 +1,16 @@
 -- The headline, a field for each phrase: after any interleaving of client, compaction, cleaning and rolling steps,
 -- stopped after any step, recovery from honest surviving replicas rebuilds, however segments are divided and replayed,
 -- exactly the objects and versions of the versioned map after a prefix of the commands that holds every acknowledged
--- one; it refuses only by naming a lost head or segment, and never where both survive.
+-- one; it refuses only by naming a lost head or segment, and never where both survive. 'However divided and replayed'
+-- is that the will and the order are any; 'honest' is a premise on the fleet, outside this page.
 --
--- Some words. A master keeps a log of segments. The last one is the head: commands are appended to it. A push hands one
--- piece of the log to one backup. A roll closes the head and opens a new one. A command is accepted if it gets a record
--- with a reply, also if it is a get, or if its condition doesn't hold; a refused one changes nothing. A seat is the
--- number of a caller. A backup is honest if it returns what it took, unchanged. A failover is what a master does when a
--- backup fails: it replicates anew what that backup held. A will divides the keys into partitions. A segment is divided
--- into groups, one for each partition, and groups are replayed in some order. A head and the segments that it lists
--- surely survive if fewer backups are lost than a segment has replicas.
+-- Some words. A master keeps a log of segments. The last one is the head: commands are appended to it. A push hands
+-- one piece of the log to one backup. A roll closes the head and opens a new one. A command is accepted if it gets a
+-- record with a reply, also if it is a get, or if its condition doesn't hold; a refused one changes nothing. A seat is
+-- the number of a caller. A backup is honest if it returns what it took, unchanged. A failover is what a master does
+-- when a backup fails: it replicates anew what that backup held. A will divides the keys into partitions. A segment is
+-- divided into groups, one for each partition, and groups are replayed in some order. A head and the segments that it
+-- lists surely survive if fewer backups are lost than a segment has replicas.
 use Rattle.std.specs.Prelude.{◌≡◌, ◌⊎◌, ℕ, ◌<◌, ◌≤◌, List, [], ◌∷◌, ◌++◌, map, take, length, Bool, None}
 use Rattle.std.specs.Prelude.{Result, Ok, Err, IfOk, IfErr}
 use Rattle.std.specs.List.Sorted.{IsStrictlySortedBy}
@@ -49,7 +50,7 @@ use Rattle.recovery.specs.Orders.{Covers}
 pub record MasterAtStart : Type 0 where
   -- its number
   pub master : ℕ
-  -- how many backups it uses, and how many of them have each segment; its fleet has no fewer
+  -- how many backups it uses, numbered from 0, and how many of them hold each segment; its fleet may have more backups
   pub backups : ℕ
   pub replicas : ℕ
   -- the keys that it serves
@@ -63,8 +64,8 @@ pub record MasterAtStart : Type 0 where
 
 -- ---- steps
 
--- the record of a command that was accepted: its caller's seat, the command, and the reply; 'place' is how many records
--- came before
+-- the record of a command that was accepted: its caller's seat, the command, and the reply; 'place' is how many
+-- records came before
 abbrev pub record_of : Step → Result StepAnswer Refusal → List Record
 record_of (Apply seat command) (Ok (Applied place reply)) =
     record { seat = seat; command = command; reply = reply } ∷ []
@@ -107,9 +108,9 @@ MakeOf master f (a ∷ more) g = (mid : FleetState) × Makes master a f mid × M
 
 -- ---- what comes back
 
--- Each key that has a value comes back once, with the version and the value that the map has after this many of the
--- commands. The durable commands are among them: they are the first ones. The safe version is above each version that
--- a key had.
+-- The objects come in the order of their keys, each key that has a value once, as the map has it after the first
+-- 'count' commands. These are all durable ones, and perhaps some more. The safe version is above each version that a
+-- key had.
 pub record IsMapAfter (opening : State) (history : List Record) (durable : ℕ) (r : Rebuilt) : Type 0 where
   pub count : ℕ
   pub holds : durable ≤ count
@@ -139,41 +140,45 @@ IsWholeOrder Forward = Unit {0}
 IsWholeOrder Reverse = Unit {0}
 IsWholeOrder (Given numbers) = ⊥
 
--- the map has no key
-abbrev pub IsEmpty : State → Type 0
-IsEmpty st = (k : Key) → st.contents k ≡ None
+-- no key had a value, before the first command or after any
+abbrev pub NeverHadAny : State → List Record → Type 0
+NeverHadAny opening history =
+    (count : ℕ) (k : Key) → (after opening (take count (commands_of history))).contents k ≡ None
 
 -- ---- the headline
 
--- A master took the steps, and gave the answers. 'durable' is how many of its first commands were durable as it stopped,
--- and 'pushes' how many pushes an open failover still needed then: 0 just if none was open. It left this fleet. Some
--- backups of the fleet are kept, and the others are lost. A recovery from those that are kept, by this will and in this
--- order, gave what is recovered. That it read nothing else is said beside this record (*IsDrill*).
-pub record Headline (start : MasterAtStart) (steps : List Step) (answers : List (Result StepAnswer Refusal)) (durable pushes : ℕ)
-    (left : FleetState) (keep : ℕ → Bool) (will : List Part) (order : GroupOrder)
+-- A master took the steps, and gave the answers. As it stopped, the first 'durable' commands of its history were
+-- durable: as many backups as replicas had answered Ok to each. 'pushes' is how many pushes an open failover still
+-- needed then; it is 0 exactly if none was open. The master left this fleet. Some backups of it are kept, and the
+-- others are lost. A recovery from those that are kept, by this will and in this order, gave what is recovered. Beside
+-- this record it is said that the recovery read nothing else, and that what it names is really lost (*IsDrill*).
+pub record Headline (start : MasterAtStart) (steps : List Step) (answers : List (Result StepAnswer Refusal))
+    (durable pushes : ℕ) (left : FleetState) (keep : ℕ → Bool) (will : List Part) (order : GroupOrder)
     (recovered : Result Rebuilt RecoveryFault) : Type 0 where
   -- 'after any interleaving of client, compaction, cleaning and rolling steps': the history has just the commands that
   -- were accepted, with the replies that were given, and each reply is the versioned map's
   pub history : List Record
   pub interleaved : history ≡ start.history ++ records_of steps answers
   pub replied : IsLegal start.opening history
-  -- 'stopped after any step': the fleet is what requests of this master made of it, each done whole or not at all
+  -- 'stopped after any step', each of which makes at most one request: the fleet is what requests of this master made
+  -- of it, each done whole or not at all
   pub requests : List Asked
   pub stopped : MakeOf start.master start.fleet requests left
   -- 'rebuilds .. exactly the objects and versions of the versioned map after a prefix of the commands that holds every
   -- acknowledged one'
   pub rebuilds : IfOk recovered (IsMapAfter start.opening history durable)
-  -- 'every acknowledged one': whoever drives the master tells a reply only once its command is durable. If a push finds
-  -- that nothing waits, then each command before that push is durable, and stays so.
+  -- 'every acknowledged one': whoever drives the master acknowledges a command only after a later push that found
+  -- nothing to push. Then each command so far is durable, also those before the first step, and stays so.
   pub acknowledged : (count : ℕ) → EndsIdle (take count steps) (take count answers)
       → length (start.history ++ records_of (take count steps) (take count answers)) ≤ durable
   -- if the last step is such a push, all commands are durable
   pub pushed : EndsIdle steps answers → durable ≡ length history
   -- 'it refuses only by naming a lost head or segment', or if memory runs out. The will has to cover the keys that the
-  -- master serves, and the order to name each group; else the recovery may name a key or a group.
+  -- master serves, and the order to be forwards or in reverse. Of other orders *IsDrill* speaks.
   pub refuses : Covers start.tablets will → IsWholeOrder order → IfErr recovered (λ e. IsLoss e ⊎ IsNoMemory e)
-  -- 'and never where both survive': if no failover is open, and fewer backups are lost than a segment has replicas, then
-  -- only want of memory refuses. If the map is empty, a recovery may also find no head: perhaps none was ever open.
+  -- 'and never where both survive': if no failover is open, and fewer backups are lost than a segment has replicas,
+  -- then only want of memory refuses. If no key ever had a value, a recovery may also find no head: perhaps none was
+  -- open.
   pub never : Covers start.tablets will → IsWholeOrder order → pushes ≡ 0
       → length (lost keep start.backups) < start.replicas
-      → IfErr recovered (λ e. IsNoMemory e ⊎ IsEmpty (after start.opening (commands_of history)))
+      → IfErr recovered (λ e. IsNoMemory e ⊎ NeverHadAny start.opening history)
