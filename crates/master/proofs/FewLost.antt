@@ -19,7 +19,7 @@ use Rattle.replica.specs.Survival.{IsHomeLeft, IsHeadLeft, HeadSurvives, Segment
 use Rattle.versioned_map.specs.declared.command.Command.{Command}
 use Rattle.versioned_map.specs.declared.command.Record.{Record}
 use Rattle.versioned_map.specs.History.{commands_of}
-use Rattle.versioned_map.specs.Represents.{Represents}
+use Rattle.versioned_map.specs.Represents.{Represents, unit_of}
 use Rattle.versioned_map.specs.Versioned.{State, after, after_command}
 use Rattle.images.specs.Image.{Image}
 use Rattle.images.specs.Sorted.{replicas_of}
@@ -123,13 +123,14 @@ module _ (d : MasterData) (core : IsCore d) where
 -- commands of which no unit is have changed nothing
 quiet : (st : State) (number : ℕ) (cs : List Command) → AreNumbered st number cs [] → (count : ℕ)
     → after st (take count cs) ≡ st
-quiet st number cs is zero = refl
+quiet st number [] is zero = refl
 quiet st number [] is (suc count) = refl
-quiet st number (c ∷ cs) (segment, rest, same, more) (suc count) =
-    let none = no_first number (unit_of st segment c) rest same in
-    let still : after_command st c ≡ st = unit_none st segment c none.0 in
+quiet st number (c ∷ cs) is zero = refl
+quiet st number (c ∷ cs) is (suc count) =
+    let none = no_first number (unit_of st is.0 c) is.1 is.2 in
+    let still : after_command st c ≡ st = unit_none st is.0 c none.0 in
     let numbered : AreNumbered (after_command st c) (suc number) cs [] =
-    subst (AreNumbered (after_command st c) (suc number) cs) none.1 more in
+    subst (AreNumbered (after_command st c) (suc number) cs) none.1 is.3 in
     quiet (after_command st c) (suc number) cs numbered count ∙ still
   where
     no_first : (number : ℕ) (unit : List Entry) (rest : List LogUnit) → [] ≡ with_first number unit rest
