@@ -16,6 +16,12 @@ returns-in-Ok-clause-kept g c =
     retired_kept d f after c.retire.result c.requires.kept
     (of_master f after c.master.result d.config.master c.retire.result c.master.ensures c.retire.ensures.retires)
 
+pub returns-in-Ok-clause-same : goal.returns-in-Ok-clause-same
+returns-in-Ok-clause-same g c =
+    let f : FleetState = g.F.Fleet.state c.args.fleet.now in
+    let after : FleetState = g.F.Fleet.state c.retire.new.self in
+    subst (λ (m : ℕ). (b s : ℕ) → after.picture b m s ≡ f.picture b m s) c.master.ensures c.retire.ensures.same
+
 pub returns-in-Fault-clause-retires : goal.returns-in-Fault-clause-retires
 returns-in-Fault-clause-retires g c =
     let d : MasterData = c.args.core.now in
@@ -23,6 +29,12 @@ returns-in-Fault-clause-retires g c =
     let after : FleetState = g.F.Fleet.state c.retire.new.self in
     subst (λ (e : TakeFault). Retires f d.config.master (Err e) after) c.in-Fault.is
     (of_master f after c.master.result d.config.master (Err c.in-Err.fault) c.master.ensures c.in-Err.ensures.retires)
+
+pub returns-in-Fault-clause-same : goal.returns-in-Fault-clause-same
+returns-in-Fault-clause-same g c =
+    let f : FleetState = g.F.Fleet.state c.args.fleet.now in
+    let after : FleetState = g.F.Fleet.state c.retire.new.self in
+    subst (λ (m : ℕ). (b s : ℕ) → after.picture b m s ≡ f.picture b m s) c.master.ensures c.retire.ensures.same
 
 pub returns-in-Fault-clause-kept : goal.returns-in-Fault-clause-kept
 returns-in-Fault-clause-kept g c =
