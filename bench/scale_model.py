@@ -1,6 +1,6 @@
 """What bench/scale simulates: nodes, costs, wills, places of replicas, and a clock of events. It runs nothing of the program.
 
-Wills are made by `make_will` of support/script_model.py, and replicas placed by the rule of docs/SPECIFICATION.md, section 5.
+Wills are made by `make_will` of model/script_model.py, and replicas placed by the rule of docs/SPECIFICATION.md, section 5.
 What the rules don't have is a variant with a name of its own.
 """
 
@@ -13,7 +13,7 @@ import sys
 from dataclasses import dataclass
 
 TOP = os.path.dirname(os.path.dirname(os.path.abspath(__file__)))
-sys.path.insert(0, f"{TOP}/support")
+sys.path.insert(0, f"{TOP}/model")
 
 from script_model import make_will, place
 

@@ -9,6 +9,9 @@ import sys
 from dataclasses import dataclass, replace
 
 from examples import TOP, examples
+
+sys.path.append(f"{TOP}/model")
+
 from script_model import NO_MEMORY, Run, explain, options_of, undisturbed
 
 SECONDS = 60

@@ -1,16 +1,20 @@
 #!/usr/bin/env python3
-"""Tests support/script_model.py and support/script_witness.py by the scripts of examples/, and by runs of clients.
+"""Tests model/script_model.py and model/script_witness.py by the scripts of examples/, and by runs of clients.
 
 It is not part of the gate.
 
-  support/script_model_test.py
+  model/script_model_test.py
 
 The model reads scripts, and neither a command line that is refused nor a configuration that is wrong: examples of these are passed
 over. The witness has to let through what some order of the clients leaves, and nothing else. What differs is printed, and the
 status is 1.
 """
 
+import os
 import sys
+
+TOP = os.path.dirname(os.path.dirname(os.path.abspath(__file__)))
+sys.path.append(f"{TOP}/support")
 
 from examples import examples, lines_of
 from script_model import Run
