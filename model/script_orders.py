@@ -2,7 +2,8 @@
 
 `orders_of` gives each answer that the line may print, with the store after it. A thread holds the lock for one step at a time: a
 command is applied, a roll begins, one push is made, a place is looked at; the cleaner looks whether a pass is open, or makes one
-turn. (The program does both in one holding, which is one of these orders.) So all orders of a few rounds and a pass are some thousands of states. If there are more than that, nobody knows.
+turn. (The program does both in one holding, which is one of these orders.) So all orders of a few rounds and a pass are some
+thousands of states. If there are more than that, nobody knows.
 
 How many turns may give nothing is so large a number here that each such turn may be the last one.
 """
