@@ -1,32 +1,14 @@
-#!/usr/bin/env python3
-"""Runs 63 clients and a cleaner over a memory that is four fifths full, for a long time. Not part of the gate.
+"""Runs 63 clients and a cleaner over a memory that is four fifths full, for a long time. `bin/simulate --help` says more."""
 
-  bin/soak [--minutes=N] [--program=FILE]
-
-It runs for N minutes, ten without that option. With --program it runs that program, and proves and builds nothing.
-
-The memory has 128 segments of 256 kilobytes. The first life fills 80 % of it with live objects. Each life has seven lines of
-clients. Before each of these some objects are put again, and behind it a get tells what became of each client's key. Then the
-master crashes, a backup loses all that it holds, and the table is recovered. Every third life ends with a stop in the midst of
-the last line of clients.
-
-Each answer has to be one that some order of the threads allows (model/script_witness.py). So each round that was answered,
-and each other put, has to be in the recovered table: a line of clients that was answered has all its rounds there. If it was
-refused as Full, since the cleaner fell behind, or stopped, some front of the rounds of each client is there.
-
-It says once a minute how far it is. The last line says how many calls were answered. If an answer is wrong, it says so, and the status
-is 1. It needs python3.
-"""
-
-import os
 import random
 import re
 import subprocess
 import sys
 import time
 
-TOP = os.path.dirname(os.path.dirname(os.path.abspath(__file__)))
-sys.path.insert(0, f"{TOP}/model")
+from examples import TOP
+
+sys.path.append(f"{TOP}/model")
 
 from script_model import NO_LIMIT, options_of, parse
 from script_witness import Witness
@@ -69,8 +51,11 @@ class Session:
         """Sends the lines, and answers what the last one printed."""
         for first in range(0, len(lines), BATCH):
             batch = lines[first:first + BATCH]
-            self.process.stdin.write("".join(f"{line}\n" for line in batch).encode())
-            self.process.stdin.flush()
+            try:
+                self.process.stdin.write("".join(f"{line}\n" for line in batch).encode())
+                self.process.stdin.flush()
+            except BrokenPipeError:
+                raise Wrong(f"the program ended with status {self.process.wait()}") from None
             for line in batch:
                 rows = self.read(line)
                 wrong = self.witness.wrong(parse(line.encode(), self.options.backups), rows)
@@ -106,7 +91,8 @@ def live(session, dice, is_stopped):
     return answers
 
 
-def soak(program, minutes):
+def live_on(program, minutes):
+    """Runs lives for so many minutes. Answers how many, and how many calls of clients were answered."""
     session, dice, begun, told = Session(program), random.Random(1), time.monotonic(), 0
     session.ask(*(put(number, dice) for number in range(OBJECTS)))
     lives = full = stopped = 0
@@ -124,28 +110,10 @@ def soak(program, minutes):
     return lives, session.calls
 
 
-def main():
-    minutes, program = 10, None
-    for word in sys.argv[1:]:
-        if word in ("-h", "--help"):
-            print(__doc__.strip())
-            return
-        if re.fullmatch(r"--minutes=[0-9]+", word):
-            minutes = int(word.split("=")[1])
-        elif word.startswith("--program="):
-            program = os.path.abspath(word.split("=", 1)[1])
-        else:
-            print(f"soak: there is no word '{word}'; bin/soak --help says more", file=sys.stderr)
-            sys.exit(2)
-    if program is None:
-        program = f"{TOP}/crates/ramlog/out/ramlog"
-        subprocess.run([f"{TOP}/bin/ramlog", "--prove"], check=True)
+def soak(program, minutes):
+    """Runs the program for so many minutes, and ends this one if an answer is wrong."""
     try:
-        lives, calls = soak(program, minutes)
+        lives, calls = live_on(program, minutes)
     except Wrong as wrong:
-        sys.exit(f"soak: {wrong}")
+        sys.exit(f"simulate: {wrong}")
     print(f"{lives} lives, {calls:,} calls of clients in lines that were answered, and all of them are there")
-
-
-if __name__ == "__main__":
-    main()
