@@ -7,27 +7,34 @@ pub(crate) const ABOUT: &str = "A log-structured key-value store in memory, driv
 
 pub(crate) const USAGE: &str = "ramlog [OPTIONS] < SCRIPT";
 
-/// The lines of a script, and an example.
+/// The lines of a script, the limits, the refusals, the exit status, and an example.
 pub(crate) const AFTER_HELP: &str = "Lines of a script:
+  T is a table's number, K a key, V a value, ID a segment's number, and B a backup's number.
   put T K V    Puts the value V at the key K of table T: 'ok VERSION'
   new T K V    Puts it if the key has no object, else 'mismatch VERSION'
   cas T K N V  Puts it if the key is at version N, else 'mismatch VERSION' or 'mismatch none'
   get T K      Shows the object of a key: 'VERSION VALUE', or 'none'
   del T K      Deletes the object of a key: 'ok VERSION', or 'none'
   roll         Opens the next segment of the log: 'head ID'
-  beginroll    Begins that: 'opening ID'
+  beginroll    Begins a roll, and hands nothing to the backups: 'opening ID'
   push         Hands one piece of the log to one backup: 'extend B ID', 'open B ID', 'close B ID' or 'repair B ID'; or,
                once a backup has failed, makes older heads useless: 'raise ID'
   compact ID   Drops what segment ID doesn't keep from the master's memory: 'compacted ID LENGTH'
   clean ID ..  Copies what is kept of up to 32 segments to up to 4 new ones, and frees them: 'cleaned ID .. HEAD'
-  begin ID ..  Begins that: 'begun ID ..'. Then 'copy' treats one entry, 'seal' and 'free' one replica each
-  clients C N P  Runs C clients in threads of their own, beside a cleaner that makes P passes. Each has a key of its own
-               in table 1, and makes N rounds of a put and a get: 'clients C N CALLS', the calls that were accepted
-  log          Shows the numbers of the log's segments: 'log ID ..'
+  begin ID ..  Begins to clean these segments: 'begun ID ..', the new ones
+  copy         Copies or drops one entry of these segments: 'moved', 'carried' or 'dropped'
+  seal         Hands one replica of a new segment to a backup: 'sealed B'
+  free         Frees one replica of a segment that was cleaned: 'freed ID B'
+  clients C N P  Runs C clients (1 to 63) in threads of their own, beside a cleaner that makes P passes. Each has a key
+               of its own in table 1, and makes N rounds (1 to 1000000) of a put and a get: 'clients C N CALLS', the
+               calls that were accepted
+  log          Shows the numbers of the log's segments, rising, the head last: 'log ID ..'
   room         Shows how many seglets of memory are counted, and how many are free: 'used N free N'
   hex ID       Shows the bytes of segment ID in the master's memory, in hexadecimal
-  holdings     Shows the replicas that the backups hold
-  will         Cuts the tables into partitions by --bytes and --objects, for the next recovery, and shows the parts
+  holdings     Shows the replicas that the backups hold, one a line: 'B MASTER ID LENGTH open' or '.. closed'. No line
+               stands behind them, and none at all is printed if the backups hold nothing
+  will         Cuts the tables into partitions by --bytes and --objects, for the next recovery, and shows the parts:
+               'T FIRST LAST PARTITION' .., 'partitions N'
   stop N       Lets the backups take N more pieces of the log, and then no more
   fault N taken  Has the backup fail that gets the N-th piece from now, though it took it; with 'lost' it took it not
   format 2     Lets masters that start later write format 2
@@ -39,7 +46,39 @@ pub(crate) const AFTER_HELP: &str = "Lines of a script:
   recover threads N  Does the same, and N workers (1 to 64) replay in threads of their own
   # TEXT       Does nothing, like an empty line
 
-A line that is refused prints 'refused NAME'. If the backups take no more, it prints 'stopped', and the master is gone.
+Limits:
+  A line has at most 4096 bytes: words of visible characters, with one space between two words. A key has at most
+  1024 bytes. For a key of k bytes and a value of v bytes, 50 + 2k + v is at most a quarter of --segment: by default a
+  key of one byte has a value of at most 76 bytes.
+  The memory has to hold four segments: --seglets is at least 4 * segment / seglet. So a greater --segment needs more
+  --seglets: --segment=4096 needs --seglets=256.
+  A master accepts as many commands as --history says, gets too. The next master counts from 0 again.
+  Up to 64 callers, its seats, share a master: the script is one, and 'clients' has up to 63.
+
+Refusals. A line that is refused prints 'refused NAME', and the script goes on:
+   1 TooBig         The put needs more than a quarter of a segment
+   2 Full           There is no room for one more segment, in memory or in the list of segments
+   3 VersionsSpent  The put would take a version above 2^62
+   4 HistoryFull    The master has accepted as many commands as --history says
+   5 NoMemory       The system gave no memory
+   6 Halted         A backup failed, and the master can't go on: 'crash' and 'recover' make another one
+   7 Rolling        A segment is being opened, or a backup has failed and its replicas are made anew: 'push' goes on
+   8 Nothing        There is nothing to push, to copy, to seal or to free
+   9 NotInLog ID, IsHead ID, Twice ID, NoVictims, TooMany, TooMuch or PassOpen
+                    These segments can't be compacted or cleaned now; 'hex' finds no segment ID
+  10 Spent          The backups take no more. The line prints 'stopped' instead, and the master is gone
+  11 SegmentsSpent  A segment would have a number above 2^62
+  12 NoTablet       There is no such table
+  13 Lost B         Backup B failed in a 'push', a 'seal' or a 'free', and its replicas are made anew: 'push' goes on
+     Down, Up       There is no master: 'recover' makes one. There is a master: 'crash' drops it
+     NoHead, HeadClosed ID, HeadTooOld ID or Missing ID
+                    A recovery lacks a usable replica of the newest segment, or of segment ID
+A command, a roll, 'clean', 'clients' and 'recover' go on by themselves where a step answers Rolling or Lost.
+
+Exit status:
+  0  The script came to its end, whatever was refused
+  1  Reading or writing failed, or memory ran out: 'ramlog: no memory'
+  2  A line is bad, the words are no options, or the options don't fit each other
 
 Example:
   printf 'put 1 a x\\nput 1 b y\\ncrash\\nrecover\\n' | ramlog";

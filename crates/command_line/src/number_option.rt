@@ -46,7 +46,7 @@ pub(crate) const SEGMENT: NumberOption = NumberOption {
     least: 512,
     most: 8388608,
     default: 512,
-    help: "Bytes of a segment, a multiple of the seglet: 512 to 8388608 [default: 512]",
+    help: "Bytes of a segment, a multiple of --seglet, with --seglets to match: 512 to 8388608 [default: 512]",
 };
 
 pub(crate) const SEGLET: NumberOption = NumberOption {
@@ -62,7 +62,7 @@ pub(crate) const SEGLETS: NumberOption = NumberOption {
     least: 4,
     most: 4294967296,
     default: 64,
-    help: "Seglets of the master's memory, at least those of four segments: 4 to 4294967296 [default: 64]",
+    help: "Seglets of the master's memory, at least 4 * segment / seglet: 4 to 4294967296 [default: 64]",
 };
 
 pub(crate) const TABLES: NumberOption = NumberOption {
