@@ -206,6 +206,15 @@ def a_terminal_shows_each_answer(program):
             want(it.read(len(answer)), answer)
 
 
+def a_pipe_is_told_why_if_asked(program):
+    """With the word --explain a second line of the errors says why, wherever they go."""
+    bad = b"ramlog: bad line 1\n"
+    why = b"ramlog: put has a table, a key and a value\n"
+    for words in (["--explain"], ["--step=1", "--explain"], ["--explain", "--step", "1"]):
+        want(run(program, b"put 1 a\n", words), (b"", bad + why, 2))
+    want(run(program, b"put 1 a\n"), (b"", bad, 2))
+
+
 def a_terminal_shows_why(program):
     """At a terminal a second line of the errors says why."""
     whys = (
@@ -462,7 +471,7 @@ def the_largest_configuration_is_served(program):
 
 TESTS = [
     help_is_printed, version_is_printed, words_are_text, lines_have_limits, a_reader_fails, a_writer_fails,
-    input_comes_in_parts, pipes_show_each_answer, output_goes_in_blocks, a_terminal_shows_each_answer, a_terminal_shows_why, an_end_is_not_asked_for_again,
+    input_comes_in_parts, pipes_show_each_answer, output_goes_in_blocks, a_terminal_shows_each_answer, a_terminal_shows_why, a_pipe_is_told_why_if_asked, an_end_is_not_asked_for_again,
     memory_is_taken_and_given_back, survivors_take_a_segment_each, large_tables_are_recovered, workers_recover_in_threads,
     a_call_ends_a_long_failover,
     a_whole_segment_is_compacted_and_cleaned, many_segments_and_objects_are_served, the_largest_configuration_is_served,

@@ -79,8 +79,8 @@ Exit status:
   0  The script came to its end, whatever was refused
   1  Reading or writing failed, or memory ran out
   2  A line is bad, the words are no options, or the options don't fit each other
-Standard error says which, as in 'ramlog: bad line 3'. If it is a terminal, a second line says why a line is bad, or
-which options disagree.
+Standard error says which, as in 'ramlog: bad line 3'. If it is a terminal, or if --explain is among the options, a
+second line says why a line is bad, or which options disagree.
 
 Example:
   printf 'put 1 a x\\nput 1 b y\\ncrash\\nrecover\\n' | ramlog";

@@ -17,6 +17,9 @@ use until_end::UntilEnd;
 /// The exit status of a bad command line.
 const MISUSE: u8 = 2;
 
+/// The word by which a fault is explained on standard error, also if that is no terminal. It may stand anywhere.
+const EXPLAIN: &str = "--explain";
+
 /// How many bytes the program reads or writes at once.
 const BLOCK: usize = 65_536;
 
@@ -57,13 +60,15 @@ fn refuse(rt: &HostRuntime, error: &Error) -> ExitCode {
 }
 
 /// Runs the program from standard input to standard output. It writes in blocks, and writes what it answered before it
-/// waits for more input. `threads` and `rt` are one handle, but only a parameter with these bounds can start threads.
+/// waits for more input. If it `explains`, or at a terminal, a second line of the errors says why. `threads` and `rt` are
+/// one handle, but only a parameter with these bounds can start threads.
 fn run<H: Threads + Wait + Sync>(
     threads: &H,
     rt: &HostRuntime,
     words: &[&str],
+    explains: bool,
 ) -> Result<u8, Error> {
-    let mut errors = ErrorOutput::new(rt.stderr().lock(), rt.stderr().is_terminal());
+    let mut errors = ErrorOutput::new(rt.stderr().lock(), explains || rt.stderr().is_terminal());
     let Ok(mut reader) = BufReader::with_capacity(rt.alloc(), BLOCK, UntilEnd::new(rt.reader()))
     else {
         return Ok(report(&ScriptFault::NoMemory, &mut errors));
@@ -81,19 +86,22 @@ fn run<H: Threads + Wait + Sync>(
     )
 }
 
-/// Runs the program with these words.
+/// Runs the program with these words. `--explain` is none that the options know.
 fn run_arguments<H: Threads + Wait + Sync>(
     threads: &H,
     rt: &HostRuntime,
     arguments: &[String],
 ) -> ExitCode {
     let mut words = Vec::new(rt.alloc());
+    let mut explains = false;
     for argument in arguments {
-        if words.push(argument.as_str()).is_err() {
+        if argument.as_str() == EXPLAIN {
+            explains = true;
+        } else if words.push(argument.as_str()).is_err() {
             return fail(rt, ScriptFault::NoMemory);
         }
     }
-    match run(threads, rt, words.as_slice()) {
+    match run(threads, rt, words.as_slice(), explains) {
         Ok(status) => ExitCode::from(status),
         Err(error) => refuse(rt, &error),
     }
