@@ -1,0 +1,11 @@
+//! How objects are packed into the segments of a new log, and how many seglets of memory a master needs to load them.
+//!
+//! The crate knows lengths alone, no objects and no master. It counts by the rule of a load: a head is closed once the
+//! next object doesn't fit, and the next head opens only if two whole segments stay free.
+#![tactic(auto)]
+
+mod new_log;
+mod sizes;
+
+pub use new_log::{NewLog, seglets_needed};
+pub use sizes::Sizes;
