@@ -14,7 +14,7 @@ use crate::comparisons::rebuilt;
 use crate::masters::{config_of, new_master};
 use backup::MemoryFleet;
 use recovery::master::{Config, If, Master, Refusal};
-use recovery::replay::{Rebuilt, adopt};
+use recovery::replay::{Rebuilt, adopt, seglets_needed};
 use replica::{Bench, Fleet, Holding};
 use std::alloc::Global;
 
@@ -183,18 +183,48 @@ const NINE: &[Ask] = &[
     Push(2),
 ];
 
+/// The nine objects are in three segments, and nothing has to be pushed.
+const ALL: &[Call] = &[
+    Call::Counts(3, 0, 0),
+    Call::Replies(Get(b"a"), ("found", 1)),
+    Call::Replies(Get(b"i"), ("found", 9)),
+];
+
 const ROWS: &[Row] = &[
     (SHORT, u64::MAX, 64, Ok(AFTER)),
     // Two Opens and an Extend of both objects are taken. With one Extend more all is pushed.
     (SHORT, 3, 64, Err((Refusal::Spent, 2, 3))),
     (SHORT, 4, 64, Ok(PUSHED)),
-    // Of four whole segments two stay free for deletes: nine objects need a third.
-    (NINE, u64::MAX, 32, Err((Refusal::Full, 9, 10))),
+    // Nine objects close two segments of seven seglets each, and three whole segments have to be there, of eight each.
+    (NINE, u64::MAX, 37, Err((Refusal::Full, 9, 10))),
+    (NINE, u64::MAX, 38, Ok(ALL)),
 ];
+
+/// How many seglets a new master needs for what master 1 left.
+fn needed_on(alloc: Global, fleet: &MemoryFleet) -> Option<u64> {
+    let config = config_of(alloc, 2, 64)?;
+    match &rebuilt(alloc, fleet) {
+        Some(list) => seglets_needed(list, &config),
+        None => None,
+    }
+}
+
+/// How many a new master needs after another one was asked this.
+fn needed(alloc: Global, asks: &[Ask]) -> Option<u64> {
+    match &left(alloc, asks) {
+        Some(fleet) => needed_on(alloc, fleet),
+        None => None,
+    }
+}
 
 #[test]
 fn a_master_follows(rt: HostRuntime) {
     for (place, row) in ROWS.iter().enumerate() {
         assert!(rt; is_lived(rt.alloc(), row), "row {place}");
     }
+}
+
+#[test]
+fn nine_objects_need_38_seglets(rt: HostRuntime) {
+    assert!(rt; needed(rt.alloc(), NINE) == Some(38));
 }

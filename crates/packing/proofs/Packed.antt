@@ -7,7 +7,7 @@ use Rattle.std.proofs.lemmas.Bool.{and_parts, and_from, leb-true, le-leb}
 use Rattle.packing.specs.declared.new_log.NewLog.{NewLog}
 use Rattle.packing.specs.declared.sizes.Sizes.{Sizes}
 use Rattle.packing.specs.Packing.{whole, most_ids, empty_log, rolled, longer, takes, with_object, packed, seglets_at}
-use Rattle.packing.specs.Packing.{is_within, can_load}
+use Rattle.packing.specs.Packing.{is_within, seglets_needed, can_load}
 
 -- The rule of a roll while objects are loaded: the digest takes one more id and that of a commit, and two whole
 -- segments are free once the head counts its length.
@@ -93,3 +93,26 @@ closed_grows s [] l = omega arith
 closed_grows s (n ∷ ns) l =
     let more = closed_grows s ns (with_object s l n) in
     let one = one_grows s l n in omega arith
+
+-- ---- how many seglets are enough
+
+-- the number of seglets plays no part in how objects are packed
+packed_any : (s : Sizes) (m : ℕ) (l : NewLog) (ns : List ℕ) → packed (record s { seglets = m }) l ns ≡ packed s l ns
+packed_any s m l [] = refl
+packed_any s m l (n ∷ ns) = packed_any s m (with_object s l n) ns
+
+-- objects of these lengths in a new log
+abbrev pub loaded : Sizes → List ℕ → NewLog
+loaded s ns = packed s (empty_log s) ns
+
+module _ (s : Sizes) (m : ℕ) (ns : List ℕ) where
+  can_is : can_load (record s { seglets = m }) ns ≡ is_within (record s { seglets = m }) (loaded s ns)
+  can_is = ap (is_within (record s { seglets = m })) (packed_any s m (empty_log s) ns)
+
+  pub loads_from : (loaded s ns).closed + 2 ≤ most_ids s → seglets_needed s ns ≤ m
+      → can_load (record s { seglets = m }) ns ≡ true
+  loads_from places memory = can_is ∙ within_from (record s { seglets = m }) (loaded s ns) places memory
+
+  pub loads_since : can_load (record s { seglets = m }) ns ≡ true
+      → ((loaded s ns).closed + 2 ≤ most_ids s) × (seglets_needed s ns ≤ m)
+  loads_since can = within_parts (record s { seglets = m }) (loaded s ns) (sym can_is ∙ can)

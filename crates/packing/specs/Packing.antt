@@ -1,5 +1,5 @@
 -- How objects are packed into a new log as they are loaded, one after another, and the memory that this takes.
-use Rattle.std.specs.Prelude.{ℕ, ◌+◌, ◌*◌, ◌/◌, ◌<◌, ◌≤◌, ◌==◌, ◌&&◌, List, [], ◌∷◌, length, slice_index}
+use Rattle.std.specs.Prelude.{ℕ, ◌+◌, ◌*◌, ◌/◌, ◌≤◌, ◌==◌, ◌&&◌, List, [], ◌∷◌}
 use Rattle.std.specs.Prelude.{Bool, nat_le, if◌then◌else◌}
 use Rattle.std.specs.Int.{div_ceil}
 use Rattle.packing.specs.declared.sizes.Sizes.{Sizes}
@@ -12,10 +12,6 @@ pub record AreSound (s : Sizes) : Type 0 where
   pub seglet : 64 ≤ s.seglet
   pub least : 512 ≤ s.segment
   pub most : s.segment ≤ 8388608
-
--- no object is longer than a segment
-abbrev pub AreWithin : Sizes → List ℕ → Type 0
-AreWithin s lengths = (i : ℕ) → i < length lengths → slice_index lengths i ≤ s.segment
 
 -- the seglets of a whole segment
 abbrev pub whole : Sizes → ℕ
@@ -59,6 +55,12 @@ with_object s l n = if takes s l n then longer l n else longer (rolled s l) n
 abbrev pub packed : Sizes → NewLog → List ℕ → NewLog
 packed s l [] = l
 packed s l (n ∷ lengths) = packed s (with_object s l n) lengths
+
+-- The digest has places for the segments of this log and for one more, and no sum of its numbers can overflow.
+pub record IsSmall (s : Sizes) (l : NewLog) : Type 0 where
+  pub places : l.closed + 2 ≤ most_ids s
+  pub used : l.used ≤ l.closed * 67108864
+  pub len : l.len ≤ 33554432
 
 -- ---- the memory
 

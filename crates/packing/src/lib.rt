@@ -7,5 +7,5 @@
 mod new_log;
 mod sizes;
 
-pub use new_log::{NewLog, seglets_needed};
+pub use new_log::NewLog;
 pub use sizes::Sizes;

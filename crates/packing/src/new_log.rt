@@ -1,8 +1,8 @@
 //! A new log into which objects are loaded, and the memory that they need.
 
-ghost use Rattle.std.specs.Prelude.{◌≡◌, ◌≤◌, ◌+◌, ◌*◌, ◌^◌, ℕ, length, true, false, None, IfSome};
-ghost use Rattle.packing.specs.Packing.{AreSound, AreWithin};
-ghost use Rattle.packing.specs.Packing.{fits_digest, opening_len, seglets_needed, with_object};
+ghost use Rattle.std.specs.Prelude.{◌≡◌, ◌<◌, ◌≤◌, ◌+◌, ◌^◌, None, IfSome};
+ghost use Rattle.packing.specs.Packing.{empty_log, most_ids, opening_len, seglets_at, with_object};
+ghost use Rattle.packing.specs.Packing.{AreSound, IsSmall};
 
 use crate::sizes::Sizes;
 
@@ -13,7 +13,7 @@ pub struct NewLog {
     pub closed: u64,
     /// How many seglets the closed segments count together.
     pub used: u64,
-    /// The bytes of the open head.
+    /// The bytes of the head.
     pub len: u64,
 }
 
@@ -29,50 +29,54 @@ fn opening_len(sizes: &Sizes, listed: u64) -> u64
     }
 }
 
-/// The log with one object more, of so many bytes. If the head has no room for it, the head is closed, and the next one
-/// begins with the object.
-fn with_object(sizes: &Sizes, log: &NewLog, length: u64) -> NewLog
-    requires sound { AreSound sizes.now }
-    requires length { length ≤ sizes.now.segment }
-    requires closed { log.now.closed ≤ 2 ^ 31 }
-    requires used { log.now.used ≤ 2 ^ 62 }
-    requires len { log.now.len ≤ 2 ^ 32 }
-    ensures { result ≡ with_object sizes.now log.now length }
-{
-    if log.len + length <= sizes.segment {
-        return NewLog {
-            closed: log.closed,
-            used: log.used,
-            len: log.len + length,
-        };
-    }
-    NewLog {
-        closed: log.closed + 1,
-        used: log.used + log.len.div_ceil(sizes.seglet),
-        len: opening_len(sizes, log.closed + 2) + length,
-    }
-}
-
-/// How many seglets a master needs to load objects of these lengths (in bytes) in this order. `sizes.seglets` plays no
-/// part in it. None if the digest has too few places for the heads that the objects close: then no number of seglets is
-/// enough. It takes a few steps for each length, and no memory.
-pub fn seglets_needed(sizes: &Sizes, lengths: &[u64]) -> Option<u64>
-    requires sound { AreSound sizes.now }
-    requires lengths { AreWithin sizes.now lengths.now }
-    ensures needed { IfSome result (λ n. n ≡ seglets_needed sizes.now lengths.now) }
-    ensures places { IfSome result (λ n. fits_digest sizes.now lengths.now ≡ true) }
-    ensures none { result ≡ None → fits_digest sizes.now lengths.now ≡ false }
-{
-    let mut log = NewLog {
-        closed: 0,
-        used: 0,
-        len: opening_len(sizes, 1),
-    };
-    for i in 0..lengths.len() {
-        log = with_object(sizes, &log, lengths[i]);
-        if log.closed + 2 > sizes.segment / 32 {
-            return None;
+impl NewLog {
+    /// A log into which nothing was loaded.
+    pub fn new(sizes: &Sizes) -> NewLog
+        requires sound { AreSound sizes.now }
+        ensures log { result ≡ empty_log sizes.now }
+        ensures small { IsSmall sizes.now result }
+    {
+        NewLog {
+            closed: 0,
+            used: 0,
+            len: opening_len(sizes, 1),
         }
     }
-    Some(3 * (sizes.segment / sizes.seglet) + log.used)
+
+    /// The log with one object more, of so many bytes. If the head has no room for it, the head is closed, and the next
+    /// head begins with the object. None if the digest has too few places for one more head.
+    pub fn with_object(&self, sizes: &Sizes, length: u64) -> Option<NewLog>
+        requires sound { AreSound sizes.now }
+        requires small { IsSmall sizes.now self.now }
+        requires length { length ≤ 8388608 }
+        ensures log { IfSome result (λ l. l ≡ with_object sizes.now self.now length) }
+        ensures small { IfSome result (λ l. IsSmall sizes.now l) }
+        ensures none { result ≡ None → most_ids sizes.now < (with_object sizes.now self.now length).closed + 2 }
+    {
+        if self.len + length <= sizes.segment {
+            return Some(NewLog {
+                closed: self.closed,
+                used: self.used,
+                len: self.len + length,
+            });
+        }
+        if self.closed + 3 > sizes.segment / 32 {
+            return None;
+        }
+        Some(NewLog {
+            closed: self.closed + 1,
+            used: self.used + self.len.div_ceil(sizes.seglet),
+            len: opening_len(sizes, self.closed + 2) + length,
+        })
+    }
+
+    /// How many seglets a master needs, so that each roll up to this log may begin. The number of seglets in `sizes`
+    /// plays no part.
+    pub fn seglets_needed(&self, sizes: &Sizes) -> u64
+        requires sound { AreSound sizes.now }
+        requires small { IsSmall sizes.now self.now }
+        ensures { result ≡ seglets_at sizes.now self.now }
+    {
+        3 * (sizes.segment / sizes.seglet) + self.used
+    }
 }

@@ -1,6 +1,6 @@
 //! A master that goes on with what a log stands for.
 
-ghost use Rattle.std.specs.Prelude.{◌≡◌, ◌≤◌, ℕ, [], ◌∷◌, None, IfOk, IfErr, OnOk};
+ghost use Rattle.std.specs.Prelude.{◌≡◌, ◌<◌, ◌≤◌, ℕ, [], ◌∷◌, None, IfOk, IfErr, OnOk};
 ghost use Rattle.entry.specs.View.{shown_object};
 ghost use Rattle.driving.specs.master_core.master_state.Config.{config_fault};
 ghost use Rattle.driving.specs.master_core.master_state.Loading.{restored_data, IsNewObject};
@@ -10,6 +10,7 @@ ghost use Rattle.driving.specs.master.World.{world};
 ghost use Rattle.replay.specs.Adopting.{IsFinal, LoadsOne, IsStuck, LoadsAll, Stops};
 ghost use Rattle.replay.specs.Adopting.{IsAdopted, IsAdoptedOn, AdoptsList, DeclinesList};
 ghost use Rattle.replay.specs.Fresh.{AreNew};
+ghost use Rattle.replay.specs.Needs.{CanBeAdopted};
 
 use claims::{Objects, Rebuilt};
 use driving::master::{Loading, Master};
@@ -78,7 +79,8 @@ fn restore<F: Fleet>(
 /// Makes a master whose history begins with the list, under a number that has no replicas. No replica of another
 /// master changes. The master begins a roll only if the next object has to wait for one. It pushes only for such an
 /// object, or after the last object, and then until nothing waits. If the call is refused, the fleet comes back with
-/// what it took so far. NoMemory may also come before the first take.
+/// what it took so far. NoMemory may also come before the first take. Full comes only if the configuration has fewer
+/// seglets than `seglets_needed` names, or if that names none, or if a take ended in a fault.
 pub fn adopt_list<F: Fleet>(
     alloc: Global,
     rebuilt: &Rebuilt,
@@ -94,6 +96,8 @@ pub fn adopt_list<F: Fleet>(
     ensures valid { IfOk result (λ m. IsValid m.knows (F.state m.fleet)) }
     ensures fleet { IfOk result (λ m. IsAdoptedOn config.master (F.state fleet) (F.state m.fleet)) }
     ensures refused { IfErr result (λ e. DeclinesList config rebuilt.now (F.state fleet) e.0 (F.state e.1)) }
+    ensures full { IfErr result (λ e. e.0 ≡ Refusal.Full → CanBeAdopted config rebuilt.now.objects
+        → (F.state fleet).faults < (F.state e.1).faults) }
     ensures left { IfErr result (λ e. IsAdoptedOn config.master (F.state fleet) (F.state e.1)) }
     ensures spent { IfErr result (λ e. e.0 ≡ Refusal.Spent → (F.state e.1).takes ≡ (F.state e.1).end) }
 {
@@ -110,7 +114,7 @@ pub fn adopt_list<F: Fleet>(
 }
 
 /// Makes a master whose history begins with the list, as `adopt_list` does. If the call is refused, list and fleet
-/// come back.
+/// come back. After a refusal as Full `seglets_needed` says how many seglets another configuration has to have.
 pub fn adopt<F: Fleet>(
     alloc: Global,
     rebuilt: Rebuilt,
@@ -127,6 +131,8 @@ pub fn adopt<F: Fleet>(
     ensures fleet { IfOk result (λ m. IsAdoptedOn config.master (F.state fleet) (F.state m.fleet)) }
     ensures list { IfErr result (λ e. e.1 ≡ rebuilt) }
     ensures refused { IfErr result (λ e. DeclinesList config rebuilt (F.state fleet) e.0 (F.state e.2)) }
+    ensures full { IfErr result (λ e. e.0 ≡ Refusal.Full → CanBeAdopted config rebuilt.objects
+        → (F.state fleet).faults < (F.state e.2).faults) }
     ensures left { IfErr result (λ e. IsAdoptedOn config.master (F.state fleet) (F.state e.2)) }
     ensures spent { IfErr result (λ e. e.0 ≡ Refusal.Spent → (F.state e.2).takes ≡ (F.state e.2).end) }
 {

@@ -1,6 +1,7 @@
 use Rattle.std.proofs.Common.{ap, refl}
 use Rattle.driving.specs.master.World.{world}
 use Rattle.replay.proofs.AdoptedList.{adopted_is, adopts, all_done, adopted_from, stops_spent}
+use Rattle.replay.proofs.FullForFault.{full_at}
 use Rattle.replay.proofs.LoadList.{new_list}
 use Rattle.replay.proofs.LoadSteps.{all_keeps, stops_adopts}
 use Rattle.replay.proofs.adopting.adopt_list.Goals as goal
@@ -55,3 +56,11 @@ returns-in-Err-load_all-clause-spent g c = λ is.
     let now = world g.F.Fleet.state c.load_all.new.loading in
     rw c.crash.ensures
     (stops_spent c.args.rebuilt.now.objects start now c.in-Err-load_all.refusal c.in-Err-load_all.ensures.stopped is)
+
+pub returns-in-Err-load_all-clause-full : goal.returns-in-Err-load_all-clause-full
+returns-in-Err-load_all-clause-full g c = λ is can.
+    let start = world g.F.Fleet.state c.in-Ok.loading in
+    let now = world g.F.Fleet.state c.load_all.new.loading in
+    full_at c.args.config c.args.rebuilt.now start now _ _ c.in-Err-load_all.refusal c.requires.config
+    c.in-Ok.ensures.made.0 (ap g.F.Fleet.state c.in-Ok.ensures.made.1) c.in-Err-load_all.ensures.stopped
+    (ap g.F.Fleet.state c.crash.ensures) is can
