@@ -148,8 +148,8 @@ NeverHadAny opening history =
 -- ---- the headline
 
 -- A master took the steps, and gave the answers. As it stopped, the first 'durable' commands of its history were
--- durable: as many backups as replicas had answered Ok to each. 'pushes' is how many pushes an open failover still
--- needed then; it is 0 exactly if none was open. The master left this fleet. Some backups of it are kept, and the
+-- durable: as many backups as replicas had answered Ok to what each wrote. 'pushes' is how many pushes an open failover
+-- still needed then; it is 0 exactly if none was open. The master left this fleet. Some backups of it are kept, and the
 -- others are lost. A recovery from those that are kept, by this will and in this order, gave what is recovered. Beside
 -- this record it is said that the recovery read nothing else, and that what it names is really lost (*IsDrill*).
 pub record Headline (start : MasterAtStart) (steps : List Step) (answers : List (Result StepAnswer Refusal))

@@ -10,8 +10,8 @@ use packing::{NewLog, Sizes};
 
 /// How many seglets a master of this configuration needs to adopt the list, if no take ends in a fault. The number of
 /// seglets that the configuration has plays no part. None if no number is enough: the digest of a head has too few
-/// places for the segments that the list fills. Objects that the configuration finds too big are counted like others.
-/// It looks at each object once, and takes no memory.
+/// places for the segments that the list fills. Objects that are too big for the configuration are counted like others.
+/// The call looks at each object once, and takes no memory.
 pub fn seglets_needed(rebuilt: &Rebuilt, config: &Config) -> Option<u64>
     requires { config_fault config.now ≡ None }
     ensures needed { IfSome result (λ n. n ≡ needed_for config.now rebuilt.now.objects) }
