@@ -1,5 +1,5 @@
 -- Whose the records of a history are.
-use Rattle.std.specs.Prelude.{ℕ, ◌<◌, ◌==◌, List, All, count_by}
+use Rattle.std.specs.Prelude.{◌≡◌, ◌≤◌, ◌<◌, ◌==◌, ◌+◌, ◌*◌, ℕ, List, All, count_by}
 use Rattle.versioned_map.specs.declared.command.Record.{Record}
 
 -- how many of the records are a seat's
@@ -9,3 +9,10 @@ count_of seat records = count_by (λ (r : Record). r.seat == seat) records
 -- each record is one of these seats'
 abbrev pub AreOfSeats : ℕ → List Record → Type 0
 AreOfSeats seats records = All (λ (r : Record). r.seat < seats) records
+
+-- Each of these clients, whose seats are numbered from 1, made twice the rounds as records. No other seat made one.
+pub record AreAccepted (clients rounds : ℕ) (old new : List Record) : Type 0 where
+  pub own : count_of 0 new ≡ count_of 0 old
+  pub each : (k : ℕ) → 1 ≤ k → k ≤ clients → count_of k new ≡ count_of k old + 2 * rounds
+  pub idle : (k : ℕ) → clients < k → k < 64 → count_of k new ≡ count_of k old
+  pub seats : AreOfSeats 64 new

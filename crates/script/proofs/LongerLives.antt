@@ -9,7 +9,7 @@ use Rattle.next_master.specs.master.master_state.declared.config.Config.{Config}
 use Rattle.versioned_map.specs.Versioned.{State}
 use Rattle.next_master.specs.recovery.claims.declared.rebuilt.Rebuilt.{Rebuilt}
 use Rattle.next_master.specs.answers.declared.answer.Answer.{Answer}
-use Rattle.next_master.specs.store_clients.Workloads.{AreAccepted}
+use Rattle.history.specs.Seats.{AreAccepted}
 use Rattle.next_master.specs.answers.declared.answer.Answer.TheVariants as answer
 use Rattle.next_master.specs.recovery.Headline.{IsMapAfter}
 use Rattle.next_master.specs.node.Counted.{AreCounted}

@@ -11,10 +11,10 @@ use Rattle.counted_calls.specs.locked_log.store_seat.declared.fault.CallFault.{C
 use Rattle.counted_calls.specs.locked_log.Ends.{AreServed}
 use Rattle.counted_calls.specs.locked_log.store_seat.Seats.{SeatValue}
 use Rattle.counted_calls.specs.locked_log.Sharing.{AreSeatsAfter, seat_after}
-use Rattle.history.specs.Seats.{count_of, AreOfSeats}
+use Rattle.history.specs.Seats.{AreAccepted, count_of, AreOfSeats}
 use Rattle.store_clients.specs.declared.client.Client.{Client}
 use Rattle.store_clients.specs.Clients.{Matches, IsClient, HasMade, IsSeatOf}
-use Rattle.store_clients.specs.Workloads.{AreAccepted, HasServed, IsBack}
+use Rattle.store_clients.specs.Workloads.{HasServed, IsBack}
 use Rattle.store_clients.proofs.Matching.{matches_both}
 
 -- ---- places of lists

@@ -10,7 +10,8 @@ ghost use Rattle.counted_calls.specs.locked_log.Sharing.{AreSeatsAfter};
 ghost use Rattle.counted_calls.specs.master.Valid.{IsValid};
 ghost use Rattle.counted_calls.specs.master.World.{world};
 ghost use Rattle.store_clients.specs.Clients.{Matches};
-ghost use Rattle.store_clients.specs.Workloads.{AreAccepted, HasServed, IsBack};
+ghost use Rattle.history.specs.Seats.{AreAccepted};
+ghost use Rattle.store_clients.specs.Workloads.{HasServed, IsBack};
 
 use crate::client::Client;
 use crate::running::run_clients;
