@@ -5,6 +5,5 @@ pub mod Halted
 pub mod HowItEnds
 pub mod Later
 pub mod NextLife
-pub use Rattle.node.proofs.of_locked_log
 pub use Rattle.node.proofs.of_driving
 pub use Rattle.node.proofs as of_node

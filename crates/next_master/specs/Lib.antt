@@ -3,8 +3,6 @@ pub mod Numbers
 pub mod Succession
 pub mod Recoveries
 pub use Rattle.node.specs.master
-pub use Rattle.node.specs.locked_log
-pub use Rattle.node.specs.store_clients
 pub use Rattle.node.specs.driving
 pub use Rattle.node.specs.recovery
 pub use Rattle.node.specs.answers

@@ -12,6 +12,6 @@ mod recovering;
 mod setup;
 
 pub use node;
-pub use node::{answers, driving, locked_log, master, recovery, replay, store_clients};
+pub use node::{answers, driving, master, recovery, replay};
 pub use recovering::{Recovery, next_number, recover_node};
 pub use setup::{configuration, later_options, whole_will};

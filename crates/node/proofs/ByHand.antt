@@ -5,31 +5,31 @@ use Rattle.backup.specs.State.{fleet_state}
 use Rattle.backup.specs.declared.fleet.MemoryFleet.{MemoryFleet}
 use Rattle.lines.specs.Grammar.{LineValue}
 use Rattle.lines.specs.Grammar as grammar
-use Rattle.store_clients.specs.master.cleaner.declared.pass.Copied.{Copied}
-use Rattle.store_clients.specs.master.cleaner.declared.pass.Copied.TheVariants as copied
-use Rattle.store_clients.specs.master.master_state.declared.config.Config.{Config}
-use Rattle.store_clients.specs.master.master_state.declared.step.Refusal.{Refusal}
-use Rattle.store_clients.specs.master.master_state.declared.step.Step.{Step}
-use Rattle.store_clients.specs.master.master_state.declared.step.Step.TheVariants.{Apply, Push, BeginRoll, Compact, BeginClean, Copy, Seal}
-use Rattle.store_clients.specs.master.master_state.declared.step.Step.TheVariants.{Free}
-use Rattle.store_clients.specs.master.master_state.declared.step.StepAnswer.{StepAnswer}
-use Rattle.store_clients.specs.master.master_state.declared.step.StepAnswer.TheVariants.{Applied, Extended, Opened, Closed, Rolling}
-use Rattle.store_clients.specs.master.master_state.declared.step.StepAnswer.TheVariants.{Compacted, Begun, Moved, Carried, Dropped, Sealed}
-use Rattle.store_clients.specs.master.master_state.declared.step.StepAnswer.TheVariants.{Freed, Raised, Repaired}
-use Rattle.store_clients.specs.master.failover_model.Data.{FailData}
-use Rattle.store_clients.specs.master.failover_model.Shown.{Op}
-use Rattle.store_clients.specs.master.master_state.Data.{MasterData}
-use Rattle.store_clients.specs.master.master_state.Log.{log_of}
-use Rattle.store_clients.specs.master.master_state.Steps.{copy_answer}
-use Rattle.store_clients.specs.master.master_mending.declared.mending.Mend.{Mend}
-use Rattle.store_clients.specs.master.master_mending.declared.mending.Mend.TheVariants as mend
-use Rattle.store_clients.specs.master.master_mending.Mending.{backup_for, segment_for}
-use Rattle.store_clients.specs.master.Keeps.{Keeps}
-use Rattle.store_clients.specs.master.Mends.{answer_for}
-use Rattle.store_clients.specs.master.Pushes.{IsNextOp}
-use Rattle.store_clients.specs.master.Steps.{Accepts, Declines, Steps}
-use Rattle.store_clients.specs.master.Valid.{IsValid}
-use Rattle.store_clients.specs.master.World.{MasterValue, World, world}
+use Rattle.answers.specs.driving.master.cleaner.declared.pass.Copied.{Copied}
+use Rattle.answers.specs.driving.master.cleaner.declared.pass.Copied.TheVariants as copied
+use Rattle.answers.specs.driving.master.master_state.declared.config.Config.{Config}
+use Rattle.answers.specs.driving.master.master_state.declared.step.Refusal.{Refusal}
+use Rattle.answers.specs.driving.master.master_state.declared.step.Step.{Step}
+use Rattle.answers.specs.driving.master.master_state.declared.step.Step.TheVariants.{Apply, Push, BeginRoll, Compact, BeginClean, Copy, Seal}
+use Rattle.answers.specs.driving.master.master_state.declared.step.Step.TheVariants.{Free}
+use Rattle.answers.specs.driving.master.master_state.declared.step.StepAnswer.{StepAnswer}
+use Rattle.answers.specs.driving.master.master_state.declared.step.StepAnswer.TheVariants.{Applied, Extended, Opened, Closed, Rolling}
+use Rattle.answers.specs.driving.master.master_state.declared.step.StepAnswer.TheVariants.{Compacted, Begun, Moved, Carried, Dropped, Sealed}
+use Rattle.answers.specs.driving.master.master_state.declared.step.StepAnswer.TheVariants.{Freed, Raised, Repaired}
+use Rattle.answers.specs.driving.master.failover_model.Data.{FailData}
+use Rattle.answers.specs.driving.master.failover_model.Shown.{Op}
+use Rattle.answers.specs.driving.master.master_state.Data.{MasterData}
+use Rattle.answers.specs.driving.master.master_state.Log.{log_of}
+use Rattle.answers.specs.driving.master.master_state.Steps.{copy_answer}
+use Rattle.answers.specs.driving.master.master_mending.declared.mending.Mend.{Mend}
+use Rattle.answers.specs.driving.master.master_mending.declared.mending.Mend.TheVariants as mend
+use Rattle.answers.specs.driving.master.master_mending.Mending.{backup_for, segment_for}
+use Rattle.answers.specs.driving.master.Keeps.{Keeps}
+use Rattle.answers.specs.driving.master.Mends.{answer_for}
+use Rattle.answers.specs.driving.master.Pushes.{IsNextOp}
+use Rattle.answers.specs.driving.master.Steps.{Accepts, Declines, Steps}
+use Rattle.answers.specs.driving.master.Valid.{IsValid}
+use Rattle.answers.specs.driving.master.World.{MasterValue, World, world}
 use Rattle.answers.specs.declared.answer.Answer.{Answer}
 use Rattle.answers.specs.declared.answer.Answer.TheVariants as answer
 use Rattle.node.specs.declared.node.Node.{Node}

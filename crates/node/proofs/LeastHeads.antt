@@ -4,20 +4,16 @@ use Rattle.std.specs.Prelude.{Option, Some, None, IfSome}
 use Rattle.std.specs.Option.{option_map}
 use Rattle.backup.specs.State.{fleet_state, lost}
 use Rattle.backup.specs.declared.fleet.MemoryFleet.{MemoryFleet}
-use Rattle.lines.specs.Grammar.{LineValue, Idle, Put, New, Cas, Get, Del, Compact, Roll, BeginRoll, Push, Log, Room}
-use Rattle.lines.specs.Grammar.{Hex, Stop, Fault, Crash, Lose, Will, Recover, Holdings, Clean, Begin, Copy, Seal, Free}
-use Rattle.lines.specs.Grammar.{Clients, Format}
 use Rattle.replica.specs.Picture.{FleetState}
 use Rattle.replica.specs.Take.{limited}
 use Rattle.versioned_map.specs.declared.command.Command.{Command}
 use Rattle.versioned_map.specs.declared.command.Command.TheVariants as command
-use Rattle.versioned_map.specs.declared.command.If.TheVariants.{Any, Absent, Version}
-use Rattle.store_clients.specs.master.master_state.declared.config.Config.{Config}
-use Rattle.store_clients.specs.master.master_state.declared.step.Step.{Step}
-use Rattle.store_clients.specs.master.master_state.declared.step.Step.TheVariants as step
-use Rattle.store_clients.specs.master.master_state.Data.{MasterData}
-use Rattle.store_clients.specs.master.Registry.{AreUnraisedAbove}
-use Rattle.store_clients.specs.master.World.{MasterValue, World, world}
+use Rattle.answers.specs.driving.master.master_state.declared.config.Config.{Config}
+use Rattle.answers.specs.driving.master.master_state.declared.step.Step.{Step}
+use Rattle.answers.specs.driving.master.master_state.declared.step.Step.TheVariants as step
+use Rattle.answers.specs.driving.master.master_state.Data.{MasterData}
+use Rattle.answers.specs.driving.master.Registry.{AreUnraisedAbove}
+use Rattle.answers.specs.driving.master.World.{MasterValue, World, world}
 use Rattle.answers.specs.declared.answer.Answer.{Answer}
 use Rattle.answers.specs.declared.answer.Answer.TheVariants as answer
 use Rattle.answers.proofs.of_driving.LeastHeads.{SameLeast, step_least, rolls_leave, cleans_leave, command_leaves}
@@ -25,7 +21,7 @@ use Rattle.node.specs.declared.node.Node.{Node}
 use Rattle.node.specs.declared.node.Node.TheVariants.{Up, Down, Changing}
 use Rattle.node.specs.Lives.{Position}
 use Rattle.node.specs.Served.{fleet_of, world_of, IsLeftIn, IsNodeAt, MakesStep, MakesRoll, MakesClean}
-use Rattle.node.specs.Served.{MakesClients, MakesCommand, MakesLine, LosesOne}
+use Rattle.node.specs.Served.{MakesCommand, LosesOne}
 
 -- of each master with a greater number than this any head may be used
 abbrev pub IsUnraisedAbove : ℕ → Option FleetState → Type 0
@@ -117,12 +113,6 @@ module _ (number : ℕ) where
   command_made (Down fleet) c new a is below = same_node (Down fleet) new is.0
   command_made Changing c new a is below = same_node Changing new is.0
 
-  clients_made : (old : Node) (clients rounds : ℕ) (new : Node) (a : Answer) → MakesClients old clients rounds new a
-      → IsUpTo number old → StaysUnraised number old new
-  clients_made (Up m) clients rounds new a is below = made m is.1 a new is.4 below is.2.goes_on.least
-  clients_made (Down fleet) clients rounds new a is below = same_node (Down fleet) new is.0
-  clients_made Changing clients rounds new a is below = same_node Changing new is.0
-
   -- ---- what is done to the fleet
 
   limited_unraised : (n : ℕ) (o : Option FleetState) → IsUnraisedAbove number o
@@ -139,40 +129,3 @@ module _ (number : ℕ) where
   loses_unraised (Up m) backup new is are = same_node (Up m) new is are
   loses_unraised (Down fleet) backup new is are = with_fleet new (lost (fleet_state fleet) backup) is.1 are
   loses_unraised Changing backup new is are = subst (λ (o : Option FleetState). IsUnraisedAbove number o) (sym is.1) tt
-
-  -- ---- any line
-
-  pub line_unraised : (old : Node) (line : LineValue) (new : Node) (a : Answer) → MakesLine old line new a
-      → IsUpTo number old → StaysUnraised number old new
-  line_unraised old Roll new a is below = roll_made old new a is below
-  line_unraised old BeginRoll new a is below = step_made old step.BeginRoll new a is below
-  line_unraised old (Compact segment) new a is below = step_made old (step.Compact segment) new a is below
-  line_unraised old Push new a is below = step_made old step.Push new a is below
-  line_unraised old (Clean victims) new a is below = clean_made old victims new a is below
-  line_unraised old (Begin victims) new a is below = step_made old (step.BeginClean victims) new a is below
-  line_unraised old Copy new a is below = step_made old step.Copy new a is below
-  line_unraised old Seal new a is below = step_made old step.Seal new a is below
-  line_unraised old Free new a is below = step_made old step.Free new a is below
-  line_unraised old Idle new a is below = same_node old new is
-  line_unraised old (Hex segment) new a is below = same_node old new is.0
-  line_unraised old Log new a is below = same_node old new is.0
-  line_unraised old Room new a is below = same_node old new is.0
-  line_unraised old Holdings new a is below = same_node old new is.0
-  line_unraised old Will new a is below = same_node old new is
-  line_unraised old (Stop takes) new a is below = stops_unraised old takes new is.1
-  line_unraised old (Fault takes taken) new a is below = same_fleet old new is.1
-  line_unraised old Format new a is below = same_node old new is
-  line_unraised old Crash new a is below = same_fleet old new is.1
-  line_unraised old (Lose backup) new a is below = loses_unraised old backup new is
-  line_unraised old (Recover order) new a is below = absurd is
-  line_unraised old (Clients clients rounds passes) new a is below = clients_made old clients rounds new a is below
-  line_unraised old (Put table key value) new a is below =
-      command_made old (command.Put (record { table = table; bytes = key }) value Any) new a is below
-  line_unraised old (New table key value) new a is below =
-      command_made old (command.Put (record { table = table; bytes = key }) value Absent) new a is below
-  line_unraised old (Cas table key version value) new a is below =
-      command_made old (command.Put (record { table = table; bytes = key }) value (Version version)) new a is below
-  line_unraised old (Get table key) new a is below =
-      command_made old (command.Get (record { table = table; bytes = key })) new a is below
-  line_unraised old (Del table key) new a is below =
-      command_made old (command.Delete (record { table = table; bytes = key })) new a is below

@@ -6,10 +6,8 @@ pub mod Willed
 pub mod Steps
 pub mod Tries
 pub mod ByHand
-pub mod ClientLines
 pub mod Downs
 pub mod LeastHeads
-pub use Rattle.store_clients.proofs.of_master
-pub use Rattle.store_clients.proofs.of_locked_log
+pub use Rattle.answers.proofs.of_driving.of_master
 pub use Rattle.answers.proofs.of_driving
 pub use Rattle.answers.proofs.of_recovery

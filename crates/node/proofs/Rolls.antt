@@ -5,11 +5,11 @@ use Rattle.std.specs.Prelude.{Some, None}
 use Rattle.lines.specs.Grammar.{LineValue, Roll}
 use Rattle.replica.specs.Picture.{FleetState}
 use Rattle.versioned_map.specs.declared.command.Command.{Command}
-use Rattle.store_clients.specs.master.master_state.declared.config.Config.{Config}
-use Rattle.store_clients.specs.master.master_state.declared.step.Refusal.{Refusal}
-use Rattle.store_clients.specs.master.master_state.declared.step.Refusal.TheVariants as refusal
-use Rattle.store_clients.specs.master.master_state.Data.{MasterData}
-use Rattle.store_clients.specs.master.Valid.{IsValid}
+use Rattle.answers.specs.driving.master.master_state.declared.config.Config.{Config}
+use Rattle.answers.specs.driving.master.master_state.declared.step.Refusal.{Refusal}
+use Rattle.answers.specs.driving.master.master_state.declared.step.Refusal.TheVariants as refusal
+use Rattle.answers.specs.driving.master.master_state.Data.{MasterData}
+use Rattle.answers.specs.driving.master.Valid.{IsValid}
 use Rattle.answers.specs.declared.answer.Answer.{Answer}
 use Rattle.answers.specs.declared.answer.Answer.TheVariants as answer
 use Rattle.node.specs.declared.node.Node.{Node}

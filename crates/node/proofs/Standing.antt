@@ -13,13 +13,13 @@ use Rattle.versioned_map.specs.History.{IsLegal}
 use Rattle.versioned_map.specs.declared.command.Record.{Record}
 use Rattle.versioned_map.specs.declared.command.Reply.{Reply}
 use Rattle.entry.specs.Meaning.{contents_of}
-use Rattle.store_clients.specs.master.failover_model.Data.{durable_of}
-use Rattle.store_clients.specs.master.master_state.declared.config.Config.{Config}
-use Rattle.store_clients.specs.master.master_state.Data.{Origin, MasterData}
-use Rattle.store_clients.specs.master.master_state.Log.{opening_of, log_of}
-use Rattle.store_clients.specs.master.Valid.{IsValid}
-use Rattle.store_clients.specs.master.World.{MasterValue}
-use Rattle.store_clients.specs.master.master_state.declared.step.Step.{Step}
+use Rattle.answers.specs.driving.master.failover_model.Data.{durable_of}
+use Rattle.answers.specs.driving.master.master_state.declared.config.Config.{Config}
+use Rattle.answers.specs.driving.master.master_state.Data.{Origin, MasterData}
+use Rattle.answers.specs.driving.master.master_state.Log.{opening_of, log_of}
+use Rattle.answers.specs.driving.master.Valid.{IsValid}
+use Rattle.answers.specs.driving.master.World.{MasterValue}
+use Rattle.answers.specs.driving.master.master_state.declared.step.Step.{Step}
 use Rattle.answers.specs.declared.answer.Answer.{Answer}
 use Rattle.answers.specs.declared.answer.Answer.TheVariants as answer
 use Rattle.node.specs.declared.node.Node.{Node}

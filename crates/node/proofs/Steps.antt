@@ -3,25 +3,24 @@ use Rattle.std.proofs.Common.{[], ◌≡◌, ℕ, true, List, refl, sym, ap, sub
 use Rattle.std.proofs.lemmas.List.{append-nil}
 use Rattle.std.specs.Prelude.{Option, Some, None, IfSome, Result, Ok, Err, IfOk, OnErr}
 use Rattle.std.specs.Option.{option_map}
-use Rattle.lines.specs.Grammar.{LineValue, Idle, Roll, BeginRoll, Compact, Push, Clean, Begin, Copy, Seal, Free, Will}
-use Rattle.lines.specs.Grammar.{Hex, Log, Room, Holdings, Stop, Fault, Format, Crash, Lose, Recover, Clients}
+use Rattle.lines.specs.Grammar.{LineValue, Roll, Clean}
+use Rattle.lines.specs.Grammar.{Holdings}
 use Rattle.std.specs.declared.alloc.AllocError.{AllocError}
-use Rattle.store_clients.specs.master.cleaner.declared.survivors.Survivors.{Survivors}
+use Rattle.answers.specs.driving.master.cleaner.declared.survivors.Survivors.{Survivors}
 use Rattle.replica.specs.declared.label.Label.{Label}
 use Rattle.backup.specs.Inventory.{AreRising}
 use Rattle.backup.specs.State.{HoldsAny}
 use Rattle.replica.specs.Picture.{FleetState, AreLabelsOf}
-use Rattle.versioned_map.specs.declared.command.Command.{Command}
 use Rattle.replica.specs.Take.{limited, no_limit}
-use Rattle.store_clients.specs.master.master_state.declared.config.Config.{Config}
-use Rattle.store_clients.specs.master.master_state.declared.step.Refusal.{Refusal}
-use Rattle.store_clients.specs.master.master_state.declared.step.Refusal.TheVariants as refusal
-use Rattle.store_clients.specs.master.master_state.declared.step.Step.{Step}
-use Rattle.store_clients.specs.master.master_state.declared.step.StepAnswer.{StepAnswer}
-use Rattle.store_clients.specs.master.master_state.Data.{MasterData}
-use Rattle.store_clients.specs.master.Steps.{Steps}
-use Rattle.store_clients.specs.master.World.{World}
-use Rattle.store_clients.specs.master.Valid.{IsValid}
+use Rattle.answers.specs.driving.master.master_state.declared.config.Config.{Config}
+use Rattle.answers.specs.driving.master.master_state.declared.step.Refusal.{Refusal}
+use Rattle.answers.specs.driving.master.master_state.declared.step.Refusal.TheVariants as refusal
+use Rattle.answers.specs.driving.master.master_state.declared.step.Step.{Step}
+use Rattle.answers.specs.driving.master.master_state.declared.step.StepAnswer.{StepAnswer}
+use Rattle.answers.specs.driving.master.master_state.Data.{MasterData}
+use Rattle.answers.specs.driving.master.Steps.{Steps}
+use Rattle.answers.specs.driving.master.World.{World}
+use Rattle.answers.specs.driving.master.Valid.{IsValid}
 use Rattle.answers.specs.declared.answer.Answer.{Answer}
 use Rattle.answers.specs.declared.answer.Answer.TheVariants as answer
 use Rattle.node.specs.declared.node.Node.{Node}
@@ -29,9 +28,9 @@ use Rattle.node.specs.Lives.{Life, life_to, HasLived, Left, IsLeftBySpent, Posit
 use Rattle.answers.specs.driving.Cleans.{Cleans}
 use Rattle.answers.specs.driving.Rolls.{Rolls}
 use Rattle.answers.specs.driving.Served.{LivesOn, IsSpent}
-use Rattle.node.specs.Served.{IsOf, IsNodeAt, Refuses, fleet_of, life_of, held_answer, IsLeftIn, MakesCommand}
-use Rattle.node.specs.Served.{MakesLine, ShowsFleet, refusal_answer, world_of}
-use Rattle.node.specs.Told.{command_of, pushes, is_for_master, IsStepAt, IsRollAt, IsCleanAt, IsStepRefusal}
+use Rattle.node.specs.Served.{IsOf, IsNodeAt, Refuses, fleet_of, life_of, held_answer, IsLeftIn}
+use Rattle.node.specs.Served.{ShowsFleet, refusal_answer, world_of}
+use Rattle.node.specs.Told.{pushes, is_for_master, IsStepAt, IsRollAt, IsCleanAt, IsStepRefusal}
 use Rattle.node.specs.Told.{AreHeldAt, TellsNoStep, Tells}
 use Rattle.node.proofs.Rolls.{no_step_told}
 use Rattle.node.proofs.Standing.{Answered, still_stands, lived, lived_longer}
@@ -140,35 +139,6 @@ refused_left mid new w r a up fleet (inr (is, spent, dropped, (down, lifted))) =
         ∙ ap (λ (o : Option FleetState). option_map (λ (f : FleetState). limited f no_limit) o) fleet,
   ),
 )
-
--- what a command's line makes is what its command does
-pub command_makes : (old : Node) (line : LineValue) (new : Node) (a : Answer) (command : Command)
-    → command_of line ≡ Some command
-    → MakesCommand old command new a → MakesLine old line new a
-command_makes old Roll new a command asks makes = absurd (cc)
-command_makes old BeginRoll new a command asks makes = absurd (cc)
-command_makes old (Compact segment) new a command asks makes = absurd (cc)
-command_makes old Push new a command asks makes = absurd (cc)
-command_makes old (Clean victims) new a command asks makes = absurd (cc)
-command_makes old (Begin victims) new a command asks makes = absurd (cc)
-command_makes old Copy new a command asks makes = absurd (cc)
-command_makes old Seal new a command asks makes = absurd (cc)
-command_makes old Free new a command asks makes = absurd (cc)
-command_makes old Idle new a command asks makes = absurd (cc)
-command_makes old (Hex segment) new a command asks makes = absurd (cc)
-command_makes old Log new a command asks makes = absurd (cc)
-command_makes old Room new a command asks makes = absurd (cc)
-command_makes old Holdings new a command asks makes = absurd (cc)
-command_makes old Will new a command asks makes = absurd (cc)
-command_makes old (Stop takes) new a command asks makes = absurd (cc)
-command_makes old (Fault takes taken) new a command asks makes = absurd (cc)
-command_makes old Format new a command asks makes = absurd (cc)
-command_makes old Crash new a command asks makes = absurd (cc)
-command_makes old (Lose backup) new a command asks makes = absurd (cc)
-command_makes old (Recover order) new a command asks makes = absurd (cc)
-command_makes old (Clients clients rounds passes) new a command asks makes = absurd (cc)
-command_makes old line new a command asks makes =
-    subst (λ (o : Option Command). IfSome o (λ (c : Command). MakesCommand old c new a)) (sym asks) makes
 
 -- ---- what backups hold
 

@@ -9,13 +9,13 @@ use Rattle.lines.specs.Grammar.{LineValue}
 use Rattle.versioned_map.specs.declared.command.Command.{Command}
 use Rattle.versioned_map.specs.declared.command.Record.{Record}
 use Rattle.versioned_map.specs.declared.command.Reply.{Reply}
-use Rattle.store_clients.specs.master.master_state.declared.step.Refusal.{Refusal}
-use Rattle.store_clients.specs.master.master_state.declared.step.Refusal.TheVariants as refusal
-use Rattle.store_clients.specs.master.master_state.declared.step.Step.TheVariants.{Apply, Push}
-use Rattle.store_clients.specs.master.master_state.Causes.{is_done}
-use Rattle.store_clients.specs.master.master_state.Data.{MasterData}
-use Rattle.store_clients.specs.master.Steps.{Declines}
-use Rattle.store_clients.specs.master.World.{MasterValue, World, world}
+use Rattle.answers.specs.driving.master.master_state.declared.step.Refusal.{Refusal}
+use Rattle.answers.specs.driving.master.master_state.declared.step.Refusal.TheVariants as refusal
+use Rattle.answers.specs.driving.master.master_state.declared.step.Step.TheVariants.{Apply, Push}
+use Rattle.answers.specs.driving.master.master_state.Causes.{is_done}
+use Rattle.answers.specs.driving.master.master_state.Data.{MasterData}
+use Rattle.answers.specs.driving.master.Steps.{Declines}
+use Rattle.answers.specs.driving.master.World.{MasterValue, World, world}
 use Rattle.answers.specs.declared.answer.Answer.{Answer}
 use Rattle.answers.specs.declared.answer.Answer.TheVariants as answer
 use Rattle.node.specs.declared.node.Node.{Node}

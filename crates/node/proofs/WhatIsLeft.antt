@@ -12,9 +12,9 @@ use Rattle.entry.specs.Bag.{IsAmong}
 use Rattle.replica.specs.declared.holding.Holding.{Holding}
 use Rattle.replica.specs.declared.label.Label.{Label}
 use Rattle.replica.specs.Picture.{Replica, FleetState, left_on, AreHeld, AreLabelsOf}
-use Rattle.store_clients.specs.master.master_state.declared.config.Config.{Config}
-use Rattle.store_clients.specs.master.master_state.Data.{MasterData}
-use Rattle.store_clients.specs.master.Valid.{IsValid}
+use Rattle.answers.specs.driving.master.master_state.declared.config.Config.{Config}
+use Rattle.answers.specs.driving.master.master_state.Data.{MasterData}
+use Rattle.answers.specs.driving.master.Valid.{IsValid}
 use Rattle.answers.specs.recovery.Kept.{is_kept}
 use Rattle.answers.specs.declared.answer.Answer.TheVariants as answer
 use Rattle.node.specs.declared.node.Node.{Node}

@@ -1,14 +1,14 @@
 -- The coordinator's will, and what is told of it.
 use Rattle.std.proofs.Common.{◌≡◌, ◌∙◌, ℕ, List, refl, sym, ap, subst, inl, take}
-use Rattle.store_clients.specs.master.master_state.Log.{opening_of}
+use Rattle.answers.specs.driving.master.master_state.Log.{opening_of}
 use Rattle.versioned_map.specs.History.{commands_of}
 use Rattle.versioned_map.specs.declared.command.Record.{Record}
 use Rattle.versioned_map.specs.Versioned.{after}
-use Rattle.store_clients.specs.master.master_state.declared.config.Config.{Config}
-use Rattle.store_clients.specs.master.master_state.Data.{MasterData}
+use Rattle.answers.specs.driving.master.master_state.declared.config.Config.{Config}
+use Rattle.answers.specs.driving.master.master_state.Data.{MasterData}
 use Rattle.tablet_will.specs.declared.part.Part.{Part}
 use Rattle.std.proofs.Math.Seq.{take-length}
-use Rattle.store_clients.specs.master.master_state.Sizes.{AreSizesOf}
+use Rattle.answers.specs.driving.master.master_state.Sizes.{AreSizesOf}
 use Rattle.tablet_will.specs.Rule.{parts_by_rule}
 use Rattle.node.specs.declared.node.Node.{Node}
 use Rattle.answers.specs.declared.limits.Limits.{Limits}

@@ -1,29 +1,8 @@
--- What clients make of a master, and what their line tells of its life.
-use Rattle.std.specs.Prelude.{◌≡◌, ◌≤◌, ℕ, ◌*◌, take, length, Option, None, Result, IfOk, OnOk}
+-- What a line of clients tells of the life of a node's master.
+use Rattle.std.specs.Prelude.{◌≡◌, ◌≤◌, ℕ, ◌*◌, take, Option, None}
 use Rattle.lines.specs.Grammar.{LineValue, Clients}
-use Rattle.store_clients.specs.locked_log.store_seat.declared.fault.CallFault.{CallFault}
-use Rattle.store_clients.specs.locked_log.Made.{IsMade, made_now}
-use Rattle.store_clients.specs.master.failover_model.Data.{durable_of}
-use Rattle.store_clients.specs.master.Valid.{IsValid}
-use Rattle.store_clients.specs.master.World.{World}
-use Rattle.store_clients.specs.master.master_state.Log.{log_of}
-use Rattle.store_clients.specs.Workloads.{AreAccepted}
+use Rattle.history.specs.Seats.{AreAccepted}
 use Rattle.node.specs.Lives.{Life, Left, Position}
-
--- ---- a master
-
--- Clients made their rounds over a master, which went on with its history, and no least head was raised. The result is
--- how many of their calls were accepted, or the first refusal. If none was refused, two calls were accepted for each
--- round of each client. Then the client with seat k, from 1 on, made just its records, no other seat made one, and all
--- records are durable.
-pub record RunsClients (clients rounds : ℕ) (old : World) (calls : Result ℕ CallFault) (new : World) : Type 0 where
-  pub goes_on : IsMade (made_now 64 old) new
-  pub valid : IsValid new.knows new.fleet
-  pub count : IfOk calls (λ (n : ℕ). n ≡ 2 * rounds * clients)
-  pub durable : OnOk calls (durable_of (log_of new.knows) ≡ length new.knows.history)
-  pub accepted : OnOk calls (AreAccepted clients rounds old.knows.history new.knows.history)
-
--- ---- its life
 
 -- the line asks for this many clients, each with this many rounds
 abbrev pub AsksClients : LineValue → ℕ → ℕ → Type 0

@@ -5,9 +5,7 @@ pub mod Counted
 pub mod Told
 pub mod Served
 pub mod Waits
-pub use Rattle.store_clients.specs.master
-pub use Rattle.store_clients.specs.locked_log
-pub use Rattle.store_clients.specs as store_clients
+pub use Rattle.answers.specs.driving.master
 pub use Rattle.answers.specs.driving
 pub use Rattle.answers.specs.replay
 pub use Rattle.answers.specs.recovery

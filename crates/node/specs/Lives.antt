@@ -3,13 +3,13 @@ use Rattle.std.specs.Prelude.{◌≡◌, ℕ, List, [], not, Bool, true, take, O
 use Rattle.replica.specs.Picture.{FleetState, Shown, shown_of}
 use Rattle.versioned_map.specs.declared.command.Record.{Record}
 use Rattle.versioned_map.specs.Versioned.{State}
-use Rattle.store_clients.specs.master.master_state.declared.config.Config.{Config}
-use Rattle.store_clients.specs.master.master_state.Data.{MasterData}
-use Rattle.store_clients.specs.master.log_model.Ids.{has}
-use Rattle.store_clients.specs.master.failover_model.Data.{homes}
-use Rattle.store_clients.specs.master.failover_bytes.Choice.{newest_opened}
-use Rattle.store_clients.specs.master.master_state.Log.{log_of, opening_of}
-use Rattle.store_clients.specs.master.Valid.{IsValid}
+use Rattle.answers.specs.driving.master.master_state.declared.config.Config.{Config}
+use Rattle.answers.specs.driving.master.master_state.Data.{MasterData}
+use Rattle.answers.specs.driving.master.log_model.Ids.{has}
+use Rattle.answers.specs.driving.master.failover_model.Data.{homes}
+use Rattle.answers.specs.driving.master.failover_bytes.Choice.{newest_opened}
+use Rattle.answers.specs.driving.master.master_state.Log.{log_of, opening_of}
+use Rattle.answers.specs.driving.master.Valid.{IsValid}
 use Rattle.answers.specs.recovery.Kept.{is_kept}
 
 -- the state that a master began with, and its records

@@ -1,52 +1,44 @@
 -- What a node stands for, and what its lines do to it.
 use Rattle.std.specs.Prelude.{◌≡◌, ◌⊎◌, ℕ, ◌≤◌, List, ◌++◌, Bool, true, false, Option, Some, None, length, Result, Ok}
-use Rattle.std.specs.Prelude.{Err, IfSome, OnOk, IsTrue}
+use Rattle.std.specs.Prelude.{Err, IfSome}
 use Rattle.backup.specs.State.{fleet_state, lost, HoldsAny}
 use Rattle.backup.specs.declared.fleet.Asked.{Asked}
-use Rattle.backup.specs.declared.fleet.MemoryFleet.{MemoryFleet}
-use Rattle.lines.specs.Grammar.{LineValue, Idle, Roll, BeginRoll, Compact, Push, Clean, Begin, Copy, Seal, Free, Will}
-use Rattle.lines.specs.Grammar.{Recover, Hex, Log, Room, Stop, Fault, Crash, Lose, Holdings as HoldingsLine, Clients}
-use Rattle.lines.specs.Grammar.{Format}
-use Rattle.store_clients.specs.locked_log.store_seat.declared.fault.CallFault.{CallFault}
-use Rattle.store_clients.specs.locked_log.store_seat.declared.fault.CallFault.TheVariants as call_fault
+use Rattle.lines.specs.Grammar.{LineValue, BeginRoll, Compact, Push, Begin, Copy, Seal, Free, Will}
 use Rattle.std.specs.Option.{option_map}
 use Rattle.std.specs.declared.alloc.AllocError.{AllocError}
-use Rattle.store_clients.specs.master.cleaner.declared.survivors.Survivors.{Survivors}
+use Rattle.answers.specs.driving.master.cleaner.declared.survivors.Survivors.{Survivors}
 use Rattle.replica.specs.declared.label.Label.{Label}
 use Rattle.replica.specs.Picture.{FleetState, AreLabelsOf, left_on, shown_of}
 use Rattle.replica.specs.Take.{limited, no_limit}
 use Rattle.versioned_map.specs.declared.command.Command.{Command}
 use Rattle.versioned_map.specs.declared.command.Record.{Record}
 use Rattle.versioned_map.specs.declared.command.Reply.{Reply}
-use Rattle.store_clients.specs.master.failover_model.Data.{homes, durable_of}
-use Rattle.store_clients.specs.master.failover_bytes.Choice.{newest_opened}
-use Rattle.store_clients.specs.master.master_state.declared.config.Config.{Config}
-use Rattle.store_clients.specs.master.master_state.declared.step.Refusal.{Refusal}
-use Rattle.store_clients.specs.master.master_state.declared.step.Refusal.TheVariants.{NoMemory, Spent}
-use Rattle.store_clients.specs.master.master_state.declared.step.Step.{Step}
-use Rattle.store_clients.specs.master.master_state.declared.step.Step.TheVariants as step
-use Rattle.store_clients.specs.master.master_state.declared.step.StepAnswer.{StepAnswer}
-use Rattle.store_clients.specs.master.master_state.declared.step.StepAnswer.TheVariants as step_answer
-use Rattle.store_clients.specs.master.master_state.Data.{MasterData}
-use Rattle.store_clients.specs.master.master_state.Log.{opening_of, log_of}
-use Rattle.store_clients.specs.master.Steps.{Steps}
-use Rattle.store_clients.specs.master.Valid.{IsValid}
-use Rattle.store_clients.specs.master.World.{MasterValue, World, limited_world, world}
+use Rattle.answers.specs.driving.master.failover_model.Data.{homes, durable_of}
+use Rattle.answers.specs.driving.master.failover_bytes.Choice.{newest_opened}
+use Rattle.answers.specs.driving.master.master_state.declared.config.Config.{Config}
+use Rattle.answers.specs.driving.master.master_state.declared.step.Refusal.{Refusal}
+use Rattle.answers.specs.driving.master.master_state.declared.step.Refusal.TheVariants.{NoMemory, Spent}
+use Rattle.answers.specs.driving.master.master_state.declared.step.Step.{Step}
+use Rattle.answers.specs.driving.master.master_state.declared.step.Step.TheVariants as step
+use Rattle.answers.specs.driving.master.master_state.declared.step.StepAnswer.{StepAnswer}
+use Rattle.answers.specs.driving.master.master_state.declared.step.StepAnswer.TheVariants as step_answer
+use Rattle.answers.specs.driving.master.master_state.Data.{MasterData}
+use Rattle.answers.specs.driving.master.master_state.Log.{opening_of, log_of}
+use Rattle.answers.specs.driving.master.Steps.{Steps}
+use Rattle.answers.specs.driving.master.Valid.{IsValid}
+use Rattle.answers.specs.driving.master.World.{World, limited_world, world}
 use Rattle.answers.specs.declared.answer.Answer.{Answer}
 use Rattle.answers.specs.declared.answer.Answer.TheVariants.{Refused, Stopped, Holdings, Reply as Replied, Head}
 use Rattle.answers.specs.declared.answer.Answer.TheVariants.{Opening, Compacted, Extended, Opened, Closed, Begun}
-use Rattle.answers.specs.declared.answer.Answer.TheVariants.{Moved, Carried, Dropped, Sealed, Freed, Cleaned, Counted}
+use Rattle.answers.specs.declared.answer.Answer.TheVariants.{Moved, Carried, Dropped, Sealed, Freed, Cleaned}
 use Rattle.answers.specs.declared.answer.Answer.TheVariants as answers
 use Rattle.node.specs.declared.node.Node.{Node}
 use Rattle.node.specs.declared.node.Node.TheVariants.{Up, Down, Changing}
 use Rattle.node.specs.Lives.{Life, Left, left_now, is_left, Position}
 use Rattle.answers.specs.driving.Cleans.{Cleans}
 use Rattle.answers.specs.driving.Commands.{RunsCommand}
-use Rattle.node.specs.Counted.{RunsClients}
 use Rattle.answers.specs.driving.Rolls.{Rolls}
-use Rattle.node.specs.Shows.{ShowsDigest, ShowsRoom, ShowsImage}
-use Rattle.answers.specs.driving.Served.{IsSpent}
-use Rattle.node.specs.Told.{command_of, Tells}
+use Rattle.node.specs.Told.{Tells}
 use Rattle.tablet_will.specs.declared.part.Part.{Part}
 use Rattle.tablet_will.specs.Parts.{Divides}
 
@@ -188,56 +180,6 @@ MakesCommand (Up m) command new answer = (result : Result Reply Refusal) × (w :
     × RunsCommand (world fleet_state m) command result w × (answer ≡ reply_told result) × IsLeftIn w answer new
 MakesCommand old command new answer = (new ≡ old) × (answer ≡ answers.Down)
 
--- ---- clients
-
--- the answer to a refusal of clients over this fleet; for Spent it is Stopped if the fleet takes no more ops
-abbrev pub IsClientsRefusal : FleetState → Refusal → Answer → Type 0
-IsClientsRefusal f Spent answer =
-    ((answer ≡ Stopped) × IsSpent f) ⊎ ((answer ≡ answers.SeatUnknown) × (IsSpent f → ⊥))
-IsClientsRefusal f r answer = answer ≡ Refused r
-
--- what is answered to clients over this fleet: the count of their calls, or the first refusal
-abbrev pub IsClientsAnswer : FleetState → ℕ → ℕ → Result ℕ CallFault → Answer → Type 0
-IsClientsAnswer f clients rounds (Ok calls) answer = answer ≡ Counted clients rounds calls
-IsClientsAnswer f clients rounds (Err (call_fault.Refused r)) answer = IsClientsRefusal f r answer
-IsClientsAnswer f clients rounds (Err (call_fault.Unsure place r)) answer = IsClientsRefusal f r answer
-IsClientsAnswer f clients rounds (Err call_fault.SeatUnknown) answer = answer ≡ answers.SeatUnknown
-IsClientsAnswer f clients rounds (Err call_fault.CellRefused) answer = answer ≡ answers.CellRefused
--- clients settle nothing, so this never comes
-IsClientsAnswer f clients rounds (Err call_fault.NotYours) answer = answer ≡ answers.SeatUnknown
-
--- Clients made their rounds over a master, and the node has it again. If no call was refused, the store could tell
--- whose its records were.
-pub record Lends (m : MasterValue MemoryFleet) (clients rounds : ℕ) (calls : Result ℕ CallFault) (known : Bool)
-    (new : Node) : Type 0 where
-  pub back : MasterValue MemoryFleet
-  pub is : new ≡ Up back
-  pub runs : RunsClients clients rounds (world fleet_state m) calls (world fleet_state back)
-  pub tells : OnOk calls (IsTrue known)
-
--- A refusal of clients is answered as any other. But if it is Spent, and the fleet takes more ops, the answer is
--- SeatUnknown, and nothing changed.
-abbrev pub RefusesWork : Node → Refusal → Node → Answer → Type 0
-RefusesWork old Spent new answer = (Refuses old Spent new answer × IfSome (fleet_of old) IsSpent)
-    ⊎ ((answer ≡ answers.SeatUnknown) × (new ≡ old) × (IfSome (fleet_of old) IsSpent → ⊥))
-RefusesWork old r new answer = Refuses old r new answer
-
--- the first refusal of clients is answered
-abbrev pub RefusesCall : Node → CallFault → Node → Answer → Type 0
-RefusesCall old (call_fault.Refused r) new answer = RefusesWork old r new answer
-RefusesCall old (call_fault.Unsure place r) new answer = RefusesWork old r new answer
-RefusesCall old call_fault.SeatUnknown new answer = (answer ≡ answers.SeatUnknown) × (new ≡ old)
-RefusesCall old call_fault.CellRefused new answer = (answer ≡ answers.CellRefused) × (new ≡ old)
-RefusesCall old call_fault.NotYours new answer = (answer ≡ answers.SeatUnknown) × (new ≡ old)
-
--- Just these clients make their rounds over the master of a node that is up, and the answer tells what comes of them.
--- Any other node does nothing.
-abbrev pub MakesClients : Node → ℕ → ℕ → Node → Answer → Type 0
-MakesClients (Up m) clients rounds new answer = (calls : Result ℕ CallFault) × (w : World)
-    × RunsClients clients rounds (world fleet_state m) calls w × IsClientsAnswer w.fleet clients rounds calls answer
-    × IsLeftIn w answer new
-MakesClients old clients rounds new answer = (new ≡ old) × (answer ≡ answers.Down)
-
 -- ---- lines
 
 -- the same life, with more records or as many
@@ -297,35 +239,6 @@ abbrev pub ShowsFleet : Node → Answer → Type 0
 ShowsFleet node (Holdings labels) = IfSome (fleet_of node) (λ (f : FleetState). AreLabelsOf f.picture labels)
 ShowsFleet node (Refused NoMemory) = IfSome (fleet_of node) (λ (f : FleetState). HoldsAny f.picture)
 ShowsFleet node answer = (answer ≡ answers.Down) × (fleet_of node ≡ None)
-
--- What a line makes of the node: just the steps of its command, its step, its roll, its cleaning, or the rounds of its
--- clients. A line that shows something changes nothing, and shows what this node has. A stop sets just the limit that
--- it names, a line of a fault asks for just this fault, a format changes nothing of this master, and a crash leaves
--- just the fleet. What a recovery makes is said of the session, in `script`.
-abbrev pub MakesLine : Node → LineValue → Node → Answer → Type 0
-MakesLine old Roll new answer = MakesRoll old new answer
-MakesLine old BeginRoll new answer = MakesStep old step.BeginRoll new answer
-MakesLine old (Compact segment) new answer = MakesStep old (step.Compact segment) new answer
-MakesLine old Push new answer = MakesStep old step.Push new answer
-MakesLine old (Clean victims) new answer = MakesClean old victims new answer
-MakesLine old (Begin victims) new answer = MakesStep old (step.BeginClean victims) new answer
-MakesLine old Copy new answer = MakesStep old step.Copy new answer
-MakesLine old Seal new answer = MakesStep old step.Seal new answer
-MakesLine old Free new answer = MakesStep old step.Free new answer
-MakesLine old Idle new answer = new ≡ old
-MakesLine old (Hex segment) new answer = (new ≡ old) × ShowsImage old segment answer
-MakesLine old Log new answer = (new ≡ old) × ShowsDigest old answer
-MakesLine old Room new answer = (new ≡ old) × ShowsRoom old answer
-MakesLine old HoldingsLine new answer = (new ≡ old) × ShowsFleet old answer
-MakesLine old Will new answer = new ≡ old
-MakesLine old (Stop takes) new answer = LimitsFleet old takes new
-MakesLine old (Fault takes taken) new answer = AsksFault old takes taken new
-MakesLine old Format new answer = new ≡ old
-MakesLine old Crash new answer = LosesMaster old new
-MakesLine old (Lose backup) new answer = LosesOne old backup new
-MakesLine old (Recover order) new answer = ⊥
-MakesLine old (Clients clients rounds passes) new answer = MakesClients old clients rounds new answer
-MakesLine old line new answer = IfSome (command_of line) (λ (c : Command). MakesCommand old c new answer)
 
 -- ---- wills
 

@@ -2,10 +2,10 @@
 use Rattle.std.specs.Prelude.{◌≡◌, ◌⊎◌, ℕ, List, IsSome, Option, Some, None}
 use Rattle.std.specs.Option.{option_map}
 use Rattle.entry.specs.Text.{text_of}
-use Rattle.store_clients.specs.master.log_head.Head.{digest_of}
-use Rattle.store_clients.specs.master.master_state.declared.step.Refusal.TheVariants.{NoMemory}
-use Rattle.store_clients.specs.master.master_state.Budget.{used_seglets, free_seglets}
-use Rattle.store_clients.specs.master.master_state.Log.{image_of}
+use Rattle.answers.specs.driving.master.log_head.Head.{digest_of}
+use Rattle.answers.specs.driving.master.master_state.declared.step.Refusal.TheVariants.{NoMemory}
+use Rattle.answers.specs.driving.master.master_state.Budget.{used_seglets, free_seglets}
+use Rattle.answers.specs.driving.master.master_state.Log.{image_of}
 use Rattle.answers.specs.declared.answer.Answer.{Answer}
 use Rattle.answers.specs.declared.answer.Answer.TheVariants as answers
 use Rattle.node.specs.declared.node.Node.{Node}

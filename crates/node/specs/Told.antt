@@ -9,7 +9,7 @@ use Rattle.lines.specs.Grammar.{Hex, Stop, Fault, Crash, Lose, Will, Recover, Ho
 use Rattle.lines.specs.Grammar.{Clients, Format}
 use Rattle.lines.specs.declared.line.ReplayOrder.{ReplayOrder}
 use Rattle.backup.specs.Inventory.{AreRising}
-use Rattle.store_clients.specs.master.cleaner.declared.survivors.Survivors.{Survivors}
+use Rattle.answers.specs.driving.master.cleaner.declared.survivors.Survivors.{Survivors}
 use Rattle.replica.specs.Choice.{Choice, IsShownChoice, bag_of}
 use Rattle.entry.specs.Bag.{IsAmong}
 use Rattle.replica.specs.declared.holding.Holding.{Holding}
@@ -22,20 +22,20 @@ use Rattle.versioned_map.specs.declared.command.If.TheVariants.{Any, Absent, Ver
 use Rattle.versioned_map.specs.declared.command.Reply.{Reply}
 use Rattle.versioned_map.specs.History.{commands_of}
 use Rattle.versioned_map.specs.Versioned.{after}
-use Rattle.store_clients.specs.master.master_state.declared.config.Config.{Config}
-use Rattle.store_clients.specs.master.master_state.declared.step.Refusal.{Refusal}
-use Rattle.store_clients.specs.master.master_state.declared.step.Refusal.TheVariants as refusal
-use Rattle.store_clients.specs.master.master_state.Causes.{command_refusal}
-use Rattle.store_clients.specs.master.log_head.Head.{digest_of}
-use Rattle.store_clients.specs.master.master_state.declared.step.Step.{Step}
-use Rattle.store_clients.specs.master.master_state.declared.step.Step.TheVariants as step
-use Rattle.store_clients.specs.master.master_state.declared.step.StepAnswer.{StepAnswer}
-use Rattle.store_clients.specs.master.master_state.declared.step.StepAnswer.TheVariants as step_answer
-use Rattle.store_clients.specs.master.master_state.Data.{MasterData}
-use Rattle.store_clients.specs.master.Steps.{Steps}
-use Rattle.store_clients.specs.master.World.{World}
-use Rattle.store_clients.specs.master.master_state.Budget.{used_seglets, free_seglets}
-use Rattle.store_clients.specs.master.master_state.Log.{image_of}
+use Rattle.answers.specs.driving.master.master_state.declared.config.Config.{Config}
+use Rattle.answers.specs.driving.master.master_state.declared.step.Refusal.{Refusal}
+use Rattle.answers.specs.driving.master.master_state.declared.step.Refusal.TheVariants as refusal
+use Rattle.answers.specs.driving.master.master_state.Causes.{command_refusal}
+use Rattle.answers.specs.driving.master.log_head.Head.{digest_of}
+use Rattle.answers.specs.driving.master.master_state.declared.step.Step.{Step}
+use Rattle.answers.specs.driving.master.master_state.declared.step.Step.TheVariants as step
+use Rattle.answers.specs.driving.master.master_state.declared.step.StepAnswer.{StepAnswer}
+use Rattle.answers.specs.driving.master.master_state.declared.step.StepAnswer.TheVariants as step_answer
+use Rattle.answers.specs.driving.master.master_state.Data.{MasterData}
+use Rattle.answers.specs.driving.master.Steps.{Steps}
+use Rattle.answers.specs.driving.master.World.{World}
+use Rattle.answers.specs.driving.master.master_state.Budget.{used_seglets, free_seglets}
+use Rattle.answers.specs.driving.master.master_state.Log.{image_of}
 use Rattle.answers.specs.claims.declared.rebuilt.Rebuilt.{Rebuilt}
 use Rattle.answers.specs.recovery.declared.recovery.RecoveryFault.{RecoveryFault}
 use Rattle.answers.specs.recovery.declared.recovery.RecoveryFault.TheVariants as recovery_fault

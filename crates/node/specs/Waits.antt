@@ -6,14 +6,14 @@ use Rattle.lines.specs.Grammar.{LineValue, Roll}
 use Rattle.versioned_map.specs.declared.command.Command.{Command}
 use Rattle.versioned_map.specs.declared.command.Record.{Record}
 use Rattle.versioned_map.specs.declared.command.Reply.{Reply}
-use Rattle.store_clients.specs.master.log_head.Head.{is_open}
-use Rattle.store_clients.specs.master.master_state.declared.config.Config.{Config}
-use Rattle.store_clients.specs.master.master_state.declared.step.Refusal.{Refusal}
-use Rattle.store_clients.specs.master.master_state.declared.step.Refusal.TheVariants.{Rolling}
-use Rattle.store_clients.specs.master.master_state.declared.step.Step.TheVariants.{Apply}
-use Rattle.store_clients.specs.master.master_state.Data.{MasterData}
-use Rattle.store_clients.specs.master.Steps.{Declines}
-use Rattle.store_clients.specs.master.World.{World, world}
+use Rattle.answers.specs.driving.master.log_head.Head.{is_open}
+use Rattle.answers.specs.driving.master.master_state.declared.config.Config.{Config}
+use Rattle.answers.specs.driving.master.master_state.declared.step.Refusal.{Refusal}
+use Rattle.answers.specs.driving.master.master_state.declared.step.Refusal.TheVariants.{Rolling}
+use Rattle.answers.specs.driving.master.master_state.declared.step.Step.TheVariants.{Apply}
+use Rattle.answers.specs.driving.master.master_state.Data.{MasterData}
+use Rattle.answers.specs.driving.master.Steps.{Declines}
+use Rattle.answers.specs.driving.master.World.{World, world}
 use Rattle.answers.specs.declared.answer.Answer.{Answer}
 use Rattle.answers.specs.declared.answer.Answer.TheVariants as answers
 use Rattle.node.specs.declared.node.Node.{Node}

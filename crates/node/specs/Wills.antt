@@ -3,9 +3,9 @@ use Rattle.std.specs.Prelude.{◌≡◌, List, false}
 use Rattle.entry.specs.declared.tablet.Size.{Size}
 use Rattle.entry.specs.declared.tablet.Tablet.{Tablet}
 use Rattle.entry.specs.Meaning.{Contents}
-use Rattle.store_clients.specs.master.master_state.Data.{MasterData}
-use Rattle.store_clients.specs.master.master_state.Log.{state_now}
-use Rattle.store_clients.specs.master.master_state.Sizes.{AreSizesOf}
+use Rattle.answers.specs.driving.master.master_state.Data.{MasterData}
+use Rattle.answers.specs.driving.master.master_state.Log.{state_now}
+use Rattle.answers.specs.driving.master.master_state.Sizes.{AreSizesOf}
 use Rattle.tablet_will.specs.declared.fault.WillFault.{WillFault}
 use Rattle.tablet_will.specs.declared.fault.WillFault.TheVariants.{BadTablets, BadLimits, StraySize, NoMemory}
 use Rattle.tablet_will.specs.declared.part.Part.{Part}

@@ -4,19 +4,15 @@
 //! it, drops it, or does something to the fleet. Each promises two things. `specs/Served.antt` and `specs/Waits.antt`
 //! say what it makes of this node, and `specs/Told.antt` says what its answer tells of the life of the node's master
 //! (`AnswersLine`). A line changes nothing else. If the fleet takes no more ops, the master is dropped and the limit
-//! lifted. Recoveries of a node are in the crate above, `next_master`. This one stands on `driving`, and on
-//! `store_clients` for lines of clients.
+//! lifted. Recoveries of a node are in the crate above, `next_master`, and lines of clients in `node_lines`.
 #![tactic(auto)]
 
-mod clients;
 mod node;
 mod tried;
 mod will;
 
 pub use answers;
+pub use answers::driving::master;
 pub use answers::{driving, recovery, replay};
-pub use clients::Served;
 pub use node::Node;
-pub use store_clients;
-pub use store_clients::{locked_log, master};
 pub use tried::Tried;

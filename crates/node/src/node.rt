@@ -6,7 +6,7 @@ ghost use Rattle.std.specs.Option.{option_map};
 ghost use Rattle.history.specs.View.{shown_command, shown_reply};
 ghost use Rattle.answers.specs.Errors.{IsHanded};
 ghost use Rattle.answers.specs.Texts.{reply_text};
-ghost use Rattle.store_clients.specs.master.master_state.declared.config.Config.{Config};
+ghost use Rattle.answers.specs.driving.master.master_state.declared.config.Config.{Config};
 ghost use Rattle.node.specs.Served.{IsDropped, AsksFault, asked_of, fleet_of, is_up};
 ghost use Rattle.node.specs.Served.{AnswersLine, LimitsFleet, LosesMaster, LosesOne, MakesStep, MakesRoll, Refuses};
 ghost use Rattle.node.specs.Served.{AnswersStep, MakesClean, ShowsFleet, held_answer, step_told};
@@ -22,7 +22,7 @@ use replica::{Bench, Fleet, Labels};
 use std::alloc::Global;
 use std::io::Write;
 use std::mem::replace;
-use store_clients::master::{CommandRef, Look, Master, Refusal, ReplyRef, Shown, Step, StepAnswer};
+use answers::driving::master::{CommandRef, Look, Master, Refusal, ReplyRef, Shown, Step, StepAnswer};
 
 /// A fleet, and the master over it if there is one.
 #[derive(Drop)]

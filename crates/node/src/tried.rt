@@ -1,6 +1,6 @@
 //! What a command of a line comes to when it is tried.
 
-use store_clients::master::Refusal;
+use answers::driving::master::Refusal;
 
 /// What a command of a line comes to when it is tried. It has no answer in it, since an answer is large and most
 /// commands need none.

@@ -1,7 +1,7 @@
 //! Makes the will anew from a master's live objects.
 
 ghost use Rattle.std.specs.Prelude.{◌≡◌, IfOk, IfErr, OnErr};
-ghost use Rattle.store_clients.specs.master.master_state.declared.config.Config.{Config};
+ghost use Rattle.answers.specs.driving.master.master_state.declared.config.Config.{Config};
 ghost use Rattle.node.specs.Served.{AnswersLine, DividesAnew, HandsOver};
 ghost use Rattle.node.specs.Told.{HasLimits};
 ghost use Rattle.node.specs.Wills.{IsNoWill, MakesWill};
@@ -11,7 +11,7 @@ use answers::{Answer, Limits};
 use entry::Row;
 use replica::Fleet;
 use std::alloc::Global;
-use store_clients::master::{Master, Refusal};
+use answers::driving::master::{Master, Refusal};
 use tablet_will::{Part, Will, WillFault, make_will};
 
 /// Makes the will of a master's live objects in place of `will`, and answers its parts. If this fails, `will` stays.

@@ -9,7 +9,7 @@ use Rattle.next_master.specs.node.Told.{command_of}
 use Rattle.next_master.specs.answers.declared.answer.Answer.TheVariants as answers
 use Rattle.next_master.specs.node.declared.tried.Tried.TheVariants as tried
 use Rattle.next_master.specs.node.Waits.{MakesTry, Serves}
-use Rattle.next_master.proofs.of_node.Steps.{command_makes}
+use Rattle.node_lines.proofs.Lines.{command_makes}
 use Rattle.next_master.proofs.of_node.Tries.{tried_makes, waited_makes}
 use Rattle.script.specs.declared.session.Session.{Session}
 use Rattle.script.specs.Sessions.{AnswersAfterRoll, SessionAnswers, TriesCommand}

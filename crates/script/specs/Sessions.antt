@@ -25,7 +25,8 @@ use Rattle.next_master.specs.recovery.Orders.{Covers}
 use Rattle.next_master.specs.driving.Rolls.{PushesUntil}
 use Rattle.next_master.specs.node.Told.{command_of, HasLimits}
 use Rattle.next_master.specs.answers.declared.limits.Limits.{Limits}
-use Rattle.next_master.specs.node.Served.{AnswersLine, IsNodeAt, world_of, fleet_of, is_up, HandsOver, MakesLine}
+use Rattle.next_master.specs.node.Served.{AnswersLine, IsNodeAt, world_of, fleet_of, is_up, HandsOver}
+use Rattle.node_lines.specs.Lines.{MakesLine}
 use Rattle.lines.specs.declared.line.ReplayOrder.{ReplayOrder}
 use Rattle.next_master.specs.Numbers.{AreSpent, IsNextNumber, Renumbers}
 use Rattle.next_master.specs.node.declared.tried.Tried.{Tried}

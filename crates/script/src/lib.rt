@@ -23,6 +23,7 @@ pub use next_master::recovery::{
     Drill, Plan, PlanFault, Rebuilt, RecoveryFault, ReplayFault, acknowledged_recovered,
     inventory_of, plan, rebuild_plain, recover, run_drill,
 };
-pub use next_master::{configuration, locked_log, master, recovery, replay};
+pub use next_master::{configuration, master, recovery, replay};
+pub use node_lines::locked_log;
 pub use program::{run_options, run_program};
 pub use running::run_script;

@@ -31,10 +31,11 @@ use lines::{CommandLine, KeyWord, Line, Numbers, ReplayOrder};
 use next_master::answers::{Answer, Limits, WriteFailed};
 use next_master::driving::push_all;
 use next_master::master::{CommandRef, If, Master, Refusal, Step, ValueRef};
-use next_master::node::{Node, Served, Tried};
+use next_master::node::{Node, Tried};
 use next_master::recovery::{PlanFault, RecoveryFault};
-use next_master::store_clients::Workload;
 use next_master::{configuration, later_options, recover_node, whole_will};
+use node_lines::store_clients::Workload;
+use node_lines::{Served, serve_clients};
 use std::alloc::Global;
 use std::io::Write;
 use std::sync::Wait;
@@ -264,9 +265,8 @@ impl Session {
         requires rounds { work.rounds ≤ 1000000 }
         ensures { SessionAnswers self.old (Clients work.clients work.rounds work.passes) self.new result }
     {
-        let Served { answer, is_known } = self
-            .node
-            .serve_clients(rt, self.alloc, self.options.history, work);
+        let Served { answer, is_known } =
+            serve_clients(rt, &mut self.node, self.alloc, self.options.history, work);
         self.is_known &= is_known;
         answer
     }

@@ -1,1 +1,1 @@
-pub use Rattle.next_master.proofs.of_locked_log
+pub use Rattle.locked_log.proofs as of_locked_log

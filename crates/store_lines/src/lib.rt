@@ -24,6 +24,7 @@ pub use looks::{look_line, renew};
 pub use next_master::answers::{
     Answer, ErrorOutput, ScriptFault, report, report_config, write_answer,
 };
-pub use next_master::{configuration, locked_log, master, recovery, replay};
+pub use locked_log;
+pub use next_master::{configuration, master, recovery, replay};
 pub use succession::{FIRST_MASTER, first_master, next_config, want};
 pub use turns::{Phase, refuse, take_all, turn_line};

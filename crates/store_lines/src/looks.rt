@@ -6,7 +6,7 @@ use entry::{NoMemory, Row, Size};
 use lines::Line;
 use next_master::answers::{Answer, Limits};
 use next_master::configuration;
-use next_master::locked_log::{Naming, Store};
+use locked_log::{Naming, Store};
 use next_master::master::{Look, Refusal, Shown};
 use std::alloc::Global;
 use std::sync::Wait;

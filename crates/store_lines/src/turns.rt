@@ -6,7 +6,7 @@ use backup::MemoryFleet;
 use entry::{NoMemory, Row};
 use lines::Line;
 use next_master::answers::Answer;
-use next_master::locked_log::{CleanTurn, Naming, Store};
+use locked_log::{CleanTurn, Naming, Store};
 use next_master::master::{Look, PassFault, Refusal, Shown, StepAnswer};
 use std::alloc::Global;
 use std::sync::Wait;

@@ -2,8 +2,8 @@ use Rattle.std.proofs.Common.{[], refl, subst}
 use Rattle.std.specs.Prelude.{Err, None}
 use Rattle.lines.specs.Grammar.{Clean}
 use Rattle.backup.specs.State.{fleet_state}
-use Rattle.store_clients.specs.master.master_state.Data.{MasterData}
-use Rattle.store_clients.specs.master.World.{world}
+use Rattle.answers.specs.driving.master.master_state.Data.{MasterData}
+use Rattle.answers.specs.driving.master.World.{world}
 use Rattle.node.specs.declared.node.Node.{Node}
 use Rattle.node.specs.declared.node.Node.TheVariants.{Up}
 use Rattle.answers.specs.driving.Cleans.{IsCleaned, IsNotCleaned}

@@ -3,9 +3,9 @@ use Rattle.std.specs.Prelude.{Some}
 use Rattle.backup.specs.State.{fleet_state}
 use Rattle.backup.specs.declared.fleet.MemoryFleet.{MemoryFleet}
 use Rattle.lines.specs.Grammar.{Fault}
-use Rattle.store_clients.specs.master.World.{MasterValue}
-use Rattle.store_clients.specs.master.Valid.{IsValid}
-use Rattle.store_clients.specs.master.master_state.Data.{MasterData}
+use Rattle.answers.specs.driving.master.World.{MasterValue}
+use Rattle.answers.specs.driving.master.Valid.{IsValid}
+use Rattle.answers.specs.driving.master.master_state.Data.{MasterData}
 use Rattle.replica.specs.Picture.{FleetState}
 use Rattle.answers.specs.declared.answer.Answer.TheVariants as answer
 use Rattle.node.specs.declared.node.Node.{Node}

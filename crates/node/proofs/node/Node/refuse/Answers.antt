@@ -2,12 +2,12 @@ use Rattle.std.proofs.Common.{[], ◌≡◌, ◌∙◌, ap, inr, refl, sym, subs
 use Rattle.std.specs.Prelude.{None, Some, Option, unwrap_or}
 use Rattle.std.specs.Option.{option_map}
 use Rattle.backup.specs.State.{fleet_state}
-use Rattle.store_clients.specs.master.Valid.{IsValid}
-use Rattle.store_clients.specs.master.World.{World}
-use Rattle.store_clients.specs.master.failover_model.Data.{homes}
-use Rattle.store_clients.specs.master.failover_bytes.Choice.{newest_opened}
-use Rattle.store_clients.specs.master.master_state.Data.{MasterData}
-use Rattle.store_clients.specs.master.master_state.Log.{log_of}
+use Rattle.answers.specs.driving.master.Valid.{IsValid}
+use Rattle.answers.specs.driving.master.World.{World}
+use Rattle.answers.specs.driving.master.failover_model.Data.{homes}
+use Rattle.answers.specs.driving.master.failover_bytes.Choice.{newest_opened}
+use Rattle.answers.specs.driving.master.master_state.Data.{MasterData}
+use Rattle.answers.specs.driving.master.master_state.Log.{log_of}
 use Rattle.replica.specs.Picture.{FleetState, Shown, shown_of}
 use Rattle.replica.specs.Take.{limited, no_limit}
 use Rattle.node.specs.declared.node.Node.{Node}

@@ -2,8 +2,8 @@ use Rattle.std.proofs.Common.{[], refl, subst, sym}
 use Rattle.std.specs.Prelude.{Ok, Err, None}
 use Rattle.lines.specs.Grammar.{Roll}
 use Rattle.backup.specs.State.{fleet_state}
-use Rattle.store_clients.specs.master.World.{world}
-use Rattle.store_clients.specs.master.master_state.Data.{MasterData}
+use Rattle.answers.specs.driving.master.World.{world}
+use Rattle.answers.specs.driving.master.master_state.Data.{MasterData}
 use Rattle.node.specs.declared.node.Node.{Node}
 use Rattle.node.specs.declared.node.Node.TheVariants.{Up}
 use Rattle.answers.specs.driving.Rolls.{IsNotRolled, IsRolled}

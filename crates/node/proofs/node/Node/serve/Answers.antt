@@ -1,8 +1,8 @@
 use Rattle.std.proofs.Common.{ap, refl, subst}
 use Rattle.backup.specs.State.{fleet_state}
 use Rattle.history.specs.View.{shown_command}
-use Rattle.store_clients.specs.master.World.{world}
-use Rattle.store_clients.specs.master.master_state.Data.{MasterData}
+use Rattle.answers.specs.driving.master.World.{world}
+use Rattle.answers.specs.driving.master.master_state.Data.{MasterData}
 use Rattle.node.specs.declared.node.Node.{Node}
 use Rattle.node.specs.declared.node.Node.TheVariants.{Up}
 use Rattle.answers.specs.driving.Served.{IsServed, IsUnserved}

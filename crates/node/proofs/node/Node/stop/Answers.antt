@@ -3,11 +3,11 @@ use Rattle.std.specs.Prelude.{Some}
 use Rattle.backup.specs.State.{fleet_state}
 use Rattle.backup.specs.declared.fleet.MemoryFleet.{MemoryFleet}
 use Rattle.lines.specs.Grammar.{Stop}
-use Rattle.store_clients.specs.master.Invariant.{IsWellKept}
-use Rattle.store_clients.specs.master.World.{MasterValue}
-use Rattle.store_clients.specs.master.Valid.{IsValid}
-use Rattle.store_clients.specs.master.master_state.Data.{MasterData}
-use Rattle.store_clients.proofs.of_master.Retired.{limited_kept}
+use Rattle.answers.specs.driving.master.Invariant.{IsWellKept}
+use Rattle.answers.specs.driving.master.World.{MasterValue}
+use Rattle.answers.specs.driving.master.Valid.{IsValid}
+use Rattle.answers.specs.driving.master.master_state.Data.{MasterData}
+use Rattle.answers.proofs.of_driving.of_master.Retired.{limited_kept}
 use Rattle.replica.specs.Picture.{FleetState}
 use Rattle.replica.specs.Take.{limited}
 use Rattle.answers.specs.declared.answer.Answer.TheVariants as answer

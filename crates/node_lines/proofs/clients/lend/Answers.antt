@@ -1,11 +1,11 @@
 use Rattle.std.proofs.Common.{sym, ◌∙◌}
-use Rattle.node.proofs.ClientLines.{lent}
-use Rattle.node.proofs.node.Node.lend.Goals as goal
+use Rattle.node_lines.proofs.ClientLines.{lent}
+use Rattle.node_lines.proofs.clients.lend.Goals as goal
 
 pub returns : goal.returns
 returns g c =
     let o = c.clients_over-master in
-    rw c.set.ensures (λ m is. lent c.args.self.now c.in-Up.up m o.result.master c.args.work.clients c.args.work.rounds
+    rw c.set.ensures (λ m is. lent c.args.node.now c.in-Up.up m o.result.master c.args.work.clients c.args.work.rounds
     o.result.calls o.result.is_known
     (sym c.replace.ensures.value ∙ c.in-Up.is)
     (record {

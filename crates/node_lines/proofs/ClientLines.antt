@@ -10,25 +10,26 @@ use Rattle.lines.specs.Grammar.{LineValue, Clients}
 use Rattle.store_clients.specs.locked_log.store_seat.declared.fault.CallFault.{CallFault}
 use Rattle.store_clients.specs.locked_log.store_seat.declared.fault.CallFault.TheVariants as call_fault
 use Rattle.store_clients.specs.locked_log.Made.{IsMade, made_now}
-use Rattle.store_clients.specs.master.failover_model.Data.{durable_of}
-use Rattle.store_clients.specs.master.Valid.{IsValid}
-use Rattle.store_clients.specs.master.World.{MasterValue, world}
-use Rattle.store_clients.specs.master.master_state.declared.config.Config.{Config}
-use Rattle.store_clients.specs.master.master_state.declared.step.Refusal.{Refusal}
-use Rattle.store_clients.specs.master.master_state.declared.step.Refusal.TheVariants as refusal
-use Rattle.store_clients.specs.master.master_state.Data.{MasterData}
-use Rattle.store_clients.specs.master.master_state.Log.{log_of}
-use Rattle.store_clients.specs.Workloads.{AreAccepted}
+use Rattle.node.specs.master.failover_model.Data.{durable_of}
+use Rattle.node.specs.master.Valid.{IsValid}
+use Rattle.node.specs.master.World.{MasterValue, world}
+use Rattle.node.specs.master.master_state.declared.config.Config.{Config}
+use Rattle.node.specs.master.master_state.declared.step.Refusal.{Refusal}
+use Rattle.node.specs.master.master_state.declared.step.Refusal.TheVariants as refusal
+use Rattle.node.specs.master.master_state.Data.{MasterData}
+use Rattle.node.specs.master.master_state.Log.{log_of}
+use Rattle.history.specs.Seats.{AreAccepted}
 use Rattle.versioned_map.specs.declared.command.Record.{Record}
-use Rattle.answers.specs.declared.answer.Answer.{Answer}
-use Rattle.answers.specs.declared.answer.Answer.TheVariants as answer
+use Rattle.node.specs.answers.declared.answer.Answer.{Answer}
+use Rattle.node.specs.answers.declared.answer.Answer.TheVariants as answer
 use Rattle.node.specs.declared.node.Node.{Node}
 use Rattle.node.specs.declared.node.Node.TheVariants.{Up}
-use Rattle.node.specs.Counted.{AreUncounted, RunsClients}
+use Rattle.node.specs.Counted.{AreUncounted}
 use Rattle.node.specs.Lives.{HasLived, Left, Position, left_now, life_to}
-use Rattle.answers.specs.driving.Served.{IsSpent}
-use Rattle.node.specs.Served.{AnswersLine, IsClientsAnswer, IsClientsRefusal, IsLeftIn, IsNodeAt, IsOf, Lends}
-use Rattle.node.specs.Served.{LivesLonger, MakesClients, Refuses, RefusesCall, RefusesWork, life_of, refusal_answer}
+use Rattle.node.specs.driving.Served.{IsSpent}
+use Rattle.node.specs.Served.{AnswersLine, IsLeftIn, IsNodeAt, IsOf, LivesLonger, Refuses, life_of, refusal_answer}
+use Rattle.node_lines.specs.Clients.{IsClientsAnswer, IsClientsRefusal, Lends, MakesClients, RefusesCall, RefusesWork}
+use Rattle.node_lines.specs.Clients.{RunsClients}
 use Rattle.node.specs.Told.{Tells}
 use Rattle.node.proofs.Standing.{Answered}
 use Rattle.node.proofs.Steps.{refused_left}
