@@ -69,10 +69,10 @@ module _ (number : ℕ) where
       → IsUnraisedAbove number (fleet_of node)
   with_fleet node f is are = subst (λ (o : Option FleetState). IsUnraisedAbove number o) (sym is) are
 
-  same_node : (old new : Node) → new ≡ old → StaysUnraised number old new
+  pub same_node : (old new : Node) → new ≡ old → StaysUnraised number old new
   same_node old new is are = subst (λ (n : Node). IsUnraisedAbove number (fleet_of n)) (sym is) are
 
-  same_fleet : (old new : Node) → fleet_of new ≡ fleet_of old → StaysUnraised number old new
+  pub same_fleet : (old new : Node) → fleet_of new ≡ fleet_of old → StaysUnraised number old new
   same_fleet old new is are = subst (λ (o : Option FleetState). IsUnraisedAbove number o) (sym is) are
 
   left_unraised : (w : World) (a : Answer) (new : Node) → IsLeftIn w a new → AreUnraisedAbove number w.fleet
@@ -84,29 +84,29 @@ module _ (number : ℕ) where
 
   module _ (m : MasterValue MemoryFleet) (w : World) (a : Answer) (new : Node) (is : IsLeftIn w a new)
       (below : IsUpTo number (Up m)) where
-    made : SameLeast (world fleet_state m) w → StaysUnraised number (Up m) new
+    pub made : SameLeast (world fleet_state m) w → StaysUnraised number (Up m) new
     made same are = left_unraised w a new is (made_unraised number (world fleet_state m) w below same are)
 
-  step_made : (old : Node) (s : Step) (new : Node) (a : Answer) → MakesStep old s new a → IsUpTo number old
+  pub step_made : (old : Node) (s : Step) (new : Node) (a : Answer) → MakesStep old s new a → IsUpTo number old
       → StaysUnraised number old new
   step_made (Up m) s new a is below = made m is.1 a new is.4 below (step_least (world fleet_state m) is.1 s is.0 is.2)
   step_made (Down fleet) s new a is below = same_node (Down fleet) new is.0
   step_made Changing s new a is below = same_node Changing new is.0
 
-  roll_made : (old new : Node) (a : Answer) → MakesRoll old new a → IsUpTo number old → StaysUnraised number old new
+  pub roll_made : (old new : Node) (a : Answer) → MakesRoll old new a → IsUpTo number old → StaysUnraised number old new
   roll_made (Up m) new a is below =
       made m is.1 a new is.4 below (rolls_leave (world fleet_state m) is.1 is.0 is.2).least
   roll_made (Down fleet) new a is below = same_node (Down fleet) new is.0
   roll_made Changing new a is below = same_node Changing new is.0
 
-  clean_made : (old : Node) (victims : List ℕ) (new : Node) (a : Answer) → MakesClean old victims new a
+  pub clean_made : (old : Node) (victims : List ℕ) (new : Node) (a : Answer) → MakesClean old victims new a
       → IsUpTo number old → StaysUnraised number old new
   clean_made (Up m) victims new a is below =
       made m is.1 a new is.4 below (cleans_leave (world fleet_state m) is.1 victims is.0 is.2).least
   clean_made (Down fleet) victims new a is below = same_node (Down fleet) new is.0
   clean_made Changing victims new a is below = same_node Changing new is.0
 
-  command_made : (old : Node) (c : Command) (new : Node) (a : Answer) → MakesCommand old c new a
+  pub command_made : (old : Node) (c : Command) (new : Node) (a : Answer) → MakesCommand old c new a
       → IsUpTo number old → StaysUnraised number old new
   command_made (Up m) c new a is below =
       made m is.1 a new is.4 below (command_leaves (world fleet_state m) is.1 c is.0 is.2).least
@@ -120,12 +120,12 @@ module _ (number : ℕ) where
   limited_unraised n None are = tt
   limited_unraised n (Some f) are = are
 
-  stops_unraised : (old : Node) (n : ℕ) (new : Node)
+  pub stops_unraised : (old : Node) (n : ℕ) (new : Node)
       → fleet_of new ≡ option_map (λ (f : FleetState). limited f n) (fleet_of old) → StaysUnraised number old new
   stops_unraised old n new is are = subst (λ (o : Option FleetState). IsUnraisedAbove number o) (sym is)
       (limited_unraised n (fleet_of old) are)
 
-  loses_unraised : (old : Node) (backup : ℕ) (new : Node) → LosesOne old backup new → StaysUnraised number old new
+  pub loses_unraised : (old : Node) (backup : ℕ) (new : Node) → LosesOne old backup new → StaysUnraised number old new
   loses_unraised (Up m) backup new is are = same_node (Up m) new is are
   loses_unraised (Down fleet) backup new is are = with_fleet new (lost (fleet_state fleet) backup) is.1 are
   loses_unraised Changing backup new is are = subst (λ (o : Option FleetState). IsUnraisedAbove number o) (sym is.1) tt

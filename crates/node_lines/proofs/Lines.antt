@@ -51,41 +51,41 @@ command_makes old line new a command asks makes =
 module _ (number : ℕ) where
   clients_made : (old : Node) (clients rounds : ℕ) (new : Node) (a : Answer) → MakesClients old clients rounds new a
       → IsUpTo number old → StaysUnraised number old new
-  clients_made (Up m) clients rounds new a is below = made m is.1 a new is.4 below is.2.goes_on.least
-  clients_made (Down fleet) clients rounds new a is below = same_node (Down fleet) new is.0
-  clients_made Changing clients rounds new a is below = same_node Changing new is.0
+  clients_made (Up m) clients rounds new a is below = made number m is.1 a new is.4 below is.2.goes_on.least
+  clients_made (Down fleet) clients rounds new a is below = same_node number (Down fleet) new is.0
+  clients_made Changing clients rounds new a is below = same_node number Changing new is.0
 
   pub line_unraised : (old : Node) (line : LineValue) (new : Node) (a : Answer) → MakesLine old line new a
       → IsUpTo number old → StaysUnraised number old new
-  line_unraised old Roll new a is below = roll_made old new a is below
-  line_unraised old BeginRoll new a is below = step_made old step.BeginRoll new a is below
-  line_unraised old (Compact segment) new a is below = step_made old (step.Compact segment) new a is below
-  line_unraised old Push new a is below = step_made old step.Push new a is below
-  line_unraised old (Clean victims) new a is below = clean_made old victims new a is below
-  line_unraised old (Begin victims) new a is below = step_made old (step.BeginClean victims) new a is below
-  line_unraised old Copy new a is below = step_made old step.Copy new a is below
-  line_unraised old Seal new a is below = step_made old step.Seal new a is below
-  line_unraised old Free new a is below = step_made old step.Free new a is below
-  line_unraised old Idle new a is below = same_node old new is
-  line_unraised old (Hex segment) new a is below = same_node old new is.0
-  line_unraised old Log new a is below = same_node old new is.0
-  line_unraised old Room new a is below = same_node old new is.0
-  line_unraised old Holdings new a is below = same_node old new is.0
-  line_unraised old Will new a is below = same_node old new is
-  line_unraised old (Stop takes) new a is below = stops_unraised old takes new is.1
-  line_unraised old (Fault takes taken) new a is below = same_fleet old new is.1
-  line_unraised old Format new a is below = same_node old new is
-  line_unraised old Crash new a is below = same_fleet old new is.1
-  line_unraised old (Lose backup) new a is below = loses_unraised old backup new is
+  line_unraised old Roll new a is below = roll_made number old new a is below
+  line_unraised old BeginRoll new a is below = step_made number old step.BeginRoll new a is below
+  line_unraised old (Compact segment) new a is below = step_made number old (step.Compact segment) new a is below
+  line_unraised old Push new a is below = step_made number old step.Push new a is below
+  line_unraised old (Clean victims) new a is below = clean_made number old victims new a is below
+  line_unraised old (Begin victims) new a is below = step_made number old (step.BeginClean victims) new a is below
+  line_unraised old Copy new a is below = step_made number old step.Copy new a is below
+  line_unraised old Seal new a is below = step_made number old step.Seal new a is below
+  line_unraised old Free new a is below = step_made number old step.Free new a is below
+  line_unraised old Idle new a is below = same_node number old new is
+  line_unraised old (Hex segment) new a is below = same_node number old new is.0
+  line_unraised old Log new a is below = same_node number old new is.0
+  line_unraised old Room new a is below = same_node number old new is.0
+  line_unraised old Holdings new a is below = same_node number old new is.0
+  line_unraised old Will new a is below = same_node number old new is
+  line_unraised old (Stop takes) new a is below = stops_unraised number old takes new is.1
+  line_unraised old (Fault takes taken) new a is below = same_fleet number old new is.1
+  line_unraised old Format new a is below = same_node number old new is
+  line_unraised old Crash new a is below = same_fleet number old new is.1
+  line_unraised old (Lose backup) new a is below = loses_unraised number old backup new is
   line_unraised old (Recover order) new a is below = absurd is
   line_unraised old (Clients clients rounds passes) new a is below = clients_made old clients rounds new a is below
   line_unraised old (Put table key value) new a is below =
-      command_made old (command.Put (record { table = table; bytes = key }) value Any) new a is below
+      command_made number old (command.Put (record { table = table; bytes = key }) value Any) new a is below
   line_unraised old (New table key value) new a is below =
-      command_made old (command.Put (record { table = table; bytes = key }) value Absent) new a is below
+      command_made number old (command.Put (record { table = table; bytes = key }) value Absent) new a is below
   line_unraised old (Cas table key version value) new a is below =
-      command_made old (command.Put (record { table = table; bytes = key }) value (Version version)) new a is below
+      command_made number old (command.Put (record { table = table; bytes = key }) value (Version version)) new a is below
   line_unraised old (Get table key) new a is below =
-      command_made old (command.Get (record { table = table; bytes = key })) new a is below
+      command_made number old (command.Get (record { table = table; bytes = key })) new a is below
   line_unraised old (Del table key) new a is below =
-      command_made old (command.Delete (record { table = table; bytes = key })) new a is below
+      command_made number old (command.Delete (record { table = table; bytes = key })) new a is below
