@@ -1,4 +1,4 @@
--- Digests that lie in bytes, by their ids alone or with the lengths.
+-- The bytes of a digest: how many segments it lists, and the id and the length of each.
 use Rattle.std.proofs.Common.{◌≡◌, ℕ, ◌+◌, ◌*◌, ◌<◌, ◌≤◌, Bool, true, false, List, length, Option, Some, None}
 use Rattle.std.proofs.Common.{refl, sym, ◌∙◌, arith}
 use Rattle.std.specs.Prelude.{slice_get, IsSomeAnd}

@@ -1,4 +1,4 @@
--- What is at the front of bytes that pass the tests.
+-- The entry at the front of bytes that pass a reader's tests.
 use Rattle.std.proofs.Common.{◌≡◌, ℕ, zero, suc, ◌+◌, ◌^◌, ◌<◌, ◌≤◌, Bool, true, false, List, [], ◌∷◌, ◌++◌}
 use Rattle.std.proofs.Common.{length, take, drop, Option, Some, None, refl, sym, ap, ◌∙◌, arith}
 use Rattle.std.specs.Prelude.{slice_index, ◌&&◌, nat_le, nat_lt, not, if◌then◌else◌}

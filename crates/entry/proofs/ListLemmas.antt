@@ -1,4 +1,4 @@
--- What holds of each element of a list, elements by their places, and a list that is written back.
+-- Lists: a predicate that is true of each element, elements by their places, and a list that is written anew.
 use Rattle.std.proofs.Common.{◌≡◌, ◌≤◌, ℕ, zero, suc, List, [], ◌∷◌, ◌++◌, length, take, Some, refl, ap, ◌∙◌, ◌⊎◌, inl}
 use Rattle.std.proofs.Common.{inr}
 use Rattle.std.proofs.Common.{append-nil, arith}

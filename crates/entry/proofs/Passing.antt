@@ -1,4 +1,4 @@
--- What is spelled passes the tests of a reader.
+-- The spelling of an entry passes a reader's tests.
 use Rattle.std.proofs.Common.{◌≡◌, ℕ, suc, ◌+◌, ◌^◌, ◌<◌, ◌≤◌, true, List, [], ◌∷◌}
 use Rattle.std.proofs.Common.{◌++◌, length, None, refl, sym, append_assoc, arith}
 use Rattle.std.specs.Prelude.{slice_index, slice_get, Some, nat_lt}

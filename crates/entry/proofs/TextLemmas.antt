@@ -1,4 +1,4 @@
--- What is spelled is at the front, and a text has the entries that it was made of.
+-- A reader finds the spelled entry at the front, and reads from a text exactly the entries that it was made of.
 use Rattle.std.proofs.Common.{◌≡◌, ℕ, zero, suc, ◌+◌, ◌<◌, ◌≤◌, List, [], ◌∷◌, ◌++◌}
 use Rattle.std.proofs.Common.{length, drop, Some, refl, ap, append_assoc, arith}
 use Rattle.std.specs.Prelude.{slice_index}

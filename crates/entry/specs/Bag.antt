@@ -1,4 +1,4 @@
--- Collections in which only membership counts.
+-- Bags: the elements of a list, without their order and number.
 use Rattle.std.specs.Prelude.{◌≡◌, ◌⊎◌, List, [], ◌∷◌}
 
 abbrev pub IsAmong : {X : Type 0} → X → List X → Type 0

@@ -1,4 +1,4 @@
--- The format of entries: the spelling of each, and the tests of a reader in their order.
+-- The format of entries: the bytes of each entry (its spelling), and the tests of a reader in their order.
 use Rattle.std.specs.Prelude.{◌≡◌, ℕ, zero, suc, ◌+◌, ◌*◌, ◌<◌, ◌≤◌, ◌^◌, List, [], ◌∷◌, ◌++◌, length}
 use Rattle.std.specs.Prelude.{take, drop, slice_index, Option, Some, None, is_none, IsSomeAnd, Bool}
 use Rattle.std.specs.Prelude.{true, false, not, ◌==◌, ◌&&◌, nat_lt, nat_le, if◌then◌else◌}
@@ -29,7 +29,7 @@ use Rattle.entry.specs.Limits.{IsVersion, IsSafeVersion, IsValue, AreIds, AreLen
 unfoldable pub number_bytes : ℕ → ℕ → List ℕ
 number_bytes count n = bytes_high_first count n
 
--- the number that this many bytes spell, from a place on
+-- the number in this many bytes from an offset on, the highest byte first
 unfoldable pub number_at : ℕ → ℕ → List ℕ → ℕ
 number_at count at bytes = big_number count (drop at bytes)
 
@@ -39,7 +39,7 @@ abbrev pub role_byte : Role → ℕ
 role_byte Head = 0
 role_byte Survivor = 1
 
--- a listed segment's id and length
+-- the bytes of a listed segment: its id and its length
 abbrev pub listed_bytes : Listed → List ℕ
 listed_bytes s = number_bytes 8 s.id ++ number_bytes 8 s.len
 
@@ -82,7 +82,7 @@ abbrev pub IsDigest : Digest → Type 0
 IsDigest (digest.Ids ids) = AreIds ids
 IsDigest (digest.Lengths segments) = AreLengths segments
 
--- Each value of the type Entry is one of these.
+-- The fields of the entry are within their limits. Each value of the type Entry of the code is such an entry.
 abbrev pub IsEntry : Entry → Type 0
 IsEntry (entry.Header h) = IsHeader h
 IsEntry (entry.Digest d) = IsDigest d
@@ -110,7 +110,7 @@ kind_byte kind.Object = 4
 kind_byte kind.Tombstone = 5
 kind_byte kind.Lengths = 6
 
--- how many bytes the fixed part has
+-- how many bytes the fixed part of an entry of this kind has
 abbrev pub fixed_len : Kind → ℕ
 fixed_len kind.Header = 18
 fixed_len kind.Digest = 5
@@ -119,7 +119,7 @@ fixed_len kind.Object = 23
 fixed_len kind.Tombstone = 27
 fixed_len kind.Lengths = 5
 
--- how many bytes the whole entry has, by its fixed part
+-- how many bytes the whole entry has, by the lengths and counts in its fixed part
 abbrev pub whole_len : Kind → List ℕ → ℕ
 whole_len kind.Header bytes = 18
 whole_len kind.Digest bytes = 5 + 8 * number_at 4 1 bytes
@@ -128,7 +128,7 @@ whole_len kind.Object bytes = 23 + number_at 2 17 bytes + number_at 4 19 bytes
 whole_len kind.Tombstone bytes = 27 + number_at 2 25 bytes
 whole_len kind.Lengths bytes = 5 + 16 * number_at 4 1 bytes
 
--- a number is within limits
+-- the number is no less than the first limit and no more than the second
 abbrev pub is_within : ℕ → ℕ → ℕ → Bool
 is_within least greatest n = nat_le least n && nat_le n greatest
 
@@ -143,18 +143,18 @@ are_fields kind.Object bytes =
 are_fields kind.Tombstone bytes = is_within 1 (2 ^ 62) (number_at 8 9 bytes) && is_within 1 1024 (number_at 2 25 bytes)
 are_fields kind.Lengths bytes = true
 
--- the ids in the bytes from a place on
+-- this many ids from an offset in the bytes on
 abbrev pub ids_at : ℕ → ℕ → List ℕ → List ℕ
 ids_at zero at bytes = []
 ids_at (suc count) at bytes = number_at 8 at bytes ∷ ids_at count (at + 8) bytes
 
--- the listed segments in the bytes from a place on
+-- this many listed segments from an offset in the bytes on
 abbrev pub listed_at : ℕ → ℕ → List ℕ → List Listed
 listed_at zero at bytes = []
 listed_at (suc count) at bytes =
     record { id = number_at 8 at bytes; len = number_at 8 (at + 8) bytes } ∷ listed_at count (at + 16) bytes
 
--- each is above the one before it
+-- each number is above the one before it
 abbrev pub rises : List ℕ → Bool
 rises [] = true
 rises (x ∷ []) = true
@@ -175,7 +175,7 @@ has_order kind.Object bytes = true
 has_order kind.Tombstone bytes = true
 has_order kind.Lengths bytes = are_listed (listed_at (number_at 4 1 bytes) 5 bytes)
 
--- of a known kind: the fault that the first failing test names
+-- the fault of the first test that fails for an entry of this kind; None if no test fails
 abbrev pub fault_in : Kind → List ℕ → Option EntryFault
 fault_in k bytes =
     if nat_lt (length bytes) (fixed_len k) then Some Short
@@ -188,28 +188,28 @@ abbrev pub fault_of_kind : Option Kind → List ℕ → Option EntryFault
 fault_of_kind None bytes = Some UnknownKind
 fault_of_kind (Some k) bytes = fault_in k bytes
 
--- the fault that the first failing test names
+-- the fault of the first test that fails; None if no test fails
 abbrev pub first_fault : List ℕ → Option EntryFault
 first_fault [] = Some Short
 first_fault (byte ∷ fields) = fault_of_kind (kind_of byte) (byte ∷ fields)
 
 -- ---- what is at the front
 
--- the role of a byte
+-- the role that a byte stands for
 abbrev pub role_of : ℕ → Role
 role_of zero = Head
 role_of (suc n) = Survivor
 
--- this many bytes from a place on
+-- this many bytes from an offset on
 abbrev pub part_of : ℕ → ℕ → List ℕ → List ℕ
 part_of count at bytes = take count (drop at bytes)
 
--- the digest of this many segments in the bytes, by their ids alone or with their lengths
+-- the digest at the front of the bytes, which lists this many segments, and their lengths if the flag is true
 abbrev pub digest_at : Bool → ℕ → List ℕ → Digest
 digest_at false count bytes = digest.Ids (ids_at count 5 bytes)
 digest_at true count bytes = digest.Lengths (listed_at count 5 bytes)
 
--- how many bytes it has
+-- how many bytes a digest of this many segments has, which lists their lengths if the flag is true
 abbrev pub digest_len : Bool → ℕ → ℕ
 digest_len false count = 5 + 8 * count
 digest_len true count = 5 + 16 * count
@@ -246,13 +246,13 @@ front_of (byte ∷ fields) = front_of_kind (kind_of byte) (byte ∷ fields)
 
 -- ---- what a reader answers
 
--- the bytes begin with the spelling of this entry, which has this length
+-- the bytes begin with the spelling of this entry, which has this many bytes
 pub record Begins (bytes : List ℕ) (e : Entry) (len : ℕ) : Type 0 where
   pub entry : IsEntry e
   pub within : len ≤ length bytes
   pub text : take len bytes ≡ spelling e
 
--- the entries that hold a list, for which a reader takes memory
+-- the entry has a list in it, for which a reader may allocate memory: a digest, an object or a tombstone
 abbrev pub HoldsList : Entry → Type 0
 HoldsList (entry.Header h) = ⊥
 HoldsList (entry.Digest d) = Unit {0}
@@ -260,8 +260,8 @@ HoldsList (entry.Safe version) = ⊥
 HoldsList (entry.Object o) = Unit {0}
 HoldsList (entry.Tombstone t) = Unit {0}
 
--- What a reader may answer in place of an entry: the fault that the first failing test names. NoMemory comes only if no
--- test fails and the entry holds a list.
+-- What a reader may answer in place of an entry: the fault of the first test that fails. It answers NoMemory only if
+-- no test fails and the entry has a list in it.
 abbrev pub MayFail : List ℕ → EntryFault → Type 0
 MayFail bytes Short = first_fault bytes ≡ Some Short
 MayFail bytes UnknownKind = first_fault bytes ≡ Some UnknownKind
@@ -270,7 +270,7 @@ MayFail bytes NoMemory = IsSomeAnd (front_of bytes) (λ front. HoldsList front.0
 
 -- ---- a law
 
--- No spelling begins the spelling of another entry, whatever comes after it.
+-- No entry's bytes begin with the bytes of another entry. So the same bytes can't begin with two different entries.
 abbrev pub SpellingsArePrefixFree : Type 0
 SpellingsArePrefixFree = (a b : Entry) (x y : List ℕ) → IsEntry a → IsEntry b → spelling a ++ x ≡ spelling b ++ y
     → (a ≡ b) × (x ≡ y)

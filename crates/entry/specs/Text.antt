@@ -14,12 +14,12 @@ use Rattle.entry.specs.declared.entry.Entry.TheVariants as entry
 use Rattle.entry.specs.Limits.{ids_in}
 use Rattle.entry.specs.Format.{spelling, front_of, IsEntry}
 
--- ---- the row of entries
+-- ---- the entries of a segment
 
 abbrev pub text_of : List Entry → List ℕ
 text_of es = flat_map spelling es
 
--- an object or a tombstone
+-- the entry is an object or a tombstone
 abbrev pub is_data : Entry → Bool
 is_data (entry.Header h) = false
 is_data (entry.Digest d) = false
@@ -36,38 +36,39 @@ abbrev pub listed_ids : Digest → List ℕ
 listed_ids (digest.Ids ids) = ids
 listed_ids (digest.Lengths segments) = ids_in segments
 
--- whether the digest lists the lengths of its segments
+-- the digest lists the lengths of its segments
 abbrev pub lists_lengths : Digest → Bool
 lists_lengths (digest.Ids ids) = false
 lists_lengths (digest.Lengths segments) = true
 
--- the length of the segment of this id; None if it isn't among them
+-- the listed length of the segment with this id; None if the list doesn't have this id
 abbrev pub len_in : ℕ → List Listed → Option ℕ
 len_in id [] = None
 len_in id (s ∷ ss) = if s.id == id then Some s.len else len_in id ss
 
--- the length that a digest lists for a segment; None if it lists no lengths, or not that segment
+-- the length that a digest lists for the segment with this id; None if it lists no lengths, or not this segment
 abbrev pub listed_len : ℕ → Digest → Option ℕ
 listed_len id (digest.Ids ids) = None
 listed_len id (digest.Lengths segments) = len_in id segments
 
--- the last of the ids is this one
+-- the last id of the list is this one
 abbrev pub ends_with : ℕ → List ℕ → Bool
 ends_with id [] = false
 ends_with id (x ∷ []) = x == id
 ends_with id (x ∷ y ∷ ys) = ends_with id (y ∷ ys)
 
--- behind the header of a head: a digest whose last id is the segment, a safe version, and then objects and tombstones
+-- What follows the header of a head: a digest whose last id is the head's own, a safe version, and then objects and
+-- tombstones.
 abbrev pub is_head_rest : ℕ → List Entry → Bool
 is_head_rest segment (entry.Digest d ∷ entry.Safe version ∷ rest) = ends_with segment (listed_ids d) && are_data rest
 is_head_rest segment _ = false
 
--- behind the header of a survivor: objects and tombstones
+-- What follows the header of a segment of this role. The header of a survivor is followed by objects and tombstones.
 abbrev pub is_rest : Role → ℕ → List Entry → Bool
 is_rest Head segment rest = is_head_rest segment rest
 is_rest Survivor segment rest = are_data rest
 
--- the entries are a whole segment's, in an order that is allowed
+-- the entries are those of a whole segment, in an order that is allowed
 abbrev pub is_whole : List Entry → Bool
 is_whole (entry.Header h ∷ rest) = is_rest h.role h.segment rest
 is_whole _ = false
@@ -76,33 +77,33 @@ is_whole _ = false
 abbrev pub IsBeginning : List Entry → Type 0
 IsBeginning es = (more : List Entry) × (is_whole (es ++ more) ≡ true)
 
--- what the entries of a segment are
+-- the entries are those of a whole segment, and each field of them is within its limits
 pub record IsSegment (es : List Entry) : Type 0 where
   pub each : AllByRecursion IsEntry es
   pub order : is_whole es ≡ true
 
--- the bytes are the text of these entries, which are a segment's
+-- the bytes are the text of these entries, which are those of a whole segment
 pub record IsTextOf (bytes : List ℕ) (es : List Entry) : Type 0 where
   pub segment : IsSegment es
   pub text : bytes ≡ text_of es
 
 -- ---- the entries of a text
 
--- the entries in the bytes, one after the other, at most this many
+-- the entries that are read from the bytes one after the other, at most this many, until no entry is at the front
 abbrev pub entries_within : ℕ → List ℕ → List Entry
 entries_within zero bytes = []
 entries_within (suc count) bytes =
     option_map_or (λ (front : Entry × ℕ). front.0 ∷ entries_within count (drop front.1 bytes)) (front_of bytes) []
 
--- the entries in the bytes, one after the other
+-- the entries that are read from the bytes one after the other, until no entry is at the front
 abbrev pub entries_in : List ℕ → List Entry
 entries_in bytes = entries_within (length bytes) bytes
 
--- the objects and tombstones among them
+-- the objects and tombstones among the entries in the bytes
 abbrev pub data_in : List ℕ → List Entry
 data_in bytes = filter is_data (entries_in bytes)
 
--- a head's digest and recorded safe version
+-- the digest of a head, and the safe version that follows it
 pub record Opening : Type 0 where
   pub digest : Digest
   pub safe : ℕ
@@ -111,7 +112,7 @@ abbrev pub opening_of : List Entry → Option Opening
 opening_of (entry.Header h ∷ entry.Digest d ∷ entry.Safe version ∷ rest) = Some (record { digest = d; safe = version })
 opening_of _ = None
 
--- the opening of a head; None if the bytes have no digest
+-- the opening of the head in the bytes; None if they don't begin with a header, a digest and a safe version
 abbrev pub opening_in : List ℕ → Option Opening
 opening_in bytes = opening_of (entries_in bytes)
 
@@ -119,7 +120,7 @@ abbrev pub header_of : List Entry → Option Header
 header_of (entry.Header h ∷ rest) = Some h
 header_of _ = None
 
--- the header at the front
+-- the header at the front of the bytes; None if no header is there
 abbrev pub header_in : List ℕ → Option Header
 header_in bytes = header_of (entries_in bytes)
 
@@ -129,6 +130,6 @@ IsSegmentText bytes = (es : List Entry) × IsTextOf bytes es
 
 -- ---- laws
 
--- A text has one row of entries: those that are read from it.
+-- A text that was made from entries is read as exactly these entries.
 abbrev pub TextsAreRead : Type 0
 TextsAreRead = (es : List Entry) → AllByRecursion IsEntry es → entries_in (text_of es) ≡ es

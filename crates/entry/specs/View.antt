@@ -1,4 +1,4 @@
--- What a borrowed entry shows: the entry that lies in the bytes.
+-- The entry that a view shows.
 use Rattle.std.specs.Prelude.{◌≡◌, ℕ, List, Some, None, Result, Ok, Err}
 use Rattle.entry.specs.declared.key.Key.{Key}
 use Rattle.entry.specs.declared.digest.Digest.{Digest}
@@ -29,7 +29,7 @@ shown_tombstone t = record { key = shown_key t.key; version = t.version; segment
 abbrev pub shown_digest : DigestRef → Digest
 shown_digest d = digest_at d.has_lengths d.count d.text.now
 
--- the ids of the segments that it lists
+-- the ids of the segments that the digest lists
 abbrev pub shown_ids : DigestRef → List ℕ
 shown_ids d = listed_ids (shown_digest d)
 
@@ -40,7 +40,7 @@ shown (view.Safe version) = entry.Safe version
 shown (view.Object o) = entry.Object (shown_object o)
 shown (view.Tombstone t) = entry.Tombstone (shown_tombstone t)
 
--- what a reader of this kind answers
+-- what the reader of this kind answers: the entry in the bytes and its length, or the fault of the first failing test
 abbrev pub Reads : Kind → List ℕ → Result (EntryRef × ℕ) EntryFault → Type 0
 Reads k bytes (Ok x) = (fault_in k bytes ≡ None) × (shown x.0 ≡ entry_of k bytes) × (x.1 ≡ whole_len k bytes)
 Reads k bytes (Err f) = fault_in k bytes ≡ Some f

@@ -14,22 +14,22 @@ const MIN_LEN: u64 = 18;
 /// The most bytes of a segment.
 const MAX_LEN: u64 = 8_388_608;
 
-/// Whether a segment may have this many bytes.
+/// Returns true if a segment may have `len` bytes: 18 to 8,388,608.
 pub(crate) fn is_len(len: u64) -> bool
     ensures { result ≡ is_within 18 8388608 len }
 {
     MIN_LEN <= len && len <= MAX_LEN
 }
 
-/// A segment, and how many bytes it has.
+/// A segment that a digest lists, with its length in bytes.
 #[derive(Clone, Copy)]
 pub struct Listed {
     pub id: u64,
     pub len: u64,
 }
 
-/// The segments of a digest with their lengths. Their ids rise strictly, a count of 32 bits counts them, and each length
-/// is 18 to 8,388,608. A contract sees them as a list.
+/// The segments of a digest with their lengths. Their ids rise strictly. There are fewer than 2^32 segments, and each
+/// has 18 to 8,388,608 bytes. A contract sees them as a list.
 #[derive(Clone, Drop)]
 pub struct Lengths {
     segments: Vec<Listed>,
@@ -48,7 +48,7 @@ impl Model for Lengths {
 }
 
 impl Lengths {
-    /// The digest of these segments. It takes no memory.
+    /// Makes the list from these segments. This call allocates no memory.
     pub fn new(segments: Vec<Listed>) -> Lengths
         requires { AreLengths segments.items }
         ensures { result ≡ segments.items }
@@ -64,7 +64,7 @@ impl Lengths {
     }
 }
 
-/// The segments of a log.
+/// A list of the segments of a log: their ids alone (format 1), or their ids and lengths (format 2).
 #[derive(Clone, Drop)]
 pub enum Digest {
     Ids(Ids),
@@ -72,7 +72,7 @@ pub enum Digest {
 }
 
 impl Digest {
-    /// How many bytes the spelling has.
+    /// Returns how many bytes the digest has as an entry of a text.
     pub fn spelled_len(&self) -> usize
         ensures len { result ≡ length (digest_spelling self.now) }
         ensures valid { IsDigest self.now }

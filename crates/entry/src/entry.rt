@@ -1,11 +1,11 @@
-//! What an entry is.
+//! Entries: the pieces of a segment.
 
 use crate::digest::Digest;
 use crate::key::Key;
 use crate::kind::{HEADER_LEN, OBJECT_LEN, SAFE_LEN, TOMBSTONE_LEN};
 use crate::limits::{SafeVersion, Value, Version};
 
-/// What a segment is for.
+/// The role of a segment in the log. A head takes appends, and a survivor has what a pass of the cleaner copied.
 #[derive(Clone, Copy)]
 pub enum Role {
     Head,
@@ -16,7 +16,7 @@ impl Role {
     ghost use Rattle.std.specs.Prelude.{◌≡◌, ◌<◌, IfSome, IfNone};
     ghost use Rattle.entry.specs.Format.{role_byte};
 
-    /// The role of a byte.
+    /// Returns the role that this byte stands for, or None if it stands for no role.
     pub(crate) fn from_byte(byte: u8) -> Option<Role>
         ensures some { IfSome result (λ role. byte ≡ role_byte role) }
         ensures none { IfNone result (1 < byte) }
@@ -28,7 +28,7 @@ impl Role {
         }
     }
 
-    /// The byte of the role.
+    /// Returns the byte that stands for the role.
     pub(crate) fn byte(self) -> u8
         ensures { result ≡ role_byte self }
     {
@@ -39,7 +39,7 @@ impl Role {
     }
 }
 
-/// How a segment begins.
+/// The first entry of a segment: the number of its master, its id, and its role.
 #[derive(Clone, Copy)]
 pub struct Header {
     pub master: u64,
@@ -47,7 +47,7 @@ pub struct Header {
     pub role: Role,
 }
 
-/// A key's value as of a version.
+/// An entry that puts a value at a key, with a version.
 #[derive(Clone, Drop)]
 pub struct Object {
     pub key: Key,
@@ -55,7 +55,7 @@ pub struct Object {
     pub value: Value,
 }
 
-/// The end of the object of a key and version, which lay in this segment.
+/// An entry that ends an object: the object of this key and this version, which lies in this segment.
 #[derive(Clone, Drop)]
 pub struct Tombstone {
     pub key: Key,
@@ -63,11 +63,11 @@ pub struct Tombstone {
     pub segment: u64,
 }
 
-/// An entry of the log. Each value is within the limits of the format.
+/// An entry of the log. Each field is within the limits of the format.
 #[derive(Clone, Drop)]
 pub enum Entry {
     Header(Header),
-    /// All segments of the log.
+    /// The list of all segments of the log.
     Digest(Digest),
     Safe(SafeVersion),
     Object(Object),
@@ -78,7 +78,7 @@ impl Entry {
     ghost use Rattle.std.specs.Prelude.{◌≡◌, length};
     ghost use Rattle.entry.specs.Format.{spelling, IsEntry};
 
-    /// How many bytes the spelling has.
+    /// Returns how many bytes the entry has in a text.
     pub(crate) fn spelled_len(&self) -> usize
         ensures len { result ≡ length (spelling self.now) }
         ensures valid { IsEntry self.now }

@@ -1,4 +1,4 @@
-//! Keys, and the place of each.
+//! Keys, and the place of each key in its table.
 
 ghost use Rattle.std.specs.Cmp.{partial_equiv_from_equiv, partial_order_from_agreeing_total};
 ghost use Rattle.std.specs.Cmp.Lexicographic.{pointwise, nat_list_eq_equiv};
@@ -14,7 +14,7 @@ use std::alloc::Global;
 use std::cmp::Ordering;
 use std::marker::Model;
 
-/// The most bytes that a key has.
+/// The most bytes that a key may have.
 pub const MAX_KEY_LEN: usize = 1024;
 
 /// The bytes of a key: 1 to 1,024 of them. A contract sees them as a list.
@@ -35,7 +35,7 @@ impl Model for KeyBytes {
 }
 
 impl KeyBytes {
-    /// A copy of these bytes. Up to 15 of them take no memory.
+    /// Copies these bytes. The call allocates memory only if there are more than 15 bytes.
     pub(crate) fn from_slice(alloc: Global, bytes: &[u8]) -> Result<KeyBytes, NoMemory>
         requires not_empty { 0 < length bytes.now }
         requires limit { length bytes.now ≤ MAX_KEY_LEN }
@@ -54,7 +54,7 @@ impl KeyBytes {
     }
 }
 
-/// A key: a table, and bytes in it. Keys are ordered by table, then by bytes.
+/// A key: the number of a table, and 1 to 1,024 bytes. Keys are ordered by table, then by bytes.
 #[derive(Clone, Debug, Drop, PartialEq, Eq)]
 pub struct Key {
     pub table: u64,
@@ -62,7 +62,8 @@ pub struct Key {
 }
 
 impl Key {
-    /// Bytes that are neither empty nor too long are refused only if memory runs out. Up to 15 of them take none.
+    /// Makes the key of this table and these bytes. The call refuses no bytes, and more than 1,024 bytes. It allocates
+    /// memory only if there are more than 15 bytes, and it also fails if memory runs out.
     pub fn new(alloc: Global, table: u64, bytes: &[u8]) -> Result<Key, KeyFault>
         ensures ok { IfOk result (λ key. (key.table ≡ table) × (key.bytes ≡ bytes.now)) }
         ensures empty { IsErrOf result KeyFault.Empty ↔ (length bytes.now ≡ 0) }
@@ -80,7 +81,7 @@ impl Key {
     }
 }
 
-/// The place of a key of these bytes in its table.
+/// Returns the place of a key with these bytes in its table.
 pub(crate) fn place_at(bytes: &[u8]) -> u64
     ensures { result ≡ place_of bytes.now }
 {
@@ -90,7 +91,8 @@ pub(crate) fn place_at(bytes: &[u8]) -> u64
     u64::from_be_bytes(first)
 }
 
-/// The place of a key in its table: its first eight bytes, a shorter key padded with zero bytes, as a number.
+/// Returns the place of a key in its table: the big-endian number of its first eight bytes. A shorter key is padded
+/// with zero bytes at its end.
 pub fn place(key: &Key) -> u64
     ensures { result ≡ place_of key.now.bytes }
 {
@@ -98,7 +100,7 @@ pub fn place(key: &Key) -> u64
 }
 
 impl<'a> KeyRef<'a> {
-    /// The place of the key in its table.
+    /// Returns the place of the key in its table, like `place`.
     pub fn place(&self) -> u64
         ensures { result ≡ place_of self.now.bytes.now }
     {

@@ -4,17 +4,17 @@ ghost use Rattle.entry.specs.Format.{SpellingsArePrefixFree};
 ghost use Rattle.entry.specs.Text.{TextsAreRead};
 ghost use Rattle.entry.specs.Tablet.{TabletsAreDisjoint};
 
-/// No spelling begins the spelling of another entry.
+/// No entry's bytes begin with the bytes of another entry.
 pub fn one_spelling()
     ensures { SpellingsArePrefixFree }
 {}
 
-/// The entries that are read from a text are those that it was made of.
+/// A text that was made from entries is read as exactly these entries.
 pub fn one_reading()
     ensures { TextsAreRead }
 {}
 
-/// No key lies in two tablets of a valid list.
+/// No key lies in two tablets of a valid list of tablets.
 pub fn one_tablet()
     ensures { TabletsAreDisjoint }
 {}

@@ -1,4 +1,4 @@
-//! The entries of a log: what they are, the one spelling of each, and how one is read.
+//! The entries of a log, and their format: which bytes each entry has (its spelling), and how a reader reads it.
 #![tactic(auto)]
 
 mod digest;

@@ -1,4 +1,4 @@
-//! From entries that lie in bytes to entries of their own, and back.
+//! Conversions between a view of an entry, which borrows the bytes of a text, and an entry that owns its bytes.
 
 ghost use Rattle.std.specs.Prelude.{◌≡◌, ◌<◌, Some, length, true, false, IfOk, OnErr, IsSomeAnd, slice_get};
 ghost use Rattle.entry.specs.Format.{HoldsList};
@@ -16,7 +16,7 @@ use crate::view::{DigestRef, EntryRef, KeyRef, ObjectRef, TombstoneRef};
 use std::alloc::Global;
 
 impl<'a> KeyRef<'a> {
-    /// A key of its own.
+    /// Copies the key into memory of its own.
     pub fn to_key(&self, alloc: Global) -> Result<Key, NoMemory>
         ensures { IfOk result (λ key. key ≡ shown_key self.now) }
     {
@@ -29,7 +29,7 @@ impl<'a> KeyRef<'a> {
 }
 
 impl<'a> ObjectRef<'a> {
-    /// An object of its own.
+    /// Copies the object into memory of its own.
     pub fn to_object(&self, alloc: Global) -> Result<Object, NoMemory>
         ensures { IfOk result (λ object. object ≡ shown_object self.now) }
     {
@@ -44,7 +44,7 @@ impl<'a> ObjectRef<'a> {
 }
 
 impl<'a> TombstoneRef<'a> {
-    /// A tombstone of its own.
+    /// Copies the tombstone into memory of its own.
     fn to_tombstone(&self, alloc: Global) -> Result<Tombstone, NoMemory>
         ensures { IfOk result (λ tombstone. tombstone ≡ shown_tombstone self.now) }
     {
@@ -59,21 +59,21 @@ impl<'a> TombstoneRef<'a> {
 }
 
 impl<'a> DigestRef<'a> {
-    /// How many segments the digest lists.
+    /// Returns how many segments the digest lists.
     pub fn count(&self) -> usize
         ensures { result ≡ length (shown_ids self.now) }
     {
         self.count
     }
 
-    /// Whether the digest lists the lengths of its segments.
+    /// Returns true if the digest lists the lengths of its segments.
     pub fn lists_lengths(&self) -> bool
         ensures { result ≡ lists_lengths (shown_digest self.now) }
     {
         self.has_lengths
     }
 
-    /// The id at a place, which counts from 0.
+    /// Returns the id of the segment at this place of the digest. Places count from 0.
     pub fn id(&self, place: usize) -> u64
         requires { place < length (shown_ids self.now) }
         ensures { slice_get (shown_ids self.now) place ≡ Some result }
@@ -85,7 +85,7 @@ impl<'a> DigestRef<'a> {
         }
     }
 
-    /// The length of the segment at a place, if the digest lists lengths.
+    /// Returns the length of the segment at this place of the digest, or None if the digest lists no lengths.
     pub fn len(&self, place: usize) -> Option<u64>
         requires { place < length (shown_ids self.now) }
         ensures { IsSomeAnd (slice_get (shown_ids self.now) place)
@@ -98,7 +98,7 @@ impl<'a> DigestRef<'a> {
         }
     }
 
-    /// The ids, in memory of their own.
+    /// Copies the ids into memory of their own.
     fn to_ids(&self, alloc: Global) -> Result<Ids, NoMemory>
         requires { self.now.has_lengths ≡ false }
         ensures { IfOk result (λ ids. Digest.Ids ids ≡ shown_digest self.now) }
@@ -110,7 +110,7 @@ impl<'a> DigestRef<'a> {
         Ok(Ids::new(ids))
     }
 
-    /// The segments with their lengths, in memory of their own.
+    /// Copies the ids and the lengths of the segments into memory of their own.
     fn to_lengths(&self, alloc: Global) -> Result<Lengths, NoMemory>
         requires { self.now.has_lengths ≡ true }
         ensures { IfOk result (λ segments. Digest.Lengths segments ≡ shown_digest self.now) }
@@ -124,7 +124,7 @@ impl<'a> DigestRef<'a> {
         Ok(Lengths::new(segments))
     }
 
-    /// A digest of its own.
+    /// Copies the digest into memory of its own.
     fn to_digest(&self, alloc: Global) -> Result<Digest, NoMemory>
         ensures { IfOk result (λ digest. digest ≡ shown_digest self.now) }
     {
@@ -137,7 +137,7 @@ impl<'a> DigestRef<'a> {
 }
 
 impl<'a> EntryRef<'a> {
-    /// An entry of its own. A header and a safe version take no memory.
+    /// Copies the entry into memory of its own. For a header and for a safe version the call allocates no memory.
     pub fn to_entry(&self, alloc: Global) -> Result<Entry, NoMemory>
         ensures ok { IfOk result (λ entry. entry ≡ shown self.now) }
         ensures err { OnErr result (HoldsList (shown self.now)) }
@@ -153,7 +153,7 @@ impl<'a> EntryRef<'a> {
 }
 
 impl Key {
-    /// The key as it lies here, without a copy.
+    /// Returns a view of the key, without a copy of its bytes.
     pub fn view(&self) -> KeyRef<'_>
         ensures { shown_key result ≡ self.entry.now }
     {

@@ -1,4 +1,4 @@
-//! Reading entries.
+//! The reader of entries.
 
 ghost use Rattle.std.specs.Prelude.{◌≡◌, ◌+◌, ◌*◌, ◌≤◌, ◌<◌, ◌++◌, ℕ, List, Some, length};
 ghost use Rattle.std.specs.Prelude.{slice_index, IfOk, IfErr, IsOkAnd, MatchResult};
@@ -56,7 +56,7 @@ fn read_header(bytes: &[u8]) -> Result<(EntryRef<'_>, usize), EntryFault>
     Ok((EntryRef::Header(header), HEADER_LEN))
 }
 
-/// Whether the ids of a digest rise strictly.
+/// Returns true if the ids of the digest rise strictly.
 fn ids_rise(bytes: &[u8], count: usize) -> bool
     requires { 5 + 8 * count ≤ length bytes.now }
     ensures { result ≡ rises (ids_at count 5 bytes.now) }
@@ -89,7 +89,7 @@ fn read_digest(bytes: &[u8]) -> Result<(EntryRef<'_>, usize), EntryFault>
     Ok((EntryRef::Digest(digest), end))
 }
 
-/// Whether each length is within its limits, and the ids rise strictly.
+/// Returns true if each length in the digest is within its limits, and the ids rise strictly.
 fn are_segments(bytes: &[u8], count: usize) -> bool
     requires { 5 + 16 * count ≤ length bytes.now }
     ensures { result ≡ are_listed (listed_at count 5 bytes.now) }
@@ -213,7 +213,7 @@ fn read_kind(kind: Kind, bytes: &[u8]) -> Result<(EntryRef<'_>, usize), EntryFau
     }
 }
 
-/// The entry at the front of bytes that begin with the byte of this kind.
+/// Reads the entry at the front of the bytes, whose first byte says this kind.
 #[inline(always)]
 fn read_as(kind: Kind, bytes: &[u8]) -> Result<(EntryRef<'_>, usize), EntryFault>
     requires some { 0 < length bytes.now }
@@ -225,7 +225,7 @@ fn read_as(kind: Kind, bytes: &[u8]) -> Result<(EntryRef<'_>, usize), EntryFault
     read_kind(kind, bytes)
 }
 
-/// The entry at the front of bytes that begin with this byte.
+/// Reads the entry at the front of the bytes, whose first byte is `byte`.
 #[inline(never)]
 fn read_any(byte: u8, bytes: &[u8]) -> Result<(EntryRef<'_>, usize), EntryFault>
     requires some { 0 < length bytes.now }
@@ -240,8 +240,8 @@ fn read_any(byte: u8, bytes: &[u8]) -> Result<(EntryRef<'_>, usize), EntryFault>
     }
 }
 
-// Most entries are objects and tombstones. Only these are read in the caller, so that it keeps what it reads in
-// registers.
+// Most entries are objects and tombstones. Only their readers are inlined in the caller, which then keeps their fields
+// in registers.
 #[inline(always)]
 fn read_front(bytes: &[u8]) -> Result<(EntryRef<'_>, usize), EntryFault>
     ensures found { IfOk result (λ read. Begins bytes.entry.now (shown read.0) read.1) }
@@ -262,32 +262,33 @@ fn read_front(bytes: &[u8]) -> Result<(EntryRef<'_>, usize), EntryFault>
 }
 
 impl<'a> EntryRef<'a> {
-    /// The entry at the front of the bytes, and how many bytes it takes. What follows it isn't looked at, and no memory
-    /// is taken.
+    /// Reads the entry at the front of the bytes. Returns it with its length in bytes. The reader doesn't look at what
+    /// follows the entry, and allocates no memory.
     #[inline(always)]
     pub fn read(bytes: &'a [u8]) -> Result<(EntryRef<'a>, usize), EntryFault>
-        // What is read is spelled at the front.
+        // The bytes begin with the spelling of the entry that was read.
         ensures found { IfOk result (λ read. Begins bytes.entry.now (shown read.0) read.1) }
         ensures front { IfOk result (λ read. front_of bytes.entry.now ≡ Some (shown read.0, read.1)) }
-        // What is spelled at the front is read.
+        // If the bytes begin with the spelling of an entry, then this entry is read.
         ensures complete { (entry : Entry) (rest : List ℕ) → IsEntry entry → bytes.entry.now ≡ spelling entry ++ rest →
             IsOkAnd result (λ read. (shown read.0 ≡ entry) × (read.1 ≡ length (spelling entry))) }
-        // A fault is the one that the first failing test names.
+        // The fault is that of the first test that fails.
         ensures fault { IfErr result (λ fault. first_fault bytes.entry.now ≡ Some fault) }
     {
         read_front(bytes)
     }
 }
 
-/// The entry at the front of the bytes, and how many bytes it takes. What follows it isn't looked at.
+/// Reads the entry at the front of the bytes into memory of its own. Returns it with its length in bytes. The reader
+/// doesn't look at what follows the entry.
 pub fn read_entry(alloc: Global, bytes: &[u8]) -> Result<(Entry, usize), EntryFault>
-    // What is read is spelled at the front.
+    // The bytes begin with the spelling of the entry that was read.
     ensures found { IfOk result (λ read. Begins bytes.now read.0 read.1) }
-    // What is spelled at the front is read, unless memory runs out.
+    // If the bytes begin with the spelling of an entry, then this entry is read, unless memory runs out.
     ensures complete { (entry : Entry) (rest : List ℕ) → IsEntry entry → bytes.now ≡ spelling entry ++ rest →
         MatchResult result (λ read. (read.0 ≡ entry) × (read.1 ≡ length (spelling entry)))
         (λ fault. fault ≡ EntryFault.NoMemory) }
-    // A fault is the one that the first failing test names. NoMemory comes only if no test fails.
+    // The fault is that of the first test that fails. NoMemory comes only if no test fails.
     ensures fault { IfErr result (λ fault. MayFail bytes.now fault) }
 {
     match EntryRef::read(bytes) {

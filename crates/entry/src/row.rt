@@ -1,8 +1,8 @@
-//! Rows of values.
+//! Lists of values that don't change.
 
 use std::marker::Model;
 
-/// Values in a row. A contract sees them as a list.
+/// A list of values that doesn't change. A contract sees it as a list.
 #[derive(Drop)]
 pub struct Row<T> {
     values: Vec<T>,
@@ -19,7 +19,7 @@ impl<T> Model for Row<T> {
 impl<T> Row<T> {
     ghost use Rattle.std.specs.Prelude.{◌≡◌};
 
-    /// The row of these values. It takes no memory.
+    /// Makes the row of these values. This call allocates no memory.
     pub fn new(values: Vec<T>) -> Row<T>
         ensures { result ≡ values.items }
     {

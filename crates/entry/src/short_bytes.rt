@@ -1,4 +1,4 @@
-//! Bytes that take memory of their own only if they are many.
+//! Byte strings that allocate memory only if they are long.
 
 ghost use Rattle.std.specs.Prelude.{◌≡◌, ◌<◌, length, IfOk, OnErr};
 
@@ -6,13 +6,14 @@ use std::alloc::{AllocError, Global};
 use std::fmt;
 use std::marker::Model;
 
-/// Up to this many bytes lie in the value itself.
+/// A copy of up to this many bytes lies in the value itself.
 const INLINE_LEN: usize = 15;
 
-/// Bytes in a row. A few lie in the value itself, and more in memory of their own. A contract sees a list.
+/// A byte string. A copy of up to 15 bytes lies in the value itself, and a longer one in allocated memory. A contract
+/// sees the bytes as a list.
 #[derive(Clone, Drop)]
 pub(crate) struct ShortBytes {
-    /// How many bytes lie in the value; 0 if there are others.
+    /// The number of bytes in `inline`. If it is 0, then all bytes lie in `heap`.
     len: u8,
     inline: [u8; INLINE_LEN],
     heap: Vec<u8>,
@@ -29,7 +30,7 @@ impl Model for ShortBytes {
 }
 
 impl ShortBytes {
-    /// These bytes. It takes no memory.
+    /// Takes over these bytes, without a copy.
     pub(crate) fn of_vec(bytes: Vec<u8>) -> ShortBytes
         ensures { result ≡ bytes.items }
     {
@@ -40,7 +41,7 @@ impl ShortBytes {
         }
     }
 
-    /// A copy of these bytes. A few take no memory.
+    /// Copies these bytes. The call allocates memory only if there are more than 15 bytes.
     pub(crate) fn from_slice(alloc: Global, bytes: &[u8]) -> Result<ShortBytes, AllocError>
         ensures copy { IfOk result (λ copy. copy ≡ bytes.now) }
         ensures few { OnErr result (15 < length bytes.now) }

@@ -1,4 +1,4 @@
-//! Tablets: ranges of places of a table.
+//! Tablets: ranges of the places of a table.
 
 ghost use Rattle.std.specs.Prelude.{◌≡◌, List};
 ghost use Rattle.entry.specs.View.{shown_key};
@@ -15,7 +15,7 @@ pub struct Tablet {
     pub last: u64,
 }
 
-/// How many bytes an object at a place of a table has.
+/// The size in bytes of one object, with the table and the place of its key.
 #[derive(Clone, Copy)]
 pub struct Size {
     pub table: u64,
@@ -28,7 +28,7 @@ impl Tablet {
     ghost use Rattle.entry.specs.View.{shown_key};
     ghost use Rattle.entry.specs.Tablet.{has_key, is_before};
 
-    /// Whether the key's place is in the tablet.
+    /// Returns true if the key's place is in the tablet.
     fn has(&self, key: &KeyRef) -> bool
         ensures { result ≡ has_key self.now (shown_key key.now) }
     {
@@ -36,7 +36,7 @@ impl Tablet {
         self.table == key.table && self.first <= place && place <= self.last
     }
 
-    /// Whether the tablet ends before the other begins.
+    /// Returns true if this tablet ends before `other` begins.
     fn is_before(&self, other: &Tablet) -> bool
         ensures { result ≡ is_before self.now other.now }
     {
@@ -52,14 +52,15 @@ impl Row<Tablet> {
     ghost use Rattle.entry.specs.View.{shown_key};
     ghost use Rattle.entry.specs.Tablet.{have_key, are_tablets};
 
-    /// Whether the key's place is in one of the tablets.
+    /// Returns true if the key's place is in one of the tablets.
     pub fn have(&self, key: &KeyRef) -> bool
         ensures { result ≡ have_key self.now (shown_key key.now) }
     {
         self.as_slice().iter().any(|tablet| tablet.has(key))
     }
 
-    /// Whether there are some, each begins no later than it ends, and they are sorted and disjoint.
+    /// Returns true if the list of tablets is valid: it isn't empty, each tablet has at least one place, and the
+    /// tablets are sorted and disjoint.
     pub fn are_valid(&self) -> bool
         ensures { result ≡ are_tablets self.now }
     {
@@ -70,7 +71,8 @@ impl Row<Tablet> {
 ghost use Rattle.std.specs.Prelude.{◌<◌, length};
 ghost use Rattle.entry.specs.Tablet.{are_in_order as in_order, are_tablets as are_valid};
 
-/// Whether there are some, each begins no later than it ends, and they are sorted and disjoint.
+/// Returns true if this is a valid list of tablets: it isn't empty, each tablet has at least one place, and the
+/// tablets are sorted and disjoint.
 pub fn are_tablets(tablets: &[Tablet]) -> bool
     ensures { result ≡ are_valid tablets.now }
 {

@@ -1,4 +1,4 @@
-//! Entries that lie in bytes, seen without a copy.
+//! Views of entries: they borrow the bytes of a text and copy nothing.
 
 ghost use Rattle.std.specs.Prelude.{◌≡◌, ◌≤◌, true, false, length};
 ghost use Rattle.entry.specs.Key.{IsKeyBytes};
@@ -9,7 +9,7 @@ use crate::entry::Header;
 use crate::limits::{SafeVersion, Version};
 use std::cmp::Ordering;
 
-/// A key whose bytes lie elsewhere. Keys are ordered by table, then by bytes.
+/// A view of a key, which borrows its bytes. Keys are ordered by table, then by bytes.
 #[derive(Clone, Copy, PartialEq, Eq)]
 pub struct KeyRef<'a> {
     pub table: u64,
@@ -18,7 +18,7 @@ pub struct KeyRef<'a> {
     ghost limits: { IsKeyBytes bytes.now },
 }
 
-/// An object whose key and value lie elsewhere.
+/// A view of an object, which borrows the bytes of its key and its value.
 #[derive(Clone, Copy)]
 pub struct ObjectRef<'a> {
     pub key: KeyRef<'a>,
@@ -28,7 +28,7 @@ pub struct ObjectRef<'a> {
     ghost limits: { IsValue value.now },
 }
 
-/// A tombstone whose key lies elsewhere.
+/// A view of a tombstone, which borrows the bytes of its key.
 #[derive(Clone, Copy)]
 pub struct TombstoneRef<'a> {
     pub key: KeyRef<'a>,
@@ -37,7 +37,8 @@ pub struct TombstoneRef<'a> {
     pub segment: u64,
 }
 
-/// A digest that lies in bytes: its text, how many segments that lists, and whether with their lengths.
+/// A view of a digest. It borrows bytes that begin with the digest, and knows the number of listed segments and
+/// whether the digest lists their lengths.
 #[derive(Clone, Copy)]
 pub struct DigestRef<'a> {
     pub(crate) count: usize,
@@ -48,7 +49,7 @@ pub struct DigestRef<'a> {
     ghost lengths: { has_lengths ≡ true → AreLengths (listed_at count 5 text.now) },
 }
 
-/// An entry that lies in bytes. To look at it takes no memory.
+/// A view of an entry, which borrows its bytes. A view allocates no memory.
 #[derive(Clone, Copy)]
 pub enum EntryRef<'a> {
     Header(Header),

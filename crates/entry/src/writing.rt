@@ -1,4 +1,4 @@
-//! Writing entries.
+//! The writer of entries.
 
 ghost use Rattle.std.specs.Prelude.{◌≡◌, ◌+◌, ◌*◌, ◌<◌, ◌≤◌, ◌^◌, [], ◌∷◌, ◌++◌, length};
 ghost use Rattle.std.specs.Prelude.{vec_len, vec_capacity, OnOk, OnErr};
@@ -38,7 +38,7 @@ fn put_u32(out: &mut Vec<u8>, number: u32)
     out.extend_from_slice(&bytes).unwrap()
 }
 
-/// Appends a key's or a value's bytes, if there is room for them.
+/// Appends these bytes to `out`, which has room for them.
 fn put_bytes(out: &mut Vec<u8>, bytes: &[u8])
     requires { vec_len out.old + length bytes.now ≤ vec_capacity out.old }
     ensures items { out.new.items ≡ out.old.items ++ bytes.now }
@@ -48,7 +48,7 @@ fn put_bytes(out: &mut Vec<u8>, bytes: &[u8])
     out.extend_from_slice(bytes).unwrap()
 }
 
-/// Appends the number of one byte, if there is room for it.
+/// Appends one byte to `out`, which has room for it.
 fn put_u8(out: &mut Vec<u8>, number: u8)
     requires { vec_len out.old + 1 ≤ vec_capacity out.old }
     ensures items { out.new.items ≡ out.old.items ++ number ∷ [] }
@@ -58,7 +58,7 @@ fn put_u8(out: &mut Vec<u8>, number: u8)
     out.push(number).unwrap()
 }
 
-/// Appends ids, if there is room for them.
+/// Appends ids to `out`, which has room for them. Each id takes 8 bytes.
 fn put_ids(out: &mut Vec<u8>, ids: &[u64])
     requires { vec_len out.old + 8 * length ids.now ≤ vec_capacity out.old }
     ensures { out.new.items ≡ out.old.items ++ flat_map (number_bytes 8) ids.now }
@@ -68,7 +68,7 @@ fn put_ids(out: &mut Vec<u8>, ids: &[u64])
     }
 }
 
-/// Appends segments with their lengths, if there is room for them.
+/// Appends listed segments to `out`, which has room for them. The id and the length of a segment take 8 bytes each.
 fn put_listed(out: &mut Vec<u8>, segments: &[Listed])
     requires { vec_len out.old + 16 * length segments.now ≤ vec_capacity out.old }
     ensures { out.new.items ≡ out.old.items ++ flat_map listed_bytes segments.now }
@@ -97,7 +97,7 @@ fn put_digest(out: &mut Vec<u8>, digest: &Digest)
     }
 }
 
-/// The fixed part of an object.
+/// Returns the fixed part of an object.
 #[inline(always)]
 #[tactic(auto, unfolding(crate::specs::Format::number_bytes))]
 fn object_front(table: u64, version: u64, key_len: u16, value_len: u32) -> [u8; OBJECT_LEN]
@@ -112,7 +112,7 @@ fn object_front(table: u64, version: u64, key_len: u16, value_len: u32) -> [u8; 
     front
 }
 
-/// The fixed part of a tombstone.
+/// Returns the fixed part of a tombstone.
 #[inline(always)]
 #[tactic(auto, unfolding(crate::specs::Format::number_bytes))]
 fn tombstone_front(table: u64, version: u64, segment: u64, key_len: u16) -> [u8; TOMBSTONE_LEN]
@@ -127,7 +127,7 @@ fn tombstone_front(table: u64, version: u64, segment: u64, key_len: u16) -> [u8;
     front
 }
 
-/// Appends an object's fixed part at once, and then its key and its value.
+/// Appends an object to `out`, which has room for it: its fixed part as one piece, and then its key and its value.
 #[inline(always)]
 fn put_object(out: &mut Vec<u8>, key: &KeyRef, version: Version, value: &[u8])
     requires limit { length value.now ≤ 2097152 }
@@ -159,7 +159,7 @@ fn put_tombstone(out: &mut Vec<u8>, key: &KeyRef, version: Version, segment: u64
     put_bytes(out, key.bytes);
 }
 
-/// Appends the spelling, if there is room for it.
+/// Appends the spelling of an entry to `out`, which has room for it.
 fn put_entry(out: &mut Vec<u8>, entry: &Entry)
     requires { vec_len out.old + length (spelling entry.now) ≤ vec_capacity out.old }
     ensures { out.new.items ≡ out.old.items ++ spelling entry.now }
@@ -187,7 +187,7 @@ fn put_entry(out: &mut Vec<u8>, entry: &Entry)
     }
 }
 
-/// Appends the spelling of an entry.
+/// Appends the spelling of an entry to `out`. If memory runs out, then the bytes of `out` stay as they were.
 pub fn write_entry(entry: &Entry, out: &mut Vec<u8>) -> Result<(), NoMemory>
     ensures valid { IsEntry entry.now }
     ensures ok { OnOk result (out.new.items ≡ out.old.items ++ spelling entry.now) }
@@ -200,7 +200,7 @@ pub fn write_entry(entry: &Entry, out: &mut Vec<u8>) -> Result<(), NoMemory>
 }
 
 impl<'a> ObjectRef<'a> {
-    /// How many bytes the spelling has.
+    /// Returns how many bytes the object has in a text.
     pub fn spelled_len(&self) -> usize
         ensures len { result ≡ length (spelling (Entry.Object (shown_object self.now))) }
         ensures limit { result ≤ 23 + 1024 + 2097152 }
@@ -211,7 +211,7 @@ impl<'a> ObjectRef<'a> {
         OBJECT_LEN + self.key.bytes.len() + self.value.len()
     }
 
-    /// Appends the spelling.
+    /// Appends the spelling of the object to `out`. If memory runs out, then the bytes of `out` stay as they were.
     pub fn write(&self, out: &mut Vec<u8>) -> Result<(), NoMemory>
         ensures ok { OnOk result
             (out.new.items ≡ out.old.items ++ spelling (Entry.Object (shown_object self.now))) }
@@ -227,7 +227,7 @@ impl<'a> ObjectRef<'a> {
 }
 
 impl<'a> TombstoneRef<'a> {
-    /// How many bytes the spelling has.
+    /// Returns how many bytes the tombstone has in a text.
     pub fn spelled_len(&self) -> usize
         ensures len { result ≡ length (spelling (Entry.Tombstone (shown_tombstone self.now))) }
         ensures limit { result ≤ 27 + 1024 }
@@ -239,7 +239,7 @@ impl<'a> TombstoneRef<'a> {
         TOMBSTONE_LEN + self.key.bytes.len()
     }
 
-    /// Appends the spelling.
+    /// Appends the spelling of the tombstone to `out`. If memory runs out, then the bytes of `out` stay as they were.
     pub fn write(&self, out: &mut Vec<u8>) -> Result<(), NoMemory>
         ensures ok { OnOk result
             (out.new.items ≡ out.old.items ++ spelling (Entry.Tombstone (shown_tombstone self.now))) }

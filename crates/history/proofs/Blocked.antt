@@ -1,4 +1,4 @@
--- The rows of blocks as one list: how long it is, and where a row is.
+-- The rows of all blocks as one list: its length, and the block and the slot of each row.
 use Rattle.std.proofs.Common.{◌≡◌, ℕ, zero, suc, ◌+◌, ◌-◌, ◌*◌, ◌/◌, ◌%◌, ◌<◌, ◌≤◌, List, [], ◌∷◌, ◌++◌, Vec}
 use Rattle.std.proofs.Common.{length, get_or, append_assoc, append-nil, length-append, refl, sym, ap, ◌∙◌, arith}
 use Rattle.std.proofs.lemmas.List.{get_or_append_left, get_or-append_right}

@@ -1,4 +1,4 @@
--- The records of rows: what stays when the texts grow, what one more row adds, and how a row is read.
+-- The records of rows: growing texts keep them, one more row adds a record, and a reader finds the record of a row.
 use Rattle.std.proofs.Common.{◌≡◌, ℕ, zero, suc, ◌+◌, ◌<◌, List, [], ◌∷◌, ◌++◌, length, get_or, take, drop, Some, not, true}
 use Rattle.std.proofs.Common.{refl, sym, ap, subst, ◌∙◌, arith}
 use Rattle.std.proofs.lemmas.List.{take-take, drop-drop, drop-take, map-append}

@@ -8,26 +8,26 @@ use Rattle.history.specs.declared.packing.Row.{Row}
 use Rattle.history.specs.Packing.{unpacked, front_len, key_of, value_of}
 use Rattle.history.specs.Texts.{TextsValue, part, IsWithin}
 
--- the records, and how many bytes of a key and a value one more may have, for which memory was taken
+-- the records, and the room: how many bytes the key and the value of the next record may have, which are reserved
 pub record HistoryValue : Type 0 where
   pub records : List Record
   pub room : ℕ
 
--- how many bytes of a key and a value a record has
+-- how many bytes the record's key and its value have together
 abbrev pub len_of : Record → ℕ
 len_of r = length (key_of r) + length (value_of r)
 
--- ---- how it is packed
+-- ---- how records are packed
 
--- the numbers, if the row has no room for them
+-- the bytes of the numbers of the row's record; none if the row has room for the numbers
 abbrev pub front_at : TextsValue → Row → List ℕ
 front_at t r = part t r.block r.start (front_len r)
 
--- it lies behind them
+-- the key of the row's record, which lies behind the numbers
 abbrev pub key_at : TextsValue → Row → List ℕ
 key_at t r = part t r.block (r.start + front_len r) r.key_len
 
--- it lies behind the key
+-- the value of the row's record, which lies behind the key
 abbrev pub value_at : TextsValue → Row → List ℕ
 value_at t r = part t r.block (r.start + front_len r + r.key_len) r.value_len
 
@@ -37,7 +37,7 @@ record_in t r = unpacked r (front_at t r) (key_at t r) (value_at t r)
 abbrev pub records_in : TextsValue → List Row → List Record
 records_in t rows = map (λ (r : Row). record_in t r) rows
 
--- the texts have a key and a value for the row
+-- the texts have the row's bytes, and in them a key and a value within their limits
 pub record IsRow (t : TextsValue) (r : Row) : Type 0 where
   pub within : IsWithin t r.block r.start (front_len r + r.key_len + r.value_len)
   pub key : IsKeyBytes (key_at t r)

@@ -1,8 +1,9 @@
-//! The accepted commands of a log, packed: a row of 32 bytes for each, and its key and value in large blocks of text.
+//! The history of a log: its accepted commands with their replies, packed. A record takes a row of 32 bytes, and its
+//! key and value lie in large blocks of text.
 //!
-//! A contract sees a list of records. `History` takes no memory for a single record: `reserve` takes a block now and
-//! then, and `push` takes none. No record moves once it is there. `RecordRef` is a record that lies elsewhere, in a
-//! history or in a `Record`; *shown_record* says which it is.
+//! A contract sees a list of records. `reserve` allocates a block when the last one is full, and `push` allocates no
+//! memory. A record never moves. `RecordRef` is a view of a record, which borrows its bytes from a history or from a
+//! `Record`; *shown_record* is the record that it shows.
 #![tactic(auto)]
 
 mod laws;

@@ -1,4 +1,4 @@
-//! Reading a record from a row and the texts.
+//! The reader of records, from a row and the texts that have its bytes.
 
 ghost use Rattle.std.specs.Prelude.{◌≡◌, true};
 ghost use Rattle.history.specs.Records.{record_in, IsRow};
@@ -9,7 +9,7 @@ use crate::packing::{Row, reply_of, unpack};
 use crate::texts::Texts;
 use crate::view::{RecordRef, ReplyRef, ValueRef};
 
-/// The record of a row, whose bytes lie in these texts.
+/// Returns the record of a row whose bytes lie in these texts.
 #[inline(always)]
 pub(crate) fn read_row<'a>(texts: &'a Texts, row: &Row) -> RecordRef<'a>
     requires { IsRow texts.now row.now }
@@ -25,7 +25,7 @@ pub(crate) fn read_row<'a>(texts: &'a Texts, row: &Row) -> RecordRef<'a>
     unpack(row, &row.small_numbers(), key, value)
 }
 
-/// The record of a row whose numbers lie before its key.
+/// Returns the record of a row whose numbers lie before its key.
 #[inline(never)]
 fn read_long<'a>(texts: &'a Texts, row: &Row) -> RecordRef<'a>
     requires row { IsRow texts.now row.now }
@@ -40,7 +40,7 @@ fn read_long<'a>(texts: &'a Texts, row: &Row) -> RecordRef<'a>
     unpack(row, &Numbers::from_bytes(front), key, value)
 }
 
-/// The reply of a row, whose value lies in these texts.
+/// Returns the reply of a row whose value lies in these texts.
 #[inline(always)]
 pub(crate) fn read_reply<'a>(texts: &'a Texts, row: &Row) -> ReplyRef<'a>
     requires { IsRow texts.now row.now }

@@ -19,13 +19,13 @@ use std::alloc::{AllocError, Global};
 use std::marker::Model;
 use versioned_map::Record;
 
-/// The accepted commands, in order, each with its seat and its reply. A contract sees a list of records, and how many
-/// bytes of a key and a value one more may have (*room*): memory for it was taken.
+/// The accepted commands, in order, each with its seat and its reply. A contract sees a list of records and the
+/// *room*: how many bytes the key and the value of the next record may have, for which memory is reserved.
 ///
-/// A record takes 32 bytes, and those of its key and its value; and 24 more if it is of a seat above 65,535, of a table
-/// above 4,294,967,295, or a put that asks for a version. Memory is taken for 1,024 records at a time, and for 131,040
-/// bytes of keys and values, or for those of one record if it has more. What doesn't fit into the rest of a block begins
-/// the next one. What is there never moves.
+/// A record takes 32 bytes and the bytes of its key and its value. It takes 24 bytes more if its seat is above 65,535,
+/// its table is above 4,294,967,295, or it is a put that asks for a version above 0. A block of rows has room for
+/// 1,024 records. A block of text has room for 131,040 bytes of keys and values, or for one record that has more
+/// bytes. If a record doesn't fit into the rest of a block of text, its bytes go to a new block. No record moves.
 #[derive(Drop)]
 pub struct History {
     rows: Rows,
@@ -39,14 +39,14 @@ impl Model for History {
 
     ghost Value = { HistoryValue };
 
-    // the texts have room for the numbers of a record besides
+    // The room of the texts also has the 24 bytes of a record's numbers.
     ghost view = { λ h. record { records = records_in h.texts h.rows.rows; room = h.texts.room - 24 } };
 
     ghost invariant = { λ h. AreRows h.texts h.rows.rows × (0 < h.texts.room → 0 < h.rows.room) };
 }
 
 impl History {
-    /// A history without records. It takes no memory.
+    /// Makes a history without records. This call allocates no memory.
     pub fn new(alloc: Global) -> History
         ensures { result ≡ record { records = []; room = 0 } }
     {
@@ -57,23 +57,23 @@ impl History {
         }
     }
 
-    /// How many records there are.
+    /// Returns the number of records.
     pub fn len(&self) -> usize
         ensures { result ≡ length self.now.records }
     {
         self.rows.len()
     }
 
-    /// Whether there is no record.
+    /// Returns true if there is no record.
     pub fn is_empty(&self) -> bool
         ensures { result ≡ (length self.now.records == 0) }
     {
         self.rows.len() == 0
     }
 
-    /// Takes memory for one more record with at most so many bytes of a key and a value. Mostly enough is left from
-    /// earlier calls, and it takes none. It fails only if memory runs out, or with some 2^42 records or 2^32 blocks of
-    /// text; then nothing changed.
+    /// Reserves memory for one more record, whose key and value have at most `bytes` bytes together. Most calls find
+    /// room in the last blocks and allocate nothing. The call fails only if memory runs out, or if there are about
+    /// 2^42 records or 2^32 blocks of text. If it fails, nothing changed.
     pub fn reserve(&mut self, bytes: usize) -> Result<(), NoMemory>
         ensures room { OnOk result (self.new.room ≡ bytes) }
         ensures records { self.new.records ≡ self.old.records }
@@ -86,7 +86,8 @@ impl History {
         self.texts.reserve(len, self.alloc)
     }
 
-    /// One more record, for which memory was taken: it takes none and can't fail. It uses up the room.
+    /// Appends a record, for which `reserve` has reserved memory. The call allocates nothing, can't fail, and uses up
+    /// the reserved room.
     #[inline(always)]
     pub fn push(&mut self, accepted: &RecordRef<'_>)
         requires value { HasOneValue (shown_record accepted.now) }
@@ -101,7 +102,7 @@ impl History {
         self.rows.push(pack(accepted, &numbers, block, start));
     }
 
-    /// `push` of a record that is not in a history yet.
+    /// Appends a record that owns its bytes, like `push`.
     pub fn push_record(&mut self, accepted: &Record)
         requires value { HasOneValue accepted.now }
         requires room { len_of accepted.now ≤ self.old.room }
@@ -115,8 +116,8 @@ impl History {
         });
     }
 
-    /// The record at a place, which counts from 0; `None` if there are not so many. It takes no memory, and its time
-    /// depends neither on the place nor on how many records there are.
+    /// Returns the record at this place of the history, or None if there are not so many records. Places count from 0.
+    /// The call allocates no memory and takes constant time.
     pub fn get(&self, place: usize) -> Option<RecordRef<'_>>
         ensures { option_map shown_record result ≡ slice_get self.entry.now.records place }
     {
@@ -126,7 +127,8 @@ impl History {
         Some(read_row(&self.texts, self.rows.get(place)))
     }
 
-    /// The reply of the record at a place, as `get` shows it. Nothing else of the record is read.
+    /// Returns the reply of the record at this place of the history, like `get`, without reading the rest of the
+    /// record.
     #[inline(always)]
     pub fn reply(&self, place: usize) -> Option<ReplyRef<'_>>
         ensures { option_map shown_reply result ≡

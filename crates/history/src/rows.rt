@@ -1,4 +1,4 @@
-//! Rows in blocks.
+//! The rows of a history, in blocks of 1,024.
 
 ghost use Rattle.std.specs.Prelude.{◌≡◌, ◌<◌, ◌∷◌, ◌++◌, [], length, slice_index_or, OnOk, OnErr};
 
@@ -8,13 +8,13 @@ use std::alloc::{AllocError, Global};
 use std::marker::Model;
 use std::mem::replace;
 
-/// How many rows an allocation takes memory for.
+/// The number of rows in a block.
 const BLOCK: usize = 1024;
 
-/// What the number of full blocks is below.
+/// The number of full blocks is below this.
 const LIMIT: usize = 4_294_967_296;
 
-/// A list of rows that grows without a move: it is in blocks of 1,024.
+/// A growing list of rows, which never move: they lie in blocks of 1,024, and only the last block grows.
 #[derive(Drop)]
 pub(crate) struct Rows {
     full: Vec<Vec<Row>>,
@@ -36,7 +36,7 @@ impl Model for Rows {
 }
 
 impl Rows {
-    /// No rows. It takes no memory.
+    /// Makes a list without rows. This call allocates no memory.
     pub(crate) fn new(alloc: Global) -> Rows
         ensures { result ≡ record { rows = []; room = 0 } }
     {
@@ -46,14 +46,14 @@ impl Rows {
         }
     }
 
-    /// How many rows there are.
+    /// Returns the number of rows.
     pub(crate) fn len(&self) -> usize
         ensures { result ≡ length self.now.rows }
     {
         BLOCK * self.full.len() + self.last.len()
     }
 
-    /// A row.
+    /// Returns the row at this index.
     #[inline(always)]
     pub(crate) fn get(&self, at: usize) -> &Row
         requires { at < length self.now.rows }
@@ -67,7 +67,8 @@ impl Rows {
         }
     }
 
-    /// Takes memory for one more row, if there is none. On `Err` nothing changed.
+    /// Makes sure that there is room for one more row, and allocates a block if needed. If the call fails, nothing
+    /// changed.
     pub(crate) fn reserve(&mut self, alloc: Global) -> Result<(), NoMemory>
         ensures room { OnOk result (0 < self.new.room) }
         ensures rows { self.new.rows ≡ self.old.rows }
@@ -87,7 +88,7 @@ impl Rows {
         Ok(())
     }
 
-    /// One more row, for which memory was taken.
+    /// Appends a row, for which there is room.
     pub(crate) fn push(&mut self, row: Row)
         requires { 0 < self.old.room }
         ensures { self.new.rows ≡ self.old.rows ++ row ∷ [] }

@@ -10,19 +10,20 @@ use std::alloc::{AllocError, Global};
 use std::marker::Model;
 use std::mem::replace;
 
-/// How many bytes an allocation takes memory for, unless one record needs more. A block of 128 kilobytes or more would
-/// come from the system, and go back to it when it is freed; one of these serves again.
+/// The size of a block in bytes, unless one record needs a larger one. The allocator would take a block of 128
+/// kilobytes or more from the system, and give it back when it is freed. It keeps a block of this size for later use.
 const TEXT: usize = 131_040;
 
-/// What the numbers of blocks and of bytes in one are below.
+/// The number of full blocks, and the offset in a block at which a record begins, are below this.
 const LIMIT: usize = 4_294_967_296;
 
-/// Texts that grow without a move: only the last one grows, and a further one begins where it has no room left.
+/// Blocks of text, whose bytes never move. Only the last block grows. A new block begins when a record doesn't fit
+/// into the last one.
 #[derive(Drop)]
 pub(crate) struct Texts {
     full: Vec<Vec<u8>>,
     last: Vec<u8>,
-    /// For how many more bytes at the end of the last one memory was taken.
+    /// How many more bytes are reserved at the end of the last block.
     room: usize,
 }
 
@@ -38,7 +39,7 @@ impl Model for Texts {
 }
 
 impl Texts {
-    /// No text. It takes no memory.
+    /// Makes texts without bytes. This call allocates no memory.
     pub(crate) fn new(alloc: Global) -> Texts
         ensures { result ≡ record { full = []; last = []; room = 0 } }
     {
@@ -49,7 +50,7 @@ impl Texts {
         }
     }
 
-    /// The text of this number; the last one, if no full one has it.
+    /// Returns the text of the block with this number: a full block, or else the last one.
     #[inline(always)]
     fn text(&self, block: usize) -> &[u8]
         ensures { result.now ≡ text_at self.entry.now block }
@@ -61,7 +62,7 @@ impl Texts {
         }
     }
 
-    /// A part of a text: so many bytes, behind so many others.
+    /// Returns `len` bytes of a block from offset `start` on.
     #[inline(always)]
     pub(crate) fn part(&self, block: usize, start: usize, len: usize) -> &[u8]
         requires { IsWithin self.now block start len }
@@ -71,7 +72,7 @@ impl Texts {
         &text[start..start + len]
     }
 
-    /// Takes memory for so many bytes in a row. On `Err` nothing changed.
+    /// Reserves room for this many bytes in one block. If the call fails, nothing changed.
     pub(crate) fn reserve(&mut self, bytes: usize, alloc: Global) -> Result<(), NoMemory>
         ensures room { OnOk result (self.new.room ≡ bytes) }
         ensures parts { KeepsParts self.old self.new }
@@ -93,8 +94,8 @@ impl Texts {
         Ok(())
     }
 
-    /// The bytes of a key and of a value, one behind the other, for which memory was taken, and before them the numbers,
-    /// unless these are small. The number of their text, and how many of its bytes come before them.
+    /// Appends the bytes of a record, for which room is reserved: the numbers unless they are small, then the key and
+    /// the value. Returns the number of the block, and the offset in it at which these bytes begin.
     #[inline(always)]
     pub(crate) fn push(&mut self, numbers: &Numbers, key: &[u8], value: &[u8]) -> (u32, u32)
         requires some { 0 < length key.now }
@@ -119,7 +120,7 @@ impl Texts {
     }
 }
 
-/// Appends the numbers, unless they are small, if there is room for them.
+/// Appends the numbers to `out`, which has room for them, unless they are small.
 #[inline(always)]
 fn put_front(out: &mut Vec<u8>, numbers: &Numbers)
     requires { vec_len out.old + 24 ≤ vec_capacity out.old }
@@ -132,7 +133,7 @@ fn put_front(out: &mut Vec<u8>, numbers: &Numbers)
     }
 }
 
-/// Appends the numbers, if there is room for them.
+/// Appends the numbers to `out`, which has room for them.
 #[inline(never)]
 fn put_numbers(out: &mut Vec<u8>, numbers: &Numbers)
     requires { vec_len out.old + 24 ≤ vec_capacity out.old }

@@ -1,4 +1,4 @@
--- What holds if a call fails.
+-- A true claim also holds if a call failed.
 use Rattle.std.specs.Prelude.{Result, Ok, Err, OnErr}
 
 -- what holds at all

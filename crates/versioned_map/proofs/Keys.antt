@@ -1,4 +1,4 @@
--- Keys that compare alike are one, and a map changed at a key.
+-- Keys that compare as equal are the same key, and contents that are changed at a key.
 use Rattle.std.proofs.Common.{◌≡◌, true, false, refl, ◌⊎◌, inl, inr}
 use Rattle.std.specs.Prelude.{Option}
 use Rattle.entry.specs.declared.key.Key.{Key}

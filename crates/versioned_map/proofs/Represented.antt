@@ -1,4 +1,4 @@
--- A unit takes a bag from what one state means to what the next means.
+-- If a bag represents a state, then with a command's unit it represents the state after the command.
 use Rattle.std.proofs.Common.{◌≡◌, ℕ, ◌+◌, ◌*◌, ◌<◌, ◌≤◌, inl, inr, max, Bool, true, false}
 use Rattle.std.proofs.Common.{cond, zero, suc, take, List, [], ◌∷◌, ◌++◌, refl, sym}
 use Rattle.std.proofs.Common.{subst, ◌∙◌, arith, append_assoc}

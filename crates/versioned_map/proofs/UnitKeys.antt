@@ -1,4 +1,4 @@
--- Each entry of a unit is of its command's key.
+-- Each entry of a command's unit is of the command's key.
 use Rattle.std.proofs.Common.{◌≡◌, ℕ, inl, inr, Bool, true, false, cond, List, [], refl, subst}
 use Rattle.std.specs.Prelude.{Option, Some, None}
 use Rattle.entry.specs.declared.key.Key.{Key}

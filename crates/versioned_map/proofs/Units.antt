@@ -1,4 +1,4 @@
--- What units hold, and how runs go on.
+-- The entries of units, and the units and states of one more command.
 use Rattle.std.proofs.Common.{◌≡◌, ℕ, Bool, true, false, cond, suc, List, [], ◌∷◌, ◌++◌, length, refl, sym, ap, subst}
 use Rattle.std.specs.Prelude.{filter, Option, Some, None}
 use Rattle.entry.specs.declared.key.Key.{Key}

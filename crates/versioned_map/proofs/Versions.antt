@@ -1,4 +1,4 @@
--- Versions that keys had, and what a bag means of them.
+-- Versions that keys had, and their bounds by the safe version and by a bag.
 use Rattle.std.proofs.Common.{◌≡◌, ℕ, ◌+◌, ◌<◌, ◌≤◌, ◌⊎◌, inl, inr, max, Bool, true, false}
 use Rattle.std.proofs.Common.{cond, zero, suc, take, List, [], ◌∷◌, refl, sym, ap}
 use Rattle.std.proofs.Common.{subst, ◌∙◌, arith}

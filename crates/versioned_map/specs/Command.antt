@@ -1,4 +1,4 @@
--- What clients ask.
+-- The commands of clients.
 use Rattle.entry.specs.declared.key.Key.{Key}
 use Rattle.versioned_map.specs.declared.command.Command.{Command}
 use Rattle.versioned_map.specs.declared.command.Command.TheVariants.{Get, Put, Delete}

@@ -11,6 +11,6 @@ commands_of records = map (λ (r : Record). r.command) records
 abbrev pub replies_of : List Record → List Reply
 replies_of records = map (λ (r : Record). r.reply) records
 
--- the replies are those of the versioned map from this state on
+-- each reply is the versioned map's, if it starts in the opening state and takes the commands in order
 abbrev pub IsLegal : State → List Record → Type 0
 IsLegal opening records = replies_of records ≡ replies opening (commands_of records)

@@ -1,4 +1,4 @@
--- What a command appends to the log.
+-- The unit of a command: the entries that it appends to the log.
 use Rattle.std.specs.Prelude.{ℕ, ◌+◌, max, List, [], ◌∷◌, Option, Some, None, if◌then◌else◌}
 use Rattle.entry.specs.declared.key.Key.{Key}
 use Rattle.entry.specs.declared.entry.Entry.{Entry}
@@ -14,7 +14,8 @@ object_entry k version value = entry.Object (record { key = k; version = version
 abbrev pub tombstone_entry : Key → ℕ → ℕ → Entry
 tombstone_entry k version segment = entry.Tombstone (record { key = k; version = version; segment = segment })
 
--- a new object, behind a tombstone of the one that it replaces; the tombstone names the segment of the old object
+-- The unit of a put: the new object. If it replaces an object, then a tombstone of that object stands before it and
+-- names the segment where that object lies.
 abbrev pub put_unit : ℕ → ℕ → Key → List ℕ → Option Versioned → List Entry
 put_unit safe segment k value None = object_entry k safe value ∷ []
 put_unit safe segment k value (Some x) = tombstone_entry k x.version segment ∷ object_entry k (x.version + 1) value ∷ []
@@ -23,7 +24,7 @@ abbrev pub delete_unit : ℕ → Key → Option Versioned → List Entry
 delete_unit segment k None = []
 delete_unit segment k (Some x) = tombstone_entry k x.version segment ∷ []
 
--- from the safe version, the segment of the key's object, and what the key has
+-- the unit of a command, given the safe version, the segment of the key's object, and what the key has
 abbrev pub unit_given : ℕ → ℕ → Option Versioned → Command → List Entry
 unit_given safe segment x (Get k) = []
 unit_given safe segment x (Put k value when) = if is_met when x then put_unit safe segment k value x else []
@@ -37,7 +38,7 @@ abbrev pub safe_after_delete : ℕ → Option Versioned → ℕ
 safe_after_delete safe None = safe
 safe_after_delete safe (Some x) = max safe (x.version + 1)
 
--- the safe version after the command
+-- the safe version after a command, given the safe version before it and what the key has
 abbrev pub safe_given : ℕ → Option Versioned → Command → ℕ
 safe_given safe x (Get k) = safe
 safe_given safe x (Put k value when) = if is_met when x then safe_after_put safe x else safe

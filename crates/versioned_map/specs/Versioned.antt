@@ -13,16 +13,16 @@ use Rattle.versioned_map.specs.declared.command.Reply.{Reply}
 use Rattle.versioned_map.specs.declared.command.Reply.TheVariants as reply
 use Rattle.versioned_map.specs.Command.{command_key}
 
--- what each key has, and the version that the next new key gets
+-- the state of the map: what each key has, and the safe version, which the next new key gets
 pub record State : Type 0 where
   pub contents : Contents
   pub safe : ℕ
 
--- the contents with one key changed
+-- the contents, changed at one key only
 abbrev pub with_contents : Contents → Key → Option Versioned → Contents
 with_contents contents k x = λ q. if key_eq q k then x else contents q
 
--- whether a put under this condition is done on what the key has
+-- a put under this condition is done to a key that has this
 abbrev pub is_met : If → Option Versioned → Bool
 is_met Any x = true
 is_met Absent None = true
@@ -65,7 +65,7 @@ abbrev pub deleted : Option Versioned → Reply
 deleted None = reply.None
 deleted (Some x) = reply.Ok x.version
 
--- the reply, from the safe version and what the key has
+-- the reply to a command, given the safe version and what the key has
 abbrev pub reply_given : ℕ → Option Versioned → Command → Reply
 reply_given safe x (Get k) = found x
 reply_given safe x (Put k value when) =
@@ -76,7 +76,7 @@ reply_given safe x (Delete k) = deleted x
 abbrev pub reply_to : State → Command → Reply
 reply_to st command = reply_given st.safe (st.contents (command_key command)) command
 
--- a put that would be done, with a version above the greatest
+-- the command is a put whose condition is met, and which would need a version above 2 ^ 62
 abbrev pub is_spent : ℕ → Option Versioned → Command → Bool
 is_spent safe x (Get k) = false
 is_spent safe x (Put k value when) = is_met when x && nat_lt (2 ^ 62) (put_version safe x)
@@ -84,7 +84,7 @@ is_spent safe x (Delete k) = false
 
 -- ---- many commands
 
--- the state after commands, in order, and the reply to each
+-- the state after commands in order; *replies* gives the reply to each
 abbrev pub after : State → List Command → State
 after st [] = st
 after st (c ∷ cs) = after (after_command st c) cs
@@ -93,8 +93,8 @@ abbrev pub replies : State → List Command → List Reply
 replies st [] = []
 replies st (c ∷ cs) = reply_to st c ∷ replies (after_command st c) cs
 
--- A safe version for what the commands leave: not below the opening's, and above each version that a key had at any
--- time.
+-- A safe version after the commands: it isn't below the safe version of the opening state, and is above each version
+-- that a key had at any time.
 pub record IsSafeAfter (opening : State) (commands : List Command) (safe : ℕ) : Type 0 where
   pub no_lower : opening.safe ≤ safe
   pub above : (i : ℕ) → i ≤ length commands → (k : Key) (x : Versioned)

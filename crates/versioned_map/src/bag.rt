@@ -1,4 +1,4 @@
-//! What a bag of entries means, by comparing each with each.
+//! The meaning of a bag of entries, found by comparing each object with all entries.
 
 ghost use Rattle.std.specs.Prelude.{◌≡◌, ◌<◌, ◌≤◌, ◌↔◌, IsTrue, IfOk, OnErr, is_some};
 ghost use Rattle.entry.specs.declared.entry.Entry.{Entry as EntryValue};
@@ -10,7 +10,7 @@ use crate::copies::copy_object;
 use entry::{Entry, Key, NoMemory, Object};
 use std::alloc::Global;
 
-/// Whether the entry is of the object's key and ranks above it.
+/// Returns true if the entry is of the object's key and ranks above the object.
 fn outranks(entry: &Entry, object: &Object) -> bool
     ensures { IsTrue result ↔
         (IsOfKey object.now.key entry.now × (rank_of (Entry.Object object.now) < rank_of entry.now)) }
@@ -23,7 +23,7 @@ fn outranks(entry: &Entry, object: &Object) -> bool
     }
 }
 
-/// Whether no entry of the bag outranks the object.
+/// Returns true if no entry of the bag is of the object's key and ranks above the object.
 fn is_top(bag: &[Entry], object: &Object) -> bool
     ensures { IsTrue result ↔
         ((e : EntryValue) → among bag.now e → IsOfKey object.now.key e →
@@ -38,12 +38,13 @@ fn is_listed(objects: &[Object], key: &Key) -> bool
     objects.iter().any(|object| object.key == *key)
 }
 
-/// The objects that no entry of the bag outranks, each key once.
+/// Returns the objects of the bag that no entry of it outranks, at most one for each key. Each object is compared with
+/// all entries, so the cost is quadratic. The call allocates memory for copies of the objects.
 pub fn meaning(alloc: Global, bag: &[Entry]) -> Result<Vec<Object>, NoMemory>
     ensures meaning { IfOk result (λ objects.
         IsClean (among bag.now) → IsMeaning (among bag.now) (contents_of objects.items)) }
     ensures once { IfOk result (λ objects. AreOfDifferentKeys objects.items) }
-    // Memory is taken for objects alone.
+    // The call allocates memory only if there is an object in the bag.
     ensures refused { OnErr result ((o : ObjectValue) × among bag.now (Entry.Object o)) }
 {
     let mut objects = Vec::new(alloc);

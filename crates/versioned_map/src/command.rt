@@ -1,4 +1,4 @@
-//! What clients ask, and what they are answered.
+//! The commands of clients, and the replies to them.
 
 ghost use Rattle.std.specs.Prelude.{◌≡◌, IfOk};
 ghost use Rattle.versioned_map.specs.Command.{command_key};
@@ -6,13 +6,13 @@ ghost use Rattle.versioned_map.specs.Command.{command_key};
 use entry::{Key, Value, Version};
 use std::alloc::AllocError;
 
-/// When a put is done.
+/// The condition under which a put is done.
 #[derive(Clone, Copy)]
 pub enum If {
     Any,
-    /// Only if the key is absent.
+    /// The put is done only if the key is absent.
     Absent,
-    /// Only if the key has this version.
+    /// The put is done only if the key has this version.
     Version(u64),
 }
 
@@ -25,7 +25,7 @@ pub enum Command {
 }
 
 impl Command {
-    /// The key that the command is about.
+    /// Returns the key that the command names.
     pub fn key(&self) -> &Key
         ensures { result.now ≡ command_key self.entry.now }
     {
@@ -36,7 +36,7 @@ impl Command {
         }
     }
 
-    /// The same command, in memory of its own.
+    /// Copies the command into memory of its own. The call fails only if memory runs out.
     pub fn copy(&self) -> Result<Command, AllocError>
         ensures { IfOk result (λ copy. copy ≡ self.now) }
     {
@@ -51,13 +51,13 @@ pub enum Reply {
     Found(Version, Value),
     /// The key is absent.
     None,
-    /// A put gave the key this version; a delete ended the object of this version.
+    /// A put gave the key this version, or a delete ended the key's object, which had this version.
     Ok(Version),
-    /// A put was not done: the key has this version, or is absent.
+    /// A put was not done, since its condition failed: the key has this version, or is absent.
     Mismatch(Option<Version>),
 }
 
-/// An accepted command, whose it was, and the reply to it.
+/// An accepted command, the seat that gave it, and the reply to it.
 #[derive(Drop)]
 pub struct Record {
     pub seat: u64,

@@ -1,4 +1,4 @@
-//! Copies in memory of their own.
+//! Copies of keys, values and objects, in memory of their own.
 
 ghost use Rattle.std.specs.Prelude.{◌≡◌, IfOk};
 

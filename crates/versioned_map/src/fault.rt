@@ -1,4 +1,4 @@
-//! Why a command is not applied.
+//! The error of a command that isn't applied.
 
 ghost use Rattle.std.specs.Prelude.{◌≡◌};
 ghost use Rattle.versioned_map.specs.declared.fault.ApplyFault.TheVariants as apply_fault;
@@ -6,10 +6,10 @@ ghost use Rattle.versioned_map.specs.declared.fault.ApplyFault.TheVariants as ap
 use std::alloc::{AllocError, AllocFailed};
 use thiserror::Error;
 
-/// Why a command is not applied. Nothing changed.
+/// The reason why a command wasn't applied. Such a command changed nothing.
 #[derive(Clone, Copy, Debug, PartialEq, Eq, Error)]
 pub enum ApplyFault {
-    /// No version is left for a put.
+    /// The put would need a version above 2^62, the greatest version.
     #[error("no version is left")]
     VersionsSpent,
     #[error("no memory")]

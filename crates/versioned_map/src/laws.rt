@@ -1,4 +1,4 @@
-//! Laws about versioned maps and the entries that stand for them.
+//! Laws about versioned maps, and about the entries that represent them.
 
 ghost use Rattle.versioned_map.specs.Membership.{MembershipIsMeaning, MeaningIsMembership, MeaningIsOne};
 ghost use Rattle.versioned_map.specs.Represents.{EmptyIsRepresented, UnitIsRepresented, RunIsRepresented};
@@ -6,63 +6,66 @@ ghost use Rattle.versioned_map.specs.Represents.{UnitsGoOn, UnitsAreData, States
 ghost use Rattle.versioned_map.specs.Represents.{MembersRepresent, EntriesAreBounded, VersionsAreBounded};
 ghost use Rattle.versioned_map.specs.Represents.{RepresentedIsSafe};
 
-/// Entries stand for one map.
+/// A list of entries has at most one meaning.
 pub fn one_meaning()
     ensures { MeaningIsOne }
 {}
 
-/// A meaning in terms of membership is the meaning, and that of a list is one.
+/// The meaning of a clean list can be told by membership alone: which entries are in it, and which of them rank above
+/// others of their key.
 pub fn meaning_by_members()
     ensures is_meaning { MembershipIsMeaning }
     ensures of_lists { MeaningIsMembership }
 {}
 
-/// No entries stand for the map without keys.
+/// The empty list of entries represents the map without keys.
 pub fn empty_represented()
     ensures { EmptyIsRepresented }
 {}
 
-/// A command's unit takes the entries from one state to the next.
+/// If the entries represent a state, then with a command's unit they represent the state after the command.
 pub fn unit_represented()
     ensures { UnitIsRepresented }
 {}
 
-/// So do the units of many commands, and of any number of the first of them.
+/// If the entries represent a state, then with the units of the first commands, however many, they represent the state
+/// after these commands.
 pub fn run_represented()
     ensures { RunIsRepresented }
 {}
 
-/// The units of commands go on with the next command's.
+/// The units of commands, with the unit of the next command behind them, are the units of all these commands.
 pub fn units_go_on()
     ensures { UnitsGoOn }
 {}
 
-/// Units hold objects and tombstones alone.
+/// All entries of units are objects and tombstones.
 pub fn units_are_data()
     ensures { UnitsAreData }
 {}
 
-/// States and replies go on with the next command's.
+/// With one more command, the last state is the state after this command, and its reply comes behind the others.
 pub fn states_go_on()
     ensures { StatesGoOn }
 {}
 
-/// Entries stand for the same map in any order, and however often each is among them.
+/// Which state entries represent depends neither on their order nor on how often each entry is in the list.
 pub fn members_represent()
     ensures { MembersRepresent }
 {}
 
-/// No version in the log is in the way of a later one.
+/// Each version that entries have of a key is below the safe version, or not above the key's present version.
 pub fn entries_bounded()
     ensures { EntriesAreBounded }
 {}
 
-/// No version that a key had is given to it again.
+/// Each version that a key had at any time is below the present safe version, or not above the key's present version.
+/// So no version is given to the key again.
 pub fn versions_bounded()
     ensures { VersionsAreBounded }
 {}
 
-/// The recorded safe version and the entries' versions give a safe version.
+/// The greater of the recorded safe version and of the greatest version of the entries plus 1 is a safe version.
 pub fn represented_safe()
     ensures { RepresentedIsSafe }
 {}

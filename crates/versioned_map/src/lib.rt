@@ -1,10 +1,10 @@
-//! The versioned map: what clients ask of a store, what each command does and answers, and when the entries of a log
-//! stand for a map.
+//! The versioned map: the commands of clients, what each command does and what is replied to it, and when the entries
+//! of a log represent a map.
 //!
 //! `specs/` has the definitions, which need no code: a command's step (*after_command*, *reply_to*), the folds over
-//! many commands (*after*, *replies*), what a command appends to a log (*unit_of*), and when a log's entries stand for
-//! a map (*Represents*). `laws` has what holds of them. `VersionedMap` and `meaning` are the plain, slow programs that
-//! meet the definitions; tests compare faster code with them. The crate uses `entry`.
+//! many commands (*after*, *replies*), what a command appends to a log (*unit_of*), and when a log's entries represent
+//! a map (*Represents*). `laws` has the theorems on these definitions. `VersionedMap` and `meaning` are plain and slow
+//! programs that meet them; tests compare faster code with these programs. The crate uses `entry`.
 #![tactic(auto)]
 
 mod bag;

@@ -1,4 +1,4 @@
-//! The versioned map as a list of its objects.
+//! A versioned map that is kept as a list of its objects.
 
 ghost use Rattle.std.specs.Prelude.{◌≡◌, ◌<◌, ℕ, List, length, IfOk, IfErr, OnOk};
 ghost use Rattle.std.specs.Prelude.{OnErr, IfSome, IfNone, Some, None, true};
@@ -17,7 +17,8 @@ use entry::{Key, Object, SafeVersion, Value, Version};
 use std::alloc::Global;
 use std::marker::Model;
 
-/// A map from keys to versions and values. Each step walks the list of its objects.
+/// A map from keys to versions and values. The time of a command grows with the number of objects, since each command
+/// walks the list of them.
 #[derive(Drop)]
 pub struct VersionedMap {
     alloc: Global,
@@ -36,7 +37,7 @@ impl Model for VersionedMap {
 }
 
 impl VersionedMap {
-    /// A map without keys. It takes no memory.
+    /// Makes a map without keys. This call allocates no memory.
     pub fn new(alloc: Global) -> VersionedMap
         ensures { map_state result ≡ empty_state }
     {
@@ -47,7 +48,7 @@ impl VersionedMap {
         }
     }
 
-    /// The objects, each key once.
+    /// Returns the objects of the map, one for each present key.
     pub fn objects(&self) -> &[Object]
         ensures objects { result.now ≡ self.now.objects }
         ensures differ { AreOfDifferentKeys result.now }
@@ -55,14 +56,14 @@ impl VersionedMap {
         self.objects.as_slice()
     }
 
-    /// The version that the next new key gets.
+    /// Returns the safe version, which the next new key gets.
     pub fn safe(&self) -> SafeVersion
         ensures { result ≡ self.now.safe }
     {
         self.safe
     }
 
-    /// Does a command, and answers it.
+    /// Applies a command and returns the reply to it. If the call fails, it changed nothing.
     pub fn apply(&mut self, command: &Command) -> Result<Reply, ApplyFault>
         ensures reply { IfOk result (λ reply. reply ≡ reply_to (map_state self.old) command.now) }
         ensures state { OnOk result (map_state self.new ≡ after_command (map_state self.old) command.now) }
@@ -79,7 +80,7 @@ impl VersionedMap {
         }
     }
 
-    /// Where the key's object is in the list.
+    /// Returns the slot of the key's object in the list, or None if the key is absent.
     fn slot_of(&self, key: &Key) -> Option<usize>
         ensures found { IfSome result (λ slot. IsAtSlot self.now.objects key.now slot) }
         ensures absent { IfNone result (contents_of self.now.objects key.now ≡ None) }
@@ -118,7 +119,7 @@ impl VersionedMap {
         }
     }
 
-    /// A put of an absent key.
+    /// Does a put to an absent key, if the condition allows it.
     fn create(&mut self, key: &Key, value: &Value, when: If) -> Result<Reply, ApplyFault>
         requires { contents_of self.old.objects key.now ≡ None }
         ensures reply { IfOk result (λ reply.
@@ -144,7 +145,7 @@ impl VersionedMap {
         Ok(Reply::Ok(version))
     }
 
-    /// A put of the key whose object is in this slot.
+    /// Does a put to the key whose object is in this slot, if the condition allows it.
     fn overwrite(&mut self, slot: usize, value: &Value, when: If) -> Result<Reply, ApplyFault>
         requires { slot < length self.old.objects }
         ensures reply { IfOk result (λ reply. (k : KeyValue) → IsAtSlot self.old.objects k slot →
@@ -185,7 +186,7 @@ impl VersionedMap {
     }
 }
 
-/// Whether a put is done on a key of this version.
+/// Returns true if a put under the condition `when` is done to a key that has this version.
 fn is_met(when: If, version: Version) -> bool
     ensures { (value : List ℕ) → result ≡ is_met when (Some (record { version = version; value = value })) }
 {
