@@ -1,10 +1,11 @@
--- What a master asks of a backup, whatever the place of its bytes in memory.
+-- What a master asks of a backup. The bytes of an op are a list here, wherever they lie in memory.
 use Rattle.std.specs.Prelude.{ℕ, List}
 use Rattle.replica.specs.declared.op.Op.{Op}
 use Rattle.replica.specs.declared.op.Act.{Act}
 use Rattle.replica.specs.declared.op.Act.TheVariants as act
 
--- a replica is opened with these bytes, extended at its end, closed, written whole, or freed
+-- what an op does to its replica: makes it open with these bytes, appends these bytes at this length, closes it, makes
+-- it closed with these bytes, or frees it
 pub data ActValue : Type 0 where
   Open : List ℕ → ActValue
   Extend : ℕ → List ℕ → ActValue

@@ -1,47 +1,48 @@
--- What the backups hold.
+-- What the backups of a fleet hold, and what they show.
 use Rattle.std.specs.Prelude.{◌≡◌, ◌↔◌, ℕ, ◌==◌, ◌&&◌, List, [], ◌∷◌, map, length, Bool, Option, Some, None, if◌then◌else◌}
 use Rattle.entry.specs.Bag.{IsAmong}
 use Rattle.replica.specs.declared.holding.Holding.{Holding}
 use Rattle.replica.specs.declared.label.Label.{Label}
 use Rattle.replica.specs.Op.{OpValue}
 
+-- what one backup holds of one segment of a master
 pub record Replica : Type 0 where
   pub bytes : List ℕ
   pub is_open : Bool
 
--- backup, master and segment lead to at most one replica
+-- which replica, if any, a backup holds of a master's segment; its arguments are backup, master, segment
 abbrev pub Picture : Type 0
 Picture = ℕ → ℕ → ℕ → Option Replica
 
 abbrev pub is_same_place : ℕ → ℕ → ℕ → ℕ → ℕ → ℕ → Bool
 is_same_place b m s c n t = (b == c) && ((m == n) && (s == t))
 
--- the picture with one place changed
+-- the picture with this replica, or none, at one place; a place is a backup, a master and a segment
 abbrev pub with_replica : Picture → ℕ → ℕ → ℕ → Option Replica → Picture
 with_replica p b m s r = λ c n t. if is_same_place b m s c n t then r else p c n t
 
--- the replicas on some backups
+-- the picture once only the backups that are kept are left
 abbrev pub left_on : (ℕ → Bool) → Picture → Picture
 left_on keep p = λ b m s. if keep b then p b m s else None
 
--- the picture has just this replica at its place
+-- the picture has this replica at the place that the holding names
 abbrev pub IsHeld : Picture → Holding → Type 0
 IsHeld p h = p h.backup h.master h.segment ≡ Some (record { bytes = h.bytes; is_open = h.is_open })
 
--- What a recovery is shown: what the backups hold, and the least id of a head that may be used.
+-- What a recovery is shown: what the backups hold, and the least id of a head that the recovery may use.
 pub record Shown : Type 0 where
   pub holds : Picture
   pub least : ℕ
 
--- what is shown if these backups are left
+-- what a recovery is shown once only the backups that are kept are left
 abbrev pub survivors : (ℕ → Bool) → Shown → Shown
 survivors keep s = record { holds = left_on keep s.holds; least = s.least }
 
--- the list has just the replicas that the picture has
+-- the list has exactly the replicas that the picture has
 abbrev pub AreHeld : List Holding → Picture → Type 0
 AreHeld hs p = (h : Holding) → IsAmong h hs ↔ IsHeld p h
 
--- the list has just the replicas that this backup holds
+-- the list has exactly the replicas that this backup holds
 abbrev pub AreHeldBy : List Holding → Picture → ℕ → Type 0
 AreHeldBy hs p backup = (h : Holding) → IsAmong h hs ↔ ((h.backup ≡ backup) × IsHeld p h)
 
@@ -55,11 +56,11 @@ label_of h = record {
   is_open = h.is_open;
 }
 
--- the labels of just the replicas that the picture has
+-- these are the labels of exactly the replicas that the picture has
 abbrev pub AreLabelsOf : Picture → List Label → Type 0
 AreLabelsOf p labels = (hs : List Holding) × AreHeld hs p × (labels ≡ map label_of hs)
 
--- no replica is shown twice
+-- no replica is in the list twice
 abbrev pub IsOnce : List Holding → Type 0
 IsOnce [] = Unit {0}
 IsOnce (h ∷ hs) = (IsAmong h hs → ⊥) × IsOnce hs
@@ -69,9 +70,9 @@ pub record Ack : Type 0 where
   pub backup : ℕ
   pub op : OpValue
 
--- A fleet: how many backups it has, numbered from 0, what they hold, how many ops were taken, after how many it is
--- spent, how many takes ended in a fault, of each master the least id of a head that a recovery may use, and all ops
--- that were answered Ok, the last one first.
+-- A fleet. Its backups are numbered from 0. 'takes' counts the ops and raises that were taken, and the fleet is spent
+-- once they are as many as 'end'. 'faults' counts the takes that ended in a fault. 'least' has for each master the
+-- least id of a head that a recovery may use. 'acks' has all ops that were answered Ok, the last one first.
 pub record FleetState : Type 0 where
   pub backups : ℕ
   pub picture : Picture

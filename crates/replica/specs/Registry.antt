@@ -1,11 +1,11 @@
--- The registry of a fleet: of each master the least id of a head that a recovery may use. It is only ever raised.
+-- The registry of a fleet: for each master the least id of a head that a recovery may use. No call lowers this id.
 use Rattle.std.specs.Prelude.{◌≡◌, ℕ, ◌+◌, ◌<◌, ◌⊎◌, ◌==◌, max, Result, Ok, Err, if◌then◌else◌}
 use Rattle.replica.specs.declared.op.TakeFault.{TakeFault}
 use Rattle.replica.specs.declared.op.TakeFault.TheVariants as take_fault
 use Rattle.replica.specs.Picture.{FleetState}
 use Rattle.replica.specs.Take.{faulted, unanswered}
 
--- the least head of this master becomes the greater of both, and of other masters nothing changes
+-- the least head of this master becomes the greater of its old one and this id; those of other masters don't change
 abbrev pub with_least : (ℕ → ℕ) → ℕ → ℕ → ℕ → ℕ
 with_least least master id = λ m. if master == m then max (least m) id else least m
 
@@ -17,7 +17,8 @@ raised f master id = record f { takes = f.takes + 1; least = with_least f.least 
 abbrev pub Raises : FleetState → ℕ → ℕ → FleetState → Type 0
 Raises old master id new = (old.takes < old.end) × (new ≡ raised old master id)
 
--- A refused raise is not taken; after a fault nobody knows whether it was. It is never wrong.
+-- What a raise does that isn't answered Ok. If the answer is Fault, nobody knows whether the raise was taken. In each
+-- other case it was not taken. The answer is never Wrong.
 abbrev pub RefusesRaise : FleetState → ℕ → ℕ → TakeFault → FleetState → Type 0
 RefusesRaise old master id take_fault.NoMemory new = new ≡ old
 RefusesRaise old master id take_fault.Wrong new = ⊥

@@ -1,4 +1,4 @@
--- What it is to retire all masters but one: their replicas are freed, one after another.
+-- What it means to retire all masters but one: their replicas are freed, one after another.
 use Rattle.std.specs.Prelude.{◌≡◌, ◌↔◌, ℕ, ◌+◌, ◌⊎◌, List, [], ◌∷◌, ◌++◌, length, IsSome, Result, Ok, Err}
 use Rattle.std.specs.Ordering.{nat_cmp, ordering_then}
 use Rattle.std.specs.declared.cmp.Ordering.{Ordering}
@@ -13,16 +13,16 @@ use Rattle.replica.specs.Take.{Takes, Refuses}
 
 -- ---- which replicas
 
--- by backup, then by master, then by segment
+-- the order of spots: by backup, then by master, then by segment
 abbrev pub spot_cmp : Spot → Spot → Ordering
 spot_cmp x y =
     ordering_then (nat_cmp x.backup y.backup) (ordering_then (nat_cmp x.master y.master) (nat_cmp x.segment y.segment))
 
--- a replica of another master than this one is there
+-- a replica is at this spot, and its master is not the one that is kept
 abbrev pub HoldsOther : Picture → ℕ → Spot → Type 0
 HoldsOther p keep spot = (spot.master ≡ keep → ⊥) × IsSome (p spot.backup spot.master spot.segment)
 
--- The spots are just those of the replicas of other masters, each once, in order.
+-- The spots are exactly those of the replicas of other masters, each once, in order.
 pub record AreOthers (spots : List Spot) (p : Picture) (keep : ℕ) : Type 0 where
   pub each : (spot : Spot) → IsAmong spot spots ↔ HoldsOther p keep spot
   pub rising : IsStrictlySortedBy spot_cmp spots
@@ -33,7 +33,7 @@ pub record AreOthers (spots : List Spot) (p : Picture) (keep : ℕ) : Type 0 whe
 abbrev pub freeing : Spot → OpValue
 freeing spot = record { master = spot.master; segment = spot.segment; act = Free }
 
--- the fleet takes a Free for each spot, in order
+-- the fleet takes one Free for each spot, in order
 abbrev pub TakesEach : FleetState → List Spot → FleetState → Type 0
 TakesEach old [] new = new ≡ old
 TakesEach old (spot ∷ spots) new =
@@ -44,7 +44,7 @@ pub record FreesEach (old : FleetState) (spots : List Spot) (new : FleetState) :
   pub each : TakesEach old spots new
   pub takes : new.takes ≡ old.takes + length spots
 
--- The replicas at the first of these spots are freed, and the next Free ends in the fault.
+-- The replicas at the spots before some spot are freed, and the Free for this spot ends in the fault.
 pub record EndsAt (old : FleetState) (spots : List Spot) (fault : TakeFault) (new : FleetState) : Type 0 where
   pub front : List Spot
   pub next : Spot
@@ -54,8 +54,8 @@ pub record EndsAt (old : FleetState) (spots : List Spot) (fault : TakeFault) (ne
   pub freed : FreesEach old front mid
   pub refused : Refuses mid next.backup (freeing next) fault new
 
--- The replicas of all masters but one are freed, in order; or that ends at the first fault. Memory may also run out
--- before the first take.
+-- If the answer is Ok, the replicas of all masters but one were freed, in order. If the answer is a fault, the first
+-- Free that failed ended this, or memory ran out before the first Free.
 abbrev pub Retires : FleetState → ℕ → Result Unit TakeFault → FleetState → Type 0
 Retires old keep (Ok u) new = (spots : List Spot) × AreOthers spots old.picture keep × FreesEach old spots new
 Retires old keep (Err fault) new =

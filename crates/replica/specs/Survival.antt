@@ -1,30 +1,31 @@
--- Which losses leave a master's log to a recovery. The layer above names the homes of a segment's replicas.
+-- After which losses of backups a recovery still gets a master's log. 'IsHome s b' says that backup b is a home of
+-- segment s, and the layer above defines it. 'keep' says which backups are left.
 use Rattle.std.specs.Prelude.{◌≡◌, ℕ, ◌<◌, ◌≤◌, ◌⊎◌, Bool, true, Option, Some, None, IsSome, IsSomeAnd}
 use Rattle.entry.specs.Bag.{IsAmong}
 use Rattle.entry.specs.Text.{Opening, opening_in, listed_ids}
 use Rattle.replica.specs.Choice.{IsUsableHead}
 use Rattle.replica.specs.Picture.{Replica, Shown}
 
--- the backup holds a replica of the segment that has a digest
+-- the backup holds a replica of the segment, and this replica bears a digest
 abbrev pub HoldsHead : Shown → ℕ → ℕ → ℕ → Type 0
 HoldsHead shown master b s = IsSomeAnd (shown.holds b master s) (λ (r : Replica). IsSome (opening_in r.bytes))
 
--- a replica of the head is on a backup that is left
+-- some backup that is left holds a replica of the segment, and this replica bears a digest
 abbrev pub IsHeadLeft : Shown → ℕ → (ℕ → Bool) → ℕ → Type 0
 IsHeadLeft shown master keep s = (b : ℕ) × (keep b ≡ true) × HoldsHead shown master b s
 
--- one of the segment's homes is left
+-- some home of the segment is left
 abbrev pub IsHomeLeft : (ℕ → ℕ → Type 0) → (ℕ → Bool) → ℕ → Type 0
 IsHomeLeft IsHome keep s = (b : ℕ) × IsHome s b × (keep b ≡ true)
 
--- Of the newest head that was opened on all its homes one of these is left, or a replica of a later head; of any head
--- that may be used, if none was opened on all.
+-- If some head was opened on all its homes, s is the newest such head. Then some home of s is left, or a replica of a
+-- later head. If no head was opened on all its homes, a replica of some head that may be used is left.
 abbrev pub HeadSurvives : (ℕ → ℕ → Type 0) → Option ℕ → Shown → ℕ → (ℕ → Bool) → Type 0
 HeadSurvives IsHome (Some s) shown master keep =
     IsHomeLeft IsHome keep s ⊎ ((t : ℕ) × (s < t) × IsHeadLeft shown master keep t)
 HeadSurvives IsHome None shown master keep = (t : ℕ) × IsUsableHead shown.least t × IsHeadLeft shown master keep t
 
--- a digest of the newest head that is left
+-- s is the newest head of which a replica is left, and one of these replicas bears this opening
 pub record IsNewestLeft (shown : Shown) (master : ℕ) (keep : ℕ → Bool) (s : ℕ) (opening : Opening) : Type 0 where
   pub b : ℕ
   pub r : Replica
@@ -33,13 +34,13 @@ pub record IsNewestLeft (shown : Shown) (master : ℕ) (keep : ℕ → Bool) (s 
   pub bears : opening_in r.bytes ≡ Some opening
   pub newest : (t : ℕ) → IsHeadLeft shown master keep t → t ≤ s
 
--- of each other id of the newest digest that is left one of its homes is left
+-- some home is left of each segment that the digest of the newest head that is left lists, apart from this head
 abbrev pub SegmentsSurvive : (ℕ → ℕ → Type 0) → Shown → ℕ → (ℕ → Bool) → Type 0
 SegmentsSurvive IsHome shown master keep = (s : ℕ) (opening : Opening) → IsNewestLeft shown master keep s opening →
     (id : ℕ) → IsAmong id (listed_ids opening.digest) → (id ≡ s → ⊥) → IsHomeLeft IsHome keep id
 
--- Both the head and the segments survive if these backups are left and this was the newest head that was opened on all
--- its homes.
+-- Both the head and the segments that its digest lists survive if these backups are left. 'opened' is the newest head
+-- that was opened on all its homes, if there was one.
 pub record BothSurvive (IsHome : ℕ → ℕ → Type 0) (opened : Option ℕ) (shown : Shown) (master : ℕ)
     (keep : ℕ → Bool) : Type 0 where
   pub head : HeadSurvives IsHome opened shown master keep

@@ -6,7 +6,8 @@ use Rattle.replica.specs.declared.op.TakeFault.TheVariants as take_fault
 use Rattle.replica.specs.Op.{ActValue, Open, Extend, Close, Seal, Free, OpValue}
 use Rattle.replica.specs.Picture.{Replica, FleetState, with_replica}
 
--- what the act makes of the replica that it names; None if it doesn't fit
+-- the replica that is there after the act, if any, by the replica that was there before, if any; None if the act
+-- doesn't fit
 abbrev pub effect : ActValue → Option Replica → Option (Option Replica)
 effect (Open bytes) None = Some (Some (record { bytes = bytes; is_open = true }))
 effect (Open bytes) (Some r) = None
@@ -21,7 +22,7 @@ effect (Seal bytes) (Some r) = None
 effect Free None = None
 effect Free (Some r) = Some None
 
--- the fleet once the op was taken and answered Ok, if it fits
+-- the fleet after it took the op and answered Ok, by what the act made of the replica; None if the act doesn't fit
 abbrev pub with_effect : FleetState → ℕ → OpValue → Option (Option Replica) → Option FleetState
 with_effect f b op None = None
 with_effect f b op (Some r) = Some (record {
@@ -34,7 +35,7 @@ with_effect f b op (Some r) = Some (record {
   acks = record { backup = b; op = op } ∷ f.acks;
 })
 
--- the fleet after the op; None if there is no such backup or the op doesn't fit
+-- the fleet after it took the op and answered Ok; None if there is no such backup, or the op doesn't fit
 abbrev pub taken : FleetState → ℕ → OpValue → Option FleetState
 taken f b op =
     if nat_lt b f.backups then with_effect f b op (effect op.act (f.picture b op.master op.segment)) else None
@@ -43,7 +44,7 @@ taken f b op =
 abbrev pub faulted : FleetState → FleetState
 faulted f = record f { faults = f.faults + 1 }
 
--- the fleet that was left, with one more fault: what it took since the other one was answered by nobody
+-- the fleet after a take that took its op and ended in a fault: one more fault is counted, and the op is no ack
 abbrev pub unanswered : FleetState → FleetState → FleetState
 unanswered old left = record left { faults = left.faults + 1; acks = old.acks }
 
@@ -51,7 +52,8 @@ unanswered old left = record left { faults = left.faults + 1; acks = old.acks }
 abbrev pub Takes : FleetState → ℕ → OpValue → FleetState → Type 0
 Takes old b op new = (old.takes < old.end) × (taken old b op ≡ Some new)
 
--- A refused op is not taken; after a fault nobody knows whether it was. It isn't answered Ok.
+-- What a take does that isn't answered Ok. If the answer is Fault, nobody knows whether the op was taken. In each other
+-- case the op was not taken.
 abbrev pub Refuses : FleetState → ℕ → OpValue → TakeFault → FleetState → Type 0
 Refuses old b op take_fault.NoMemory new = new ≡ old
 Refuses old b op take_fault.Wrong new = (taken old b op ≡ None) × (new ≡ old)
@@ -64,10 +66,10 @@ abbrev pub TakeGives : FleetState → ℕ → OpValue → Result Unit TakeFault 
 TakeGives old b op (Ok u) new = Takes old b op new
 TakeGives old b op (Err fault) new = Refuses old b op fault new
 
--- the greatest number of 64 bits
+-- the greatest number of 64 bits, which stands for no limit
 abbrev pub no_limit : ℕ
 no_limit = 2 ^ 64 - 1
 
--- the fleet that takes this many further ops
+-- the same fleet, limited to so many further takes
 abbrev pub limited : FleetState → ℕ → FleetState
 limited f n = record f { end = min (f.takes + n) no_limit }

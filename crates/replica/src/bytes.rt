@@ -1,10 +1,10 @@
-//! Bytes that lie elsewhere.
+//! Borrowed bytes.
 
 ghost use Rattle.std.specs.Prelude.{◌≡◌};
 
 use std::marker::Model;
 
-/// Bytes that lie elsewhere. A contract sees them as a list.
+/// Borrowed bytes. A contract sees them as a list.
 #[derive(Drop)]
 pub struct Bytes<'a> {
     bytes: &'a [u8],
@@ -19,7 +19,7 @@ impl<'a> Model for Bytes<'a> {
 }
 
 impl<'a> Bytes<'a> {
-    /// These bytes. They are not copied.
+    /// Borrows the bytes. They are not copied.
     pub fn new(bytes: &'a [u8]) -> Bytes<'a>
         ensures { result ≡ bytes.entry.now }
     {

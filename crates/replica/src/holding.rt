@@ -1,9 +1,9 @@
-//! What backups show.
+//! The replicas that backups show.
 
 use crate::bytes::Bytes;
 use entry::Row;
 
-/// A replica that a backup shows. Its bytes lie with the backup.
+/// A replica that a backup shows. Its bytes are the backup's, and are not copied.
 #[derive(Drop)]
 pub struct Holding<'a> {
     pub backup: u64,

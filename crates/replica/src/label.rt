@@ -6,13 +6,13 @@ ghost use Rattle.replica.specs.Picture.{label_of};
 use crate::holding::Holding;
 use entry::{NoMemory, Row};
 
-/// Where a replica is, how many bytes it has, and whether it is open.
+/// A replica without its bytes: where it is, how many bytes it has, and whether it is open.
 #[derive(Clone, Copy)]
 pub struct Label {
     pub backup: u64,
     pub master: u64,
     pub segment: u64,
-    /// In bytes.
+    /// How many bytes the replica has.
     pub len: usize,
     pub is_open: bool,
 }
@@ -21,7 +21,7 @@ pub struct Label {
 pub type Labels = Row<Label>;
 
 impl<'a> Holding<'a> {
-    /// The replica without its bytes.
+    /// Returns the replica without its bytes.
     pub fn label(&self) -> Label
         ensures { result ≡ label_of self.now }
     {
@@ -35,7 +35,7 @@ impl<'a> Holding<'a> {
     }
 }
 
-/// Puts the labels of replicas behind the others. After NoMemory some have been put there.
+/// Appends the labels of the replicas to `labels`, in order. If memory runs out, some of them may have been appended.
 pub fn add_labels(labels: &mut Vec<Label>, holdings: &[Holding<'_>]) -> Result<(), NoMemory>
     ensures { OnOk result (labels.new.items ≡ labels.old.items ++ map label_of holdings.now) }
 {

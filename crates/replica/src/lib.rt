@@ -1,8 +1,8 @@
 //! Replicas on backups: the ops that change them, and what a fleet of backups promises.
 //!
-//! The layer above uses `Fleet` alone: a take is whole or not at all, changes the one replica that its op names, and is
-//! counted; what a backup shows is what it took. A fleet that is a `Bench` can be stopped after any take, can be asked
-//! for a fault of one, and frees what other masters left.
+//! The layer above uses `Fleet` alone. An op is taken whole or not at all, changes only the replica that it names, and
+//! is counted. What a backup shows is what it took. A fleet that is a `Bench` can be stopped after any take, can be
+//! asked to let a take end in a fault, and can free what other masters left.
 #![tactic(auto)]
 
 mod bytes;

@@ -2,18 +2,18 @@
 
 use thiserror::Error;
 
-/// What an op does to the replica that it names. Its bytes lie with the master.
+/// What an op does to the replica that it names. The bytes are borrowed from the master.
 #[derive(Clone, Copy)]
 pub enum Act<'a> {
-    /// Makes an open replica with these bytes, if there was none.
+    /// Makes an open replica with these bytes. There must be no replica before.
     Open(&'a [u8]),
-    /// Appends the bytes to an open replica of the length `at`, in bytes.
+    /// Appends the bytes to the open replica, which must have `at` bytes before.
     Extend { at: usize, bytes: &'a [u8] },
-    /// The open replica is closed.
+    /// Closes the open replica.
     Close,
-    /// Makes a closed replica with these bytes, if there was none.
+    /// Makes a closed replica with these bytes. There must be no replica before.
     Seal(&'a [u8]),
-    /// The replica is gone, open or closed.
+    /// Removes the replica, whether it is open or closed.
     Free,
 }
 
@@ -25,19 +25,19 @@ pub struct Op<'a> {
     pub act: Act<'a>,
 }
 
-/// Why an op was not answered.
+/// Why an op was not answered Ok.
 #[derive(Clone, Copy, Debug, PartialEq, Eq, Error)]
 pub enum TakeFault {
-    /// The op was not taken.
+    /// The op was not taken: memory ran out.
     #[error("NoMemory")]
     NoMemory,
-    /// The op was not taken: it doesn't fit, or there is no such backup.
+    /// The op was not taken: it doesn't fit the replica that it names, or there is no such backup.
     #[error("Wrong")]
     Wrong,
-    /// The op was taken or not.
+    /// Nobody knows whether the op was taken.
     #[error("Fault")]
     Fault,
-    /// The op was not taken: the fleet has taken as many ops as it was to take.
+    /// The op was not taken: the fleet has taken as many ops as its limit allows.
     #[error("Spent")]
     Spent,
 }

@@ -1,4 +1,4 @@
--- What a reader expects, and with what segments begin.
+-- What has to come next in a segment, and with which entries segments begin.
 use Rattle.std.proofs.Common.{◌≡◌, ℕ, zero, suc, ◌+◌, Bool, true, false, List, [], ◌∷◌, ◌++◌}
 use Rattle.std.proofs.Common.{length, Some, refl, ap, ◌∙◌, append_assoc, eq-eqb, arith}
 use Rattle.std.specs.List.{slice_get}

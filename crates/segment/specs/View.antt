@@ -1,4 +1,4 @@
--- What a reader of a segment has still to give.
+-- What an iterator over the entries of a segment has still to give.
 use Rattle.std.specs.Prelude.{List}
 use Rattle.entry.specs.declared.entry.Entry.{Entry}
 use Rattle.entry.specs.Text.{entries_in}

@@ -5,7 +5,7 @@ ghost use Rattle.entry.specs.View.{shown};
 
 use entry::EntryRef;
 
-/// The entries that are still to come, in the order in which they lie.
+/// The entries that are still to come, in the order of their offsets.
 #[derive(Drop)]
 pub struct Entries<'a> {
     pub(crate) rest: &'a [u8],

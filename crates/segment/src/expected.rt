@@ -1,4 +1,4 @@
-//! The order of the entries of a segment, as a reader meets them.
+//! Which entry a reader of a segment may meet next.
 
 ghost use Rattle.std.specs.Prelude.{◌≡◌, ◌∷◌, List, false, IfSome, IfNone};
 ghost use Rattle.entry.specs.declared.entry.Entry.{Entry};
@@ -8,18 +8,18 @@ ghost use Rattle.segment.specs.Order.{completes};
 
 use entry::{DigestRef, EntryRef, Role};
 
-/// What may come next in a segment.
+/// What has to come next in a segment.
 #[derive(Clone, Copy)]
 pub(crate) enum Expected {
     Header,
-    /// The digest of this segment's head.
+    /// The digest of a head. Its last id is this number, which is the head's own.
     Digest(u64),
     Safe,
     /// Objects and tombstones, or the end.
     Data,
 }
 
-/// Whether the last of the digest's ids is this one.
+/// Returns true if `id` is the last id of the digest.
 fn ends_with_id(digest: &DigestRef, id: u64) -> bool
     ensures { result ≡ ends_with id (shown_ids digest.now) }
 {
@@ -28,7 +28,7 @@ fn ends_with_id(digest: &DigestRef, id: u64) -> bool
 }
 
 impl Expected {
-    /// What may come behind the entry; None if the entry itself may not come.
+    /// Returns what has to come after the entry, or None if the entry itself may not come here.
     pub(crate) fn next(self, entry: &EntryRef) -> Option<Expected>
         ensures allowed { IfSome result (λ next. (more : List Entry) →
             completes self (shown entry.now ∷ more) ≡ completes next more) }

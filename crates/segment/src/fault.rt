@@ -7,7 +7,8 @@ ghost use Rattle.segment.specs.declared.fault.AppendFault.TheVariants as append_
 use std::alloc::AllocError;
 use thiserror::Error;
 
-/// Why bytes are no segment: the first test that failed. The offsets count bytes from the first.
+/// Why a reader gives no segment: the first test that the bytes fail, or `NoMemory` if they fail none. An offset counts
+/// the bytes before it.
 #[derive(Clone, Copy, Debug, PartialEq, Eq, Error)]
 pub enum SegmentFault {
     #[error("no entry can be read at offset {0}")]

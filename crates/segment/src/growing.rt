@@ -1,4 +1,4 @@
-//! The text of a segment that grows in a vector.
+//! The text of a segment in a vector: how it grows, and how its spare memory is given back.
 
 ghost use Rattle.std.specs.Prelude.{◌≡◌, ◌+◌, ◌≤◌, ◌<◌, ◌↔◌, ◌++◌, length, map, true, vec_capacity};
 ghost use Rattle.std.specs.Prelude.{IfOk, IfErr, OnOk, OnErr, IsErrOf};
@@ -10,8 +10,8 @@ use crate::fault::AppendFault;
 use crate::unit::{len_within, write_all};
 use entry::EntryRef;
 
-/// Appends objects and tombstones, all or none of them, to the text of a segment, if that then has at most `limit`
-/// bytes. The answer is the offset of the first. A vector with room for `limit` bytes takes no more memory.
+/// Appends objects and tombstones to the text of a segment if the text then has at most `limit` bytes. All of them are
+/// appended, or none. Returns the offset of the first one. A vector with room for `limit` bytes takes no more memory.
 #[inline(always)]
 pub fn append_unit(
     text: &mut Vec<u8>,
@@ -43,7 +43,7 @@ pub fn append_unit(
     Ok(at)
 }
 
-/// Appends the objects and tombstones whose text this is, as `append_unit` does.
+/// Appends the objects and tombstones whose text `more` is, as `append_unit` does.
 #[inline(always)]
 pub fn append_text(text: &mut Vec<u8>, more: &[u8], limit: usize) -> Result<usize, AppendFault>
     requires segment { IsSegmentBytes text.old.items }
@@ -66,8 +66,8 @@ pub fn append_text(text: &mut Vec<u8>, more: &[u8], limit: usize) -> Result<usiz
     Ok(at)
 }
 
-/// Gives back the memory beyond this many bytes, or beyond the text if that is longer. If it is less than a sixteenth
-/// of the whole, it is kept: so little is of no use to anybody else.
+/// Gives back the vector's memory beyond `len` bytes, or beyond the text if the text is longer. If this memory is at
+/// most a sixteenth of the whole, the vector keeps it: so little is of no use to anybody else.
 pub fn trim_text(text: &mut Vec<u8>, len: usize)
     ensures { text.new.items ≡ text.old.items }
 {

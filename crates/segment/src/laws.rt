@@ -2,7 +2,7 @@
 
 ghost use Rattle.segment.specs.Faults.{FaultsAreOne};
 
-/// No bytes have two faults.
+/// Any bytes have at most one fault.
 pub fn one_fault()
     ensures { FaultsAreOne }
 {}

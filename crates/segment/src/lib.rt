@@ -1,10 +1,11 @@
-//! Segments: legal rows of entries, and their bytes.
+//! Segments: entries in an order that is allowed, and the bytes of these entries.
 //!
-//! A `Segment` holds the bytes, and a contract sees the list of its entries. What is made, read or appended to is a
-//! segment, and its bytes are the text of its entries. `SegmentRef` shows the same of bytes that lie elsewhere. A
-//! reader takes the text of each segment, and of other bytes it names the first test that fails (`specs/Faults.antt`).
+//! A `Segment` holds the bytes, and a contract sees the list of its entries. Each call that makes, reads or changes a
+//! segment leaves a valid one, whose bytes are the text of its entries. A `SegmentRef` is a segment in borrowed bytes.
+//! A reader accepts the text of each segment of at most 8,388,608 bytes. For other bytes it names the first test that
+//! they fail (`specs/Faults.antt`).
 //!
-//! It uses `entry`, for entries and their spelling.
+//! The crate stands on `entry`, for entries and their spelling.
 #![tactic(auto)]
 
 mod entries;

@@ -14,7 +14,7 @@ use crate::view::SegmentRef;
 use entry::EntryRef;
 use std::alloc::Global;
 
-/// The offset behind the entry at an offset, and what is expected there.
+/// Reads the entry at an offset. Returns the offset after this entry, and what has to come there.
 fn step(bytes: &[u8], at: usize, expected: Expected) -> Result<(usize, Expected), SegmentFault>
     requires limit { length bytes.now ≤ 8388608 }
     requires more { at < length bytes.now }
@@ -33,7 +33,7 @@ fn step(bytes: &[u8], at: usize, expected: Expected) -> Result<(usize, Expected)
     }
 }
 
-/// Makes the tests of a segment, in order.
+/// Tests whether the bytes are the text of a segment. A fault names the first test that fails.
 pub(crate) fn check(bytes: &[u8]) -> Result<(), SegmentFault>
     ensures ok { IfOk result (λ _. IsSegmentBytes bytes.now) }
     ensures fault { IfErr result (λ fault. IsSegmentFault bytes.now fault) }
@@ -53,14 +53,14 @@ pub(crate) fn check(bytes: &[u8]) -> Result<(), SegmentFault>
     }
 }
 
-/// A copy of the segment that the bytes are.
+/// Returns a copy of the segment whose text the bytes are.
 pub fn read_segment(alloc: Global, bytes: &[u8]) -> Result<Segment, SegmentFault>
-    // What is read is the segment whose text the bytes are.
+    // The bytes are the text of the segment that is read.
     ensures found { IfOk result (λ segment. IsTextOf bytes.now segment) }
     // The text of each segment within the limit is read, unless memory runs out.
     ensures complete { (entries : List Entry) → IsTextOf bytes.now entries → length bytes.now ≤ MAX_SEGMENT_LEN →
         MatchResult result (λ segment. segment ≡ entries) (λ fault. fault ≡ SegmentFault.NoMemory) }
-    // A fault is the one that the first failing test names. NoMemory comes only if no test fails.
+    // A fault names the first test that fails. NoMemory comes only if no test fails.
     ensures fault { IfErr result (λ fault. IsSegmentFault bytes.now fault) }
 {
     match SegmentRef::read(bytes) {

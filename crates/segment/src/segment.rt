@@ -1,4 +1,4 @@
-//! Segments in memory of their own.
+//! Segments that own their memory.
 
 ghost use Rattle.std.specs.Prelude.{◌≡◌, ◌+◌, ◌≤◌, ◌<◌, ◌↔◌, ◌++◌, ◌∷◌, [], List, length};
 ghost use Rattle.std.specs.Prelude.{map, true, IfOk, OnOk, OnErr, IsErrOf, IsSomeAnd};
@@ -22,7 +22,7 @@ use std::marker::Model;
 /// The most bytes of a segment.
 pub const MAX_SEGMENT_LEN: usize = 8_388_608;
 
-/// A segment: its text. A contract sees the list of its entries.
+/// A segment that owns its text. A contract sees the list of its entries.
 #[derive(Drop)]
 pub struct Segment {
     bytes: Vec<u8>,
@@ -52,7 +52,7 @@ fn append_entry(entry: Entry, bytes: &mut Vec<u8>) -> Result<(), NoMemory>
 impl Segment {
     ghost use Rattle.segment.specs.View.{entries_left};
 
-    /// The head of a master's log: its header, a digest, and a safe version.
+    /// Makes a head of a master's log, with its opening alone: header, digest and safe version.
     pub fn begin_head(
         alloc: Global,
         master: u64,
@@ -79,7 +79,7 @@ impl Segment {
         Ok(Segment { bytes })
     }
 
-    /// The survivor of a cleaning pass: its header alone.
+    /// Makes a survivor of a cleaning pass, with its header alone.
     pub fn begin_survivor(alloc: Global, master: u64, id: u64) -> Result<Segment, NoMemory>
         ensures { IfOk result (λ segment.
             segment ≡ Entry.Header (record { master = master; segment = id; role = Role.Survivor }) ∷ []) }
@@ -94,7 +94,7 @@ impl Segment {
         Ok(Segment { bytes })
     }
 
-    /// The segment that has this text. The bytes are neither read nor copied.
+    /// Makes the segment that has this text. The bytes are neither read nor copied.
     pub fn of_text(bytes: Vec<u8>) -> Segment
         requires { IsSegmentBytes bytes.items }
         ensures { result ≡ entries_in bytes.items }
@@ -102,8 +102,8 @@ impl Segment {
         Segment { bytes }
     }
 
-    /// Appends objects and tombstones, all or none of them, if the segment then has at most `limit` bytes. The answer
-    /// is the offset of the first.
+    /// Appends objects and tombstones if the segment then has at most `limit` bytes. All of them are appended, or none.
+    /// Returns the offset of the first one.
     #[inline(always)]
     pub fn append(&mut self, unit: &[EntryRef<'_>], limit: usize) -> Result<usize, AppendFault>
         requires data { are_data (map shown unit.now) ≡ true }
@@ -118,7 +118,7 @@ impl Segment {
         append_unit(&mut self.bytes, unit, limit)
     }
 
-    /// Takes memory for a text of this many bytes, once, so that no append within them takes more.
+    /// Takes memory for a text of `len` bytes. An append takes no more memory as long as the text stays within `len`.
     pub fn reserve(&mut self, len: usize) -> Result<(), NoMemory>
         ensures { self.new ≡ self.old }
     {
@@ -126,14 +126,16 @@ impl Segment {
         self.bytes.reserve_exact(more)
     }
 
-    /// Gives back the memory beyond this many bytes, or beyond the text if that is longer, unless that is little.
+    /// Gives back the memory beyond `len` bytes, or beyond the text if the text is longer. If this memory is at most a
+    /// sixteenth of the whole, the segment keeps it.
     pub fn trim(&mut self, len: usize)
         ensures { self.new ≡ self.old }
     {
         trim_text(&mut self.bytes, len);
     }
 
-    /// Moves the text into memory that another segment had, if it takes no more than that.
+    /// Moves the text into this memory, which another segment had. If the text needs more memory and there is none, the
+    /// segment stays where it is.
     pub fn move_into(&mut self, memory: Vec<u8>)
         ensures { self.new ≡ self.old }
     {
@@ -144,7 +146,7 @@ impl Segment {
         }
     }
 
-    /// The text alone.
+    /// Returns the text, in the memory of the segment.
     #[inline(always)]
     pub fn into_text(self) -> Vec<u8>
         ensures valid { IsSegmentBytes result.items }
@@ -153,7 +155,7 @@ impl Segment {
         self.bytes
     }
 
-    /// The text.
+    /// Returns the text.
     pub fn bytes(&self) -> &[u8]
         ensures text { result.now ≡ text_of self.now }
         ensures valid { IsSegment self.now }
@@ -162,14 +164,14 @@ impl Segment {
         self.bytes.as_slice()
     }
 
-    /// How many bytes the text has.
+    /// Returns how many bytes the text has.
     pub fn bytes_len(&self) -> usize
         ensures { result ≡ length (text_of self.now) }
     {
         self.bytes().len()
     }
 
-    /// The entries in order.
+    /// Returns the entries in order.
     pub fn entries(&self) -> Entries<'_>
         ensures entries { entries_left result ≡ self.entry.now }
         ensures limit { length (entries_left result) ≤ MAX_SEGMENT_LEN }
@@ -177,7 +179,7 @@ impl Segment {
         self.view().entries()
     }
 
-    /// The entry at an offset from the first byte.
+    /// Returns the entry that can be read at this offset in bytes, or None if there is none.
     #[inline(always)]
     pub fn entry_at(&self, at: usize) -> Option<EntryRef<'_>>
         ensures standing { option_map shown result ≡ standing_at at (text_of self.entry.now) }
@@ -189,7 +191,7 @@ impl Segment {
         self.view().entry_at(at)
     }
 
-    /// The segment as it lies here, without a copy.
+    /// Borrows the segment, without a copy.
     #[inline(always)]
     pub fn view(&self) -> SegmentRef<'_>
         ensures { result ≡ self.entry.now }
@@ -201,7 +203,7 @@ impl Segment {
 }
 
 impl<'a> SegmentRef<'a> {
-    /// A segment of its own.
+    /// Copies the segment into memory of its own.
     pub fn to_segment(&self, alloc: Global) -> Result<Segment, NoMemory>
         ensures { IfOk result (λ segment. segment ≡ self.now) }
     {

@@ -9,7 +9,7 @@ ghost use Rattle.entry.specs.View.{shown};
 
 use entry::{EntryRef, NoMemory};
 
-/// How many bytes the spelling of an object or a tombstone has.
+/// Returns how many bytes the spelling of an object or a tombstone has.
 fn spelled_len(entry: &EntryRef) -> usize
     requires { is_data (shown entry.now) ≡ true }
     ensures len { result ≡ length (spelling (shown entry.now)) }
@@ -37,7 +37,7 @@ fn write(entry: &EntryRef, out: &mut Vec<u8>) -> Result<(), NoMemory>
     }
 }
 
-/// How many bytes the spellings of a unit have together, if they are at most this many.
+/// Returns how many bytes the spellings of a unit have together, or None if they have more than `room`.
 pub(crate) fn len_within(unit: &[EntryRef<'_>], room: usize) -> Option<usize>
     requires data { are_data (map shown unit.now) ≡ true }
     requires limit { room ≤ 8388608 }
@@ -55,7 +55,7 @@ pub(crate) fn len_within(unit: &[EntryRef<'_>], room: usize) -> Option<usize>
     Some(len)
 }
 
-/// Appends the spellings of a unit, if there is room for them.
+/// Appends the spellings of a unit. The vector has room for them.
 pub(crate) fn write_all(unit: &[EntryRef<'_>], out: &mut Vec<u8>)
     requires data { are_data (map shown unit.now) ≡ true }
     requires room { vec_len out.old + length (text_of (map shown unit.now)) ≤ vec_capacity out.old }

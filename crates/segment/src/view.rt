@@ -1,4 +1,4 @@
-//! Segments that lie in bytes, seen without a copy.
+//! Segments in borrowed bytes, which are read without a copy.
 
 ghost use Rattle.std.specs.Prelude.{◌≡◌, ◌≤◌, ℕ, List, Some, length, IfOk, IfErr, IsOkAnd, IsSomeAnd, ◌++◌, ◌∷◌};
 ghost use Rattle.std.specs.Option.{option_map};
@@ -14,7 +14,7 @@ use crate::reading::check;
 use entry::{DigestRef, EntryRef, Header, SafeVersion};
 use std::marker::Model;
 
-/// A segment whose text lies elsewhere. A contract sees the list of its entries.
+/// A segment whose text is borrowed. A contract sees the list of its entries.
 #[derive(Drop)]
 pub struct SegmentRef<'a> {
     pub(crate) bytes: &'a [u8],
@@ -36,15 +36,15 @@ impl<'a> Model for SegmentRef<'a> {
 impl<'a> SegmentRef<'a> {
     ghost use Rattle.segment.specs.View.{entries_left};
 
-    /// The segment that the bytes are. No memory is taken.
+    /// Reads the segment whose text the bytes are. The call takes no memory.
     pub fn read(bytes: &'a [u8]) -> Result<SegmentRef<'a>, SegmentFault>
-        // What is read is the segment whose text the bytes are.
+        // The bytes are the text of the segment that is read.
         ensures found { IfOk result (λ segment. IsTextOf bytes.entry.now segment) }
         // The text of each segment within the limit is read.
         ensures complete { (entries : List Entry) →
             IsTextOf bytes.entry.now entries → length bytes.entry.now ≤ 8388608 →
             IsOkAnd result (λ segment. segment ≡ entries) }
-        // A fault is the one that the first failing test names.
+        // A fault names the first test that fails.
         ensures fault { IfErr result (λ fault. IsSegmentFault bytes.entry.now fault) }
     {
         match check(bytes) {
@@ -53,7 +53,7 @@ impl<'a> SegmentRef<'a> {
         }
     }
 
-    /// The segment that has this text. The bytes are not read.
+    /// Makes the segment that has this text. The bytes are not read.
     #[inline(always)]
     pub fn of_text(bytes: &'a [u8]) -> SegmentRef<'a>
         requires { IsSegmentBytes bytes.now }
@@ -62,7 +62,7 @@ impl<'a> SegmentRef<'a> {
         SegmentRef { bytes }
     }
 
-    /// The same segment. Its text is not copied.
+    /// Returns the same segment. Its text is not copied.
     #[inline(always)]
     pub fn copy(&self) -> SegmentRef<'a>
         ensures { result ≡ self.entry.now }
@@ -70,7 +70,7 @@ impl<'a> SegmentRef<'a> {
         SegmentRef { bytes: self.bytes }
     }
 
-    /// The text.
+    /// Returns the text.
     #[inline(always)]
     pub fn bytes(&self) -> &'a [u8]
         ensures text { result.now ≡ text_of self.entry.now }
@@ -80,7 +80,7 @@ impl<'a> SegmentRef<'a> {
         self.bytes
     }
 
-    /// The header, with which each segment begins.
+    /// Returns the header, with which each segment begins.
     pub fn header(&self) -> Header
         ensures { header_of self.now ≡ Some result }
     {
@@ -91,7 +91,7 @@ impl<'a> SegmentRef<'a> {
         }
     }
 
-    /// The digest of a head; None for a survivor.
+    /// Returns the digest of a head, or None for a survivor.
     pub fn digest(&self) -> Option<DigestRef<'a>>
         ensures { option_map shown_digest result ≡
             option_map (λ (o : Opening). o.digest) (opening_of self.entry.now) }
@@ -104,7 +104,7 @@ impl<'a> SegmentRef<'a> {
         }
     }
 
-    /// The safe version of a head; None for a survivor.
+    /// Returns the safe version of a head, or None for a survivor.
     pub fn safe(&self) -> Option<SafeVersion>
         ensures { result ≡ option_map (λ (o : Opening). o.safe) (opening_of self.now) }
     {
@@ -120,7 +120,7 @@ impl<'a> SegmentRef<'a> {
         }
     }
 
-    /// The entries in order.
+    /// Returns the entries in order.
     pub fn entries(&self) -> Entries<'a>
         ensures entries { entries_left result ≡ self.entry.now }
         ensures limit { length (entries_left result) ≤ 8388608 }
@@ -128,7 +128,7 @@ impl<'a> SegmentRef<'a> {
         Entries { rest: self.bytes }
     }
 
-    /// The entry at an offset from the first byte.
+    /// Returns the entry that can be read at this offset in bytes, or None if there is none.
     #[inline(always)]
     pub fn entry_at(&self, at: usize) -> Option<EntryRef<'a>>
         ensures standing { option_map shown result ≡ standing_at at (text_of self.entry.now) }
