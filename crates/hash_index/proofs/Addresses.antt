@@ -1,4 +1,4 @@
--- Which bucket has a hash: what one bucket more changes.
+-- Which bucket has a hash, and what changes once there is one more bucket.
 use Rattle.std.proofs.Common.{◌≡◌, ℕ, zero, suc, ◌+◌, ◌-◌, ◌*◌, ◌%◌, ◌^◌, ◌<◌, ◌≤◌, Bool, true, false, cond}
 use Rattle.std.proofs.Common.{ltb-true, ltb-false, lt-ltb, le-ltb, refl, sym, ap, subst, ◌∙◌, arith}
 use Rattle.std.specs.Prelude.{nat_lt}

@@ -8,24 +8,24 @@ use Rattle.places.specs.declared.place.Held.{Held}
 use Rattle.place_index.specs.Steps.{HashesPass, BringsNoHash, IsShuffled, ListValue}
 use Rattle.place_index.specs.Parted.{belongs}
 
--- the places of a list that may be there
+-- the places of the list; none if there is no list
 abbrev pub listed : {A : Type 0} → Option (Box ListValue A) → List Held
 listed None = []
 listed (Some list) = list.value.held
 
 -- ---- which bucket has a hash
 
--- of the lowest bits of a hash, k of them at most, as many as still name one of n buckets
+-- the number that the lowest bits of a hash make: at most k bits, and as many as keep the number below n
 abbrev pub longest : ℕ → ℕ → ℕ → ℕ
 longest zero n hash = 0
 longest (suc k) n hash = if nat_lt (hash % 2 ^ suc k) n then hash % 2 ^ suc k else longest k n hash
 
--- in which of n buckets a hash is
+-- the number of the bucket, among n buckets, that has a hash
 unfoldable pub bucket_of : ℕ → ℕ → ℕ
 bucket_of n hash = longest 64 n hash
 
--- The places of a bucket, divided between it and the next new one, which is number n: those that the new one is to have
--- went there.
+-- The places of a bucket are divided between it and a new bucket, which is number n: those whose hash belongs to the
+-- new bucket go there, and the others stay.
 pub record Divides (n : ℕ) (old stays goes : List Held) : Type 0 where
   pub same : IsShuffled old (stays ++ goes)
   pub new : HashesPass (belongs (bucket_of (suc n)) n) goes
@@ -34,11 +34,11 @@ pub record Divides (n : ℕ) (old stays goes : List Held) : Type 0 where
 
 -- ---- the blocks
 
--- the buckets of all blocks
+-- the buckets of all blocks, one after another
 abbrev pub in_blocks : {A : Type 0} → List (Vec (List Held) A) → List (List Held)
 in_blocks bs = flat_map (λ b. b.items) bs
 
--- there are so many buckets, and each block has 64 of them, or as many as are left
+-- the blocks have n buckets: 64 in each block, and in the last block those that are left
 abbrev pub AreBlocks : {A : Type 0} → ℕ → List (Vec (List Held) A) → Type 0
 AreBlocks n [] = n ≡ 0
 AreBlocks n (b ∷ bs) = (0 < n) × (length b.items ≡ min 64 n) × AreBlocks (n - 64) bs

@@ -3,14 +3,15 @@ use Rattle.std.specs.Prelude.{ℕ, ◌+◌, ◌*◌, ◌/◌, ◌%◌, nat_lt, �
 use Rattle.std.specs.List.{AllByRecursion}
 use Rattle.places.specs.declared.place.Held.{Held}
 
--- The place that a slot packs. Its hash is the tag with the upper nine bits of the offset's word behind it.
+-- The place that a slot packs. Its hash is the tag, followed by the upper nine bits of the offset's word. Its offset
+-- is the lower 23 bits of this word.
 abbrev pub unpacked : ℕ → ℕ → ℕ → Held
 unpacked tag at segment = record {
   hash = tag * 512 + at / 8388608;
   place = record { segment = segment; at = at % 8388608 };
 }
 
--- the slots of some tags, offsets and segments
+-- the slots that these tags, words of offsets and segments make
 abbrev pub slots_of : List ℕ → List ℕ → List ℕ → List Held
 slots_of [] xs ss = []
 slots_of (t ∷ ts) [] ss = []
@@ -21,7 +22,7 @@ slots_of (t ∷ ts) (x ∷ xs) (s ∷ ss) = unpacked t x s ∷ slots_of ts xs ss
 abbrev pub has_tag : ℕ → Held → Bool
 has_tag tag slot = slot.hash / 512 == tag
 
--- the hash of the slot has these nine bits behind its tag
+-- the hash of the slot has these lower nine bits
 abbrev pub has_low : ℕ → Held → Bool
 has_low low slot = slot.hash % 512 == low
 
@@ -33,10 +34,10 @@ is_free slot = nat_lt slot.hash 512
 abbrev pub taken : List Held → List Held
 taken slots = filter (λ (slot : Held). not (is_free slot)) slots
 
--- the hash and the offset are such as a slot can have
+-- a slot can have this hash and this offset
 abbrev pub IsPackable : Held → Type 0
 IsPackable h = (h.hash < 33554432) × (h.place.at < 8388608)
 
--- each of the numbers is below this one
+-- each of the numbers is below `most`
 abbrev pub AreWords : ℕ → List ℕ → Type 0
 AreWords most xs = AllByRecursion (λ (x : ℕ). x < most) xs

@@ -1,10 +1,11 @@
-//! Which bucket has the places of a hash.
+//! How a table finds the bucket of a hash.
 
 ghost use Rattle.std.specs.Prelude.{◌≡◌, ◌<◌};
 ghost use Rattle.hash_index.specs.Buckets.{bucket_of};
 
-/// Which of this many buckets has the places of a hash: as many of its lowest bits as still name a bucket. One bucket
-/// more takes places of one other bucket alone.
+/// Returns the number of the bucket, among `count` buckets, that has the places of a hash. The number is made of as
+/// many of the hash's lowest bits as keep it below `count`. So one more bucket takes places from only one other
+/// bucket.
 #[inline(always)]
 pub(crate) fn bucket_at(count: usize, hash: u64) -> usize
     requires { 0 < count }

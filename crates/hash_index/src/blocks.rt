@@ -13,13 +13,13 @@ use places::{Held, Place};
 use std::alloc::{AllocError, Global};
 use std::marker::Model;
 
-/// How many buckets an allocation takes memory for.
+/// An allocation takes memory for this many buckets.
 const BLOCK: usize = 64;
 
-/// How many buckets there may be.
+/// A table has at most this many buckets.
 const MOST: usize = 1 << 62;
 
-/// A list of buckets that grows without a move: it is in blocks of 64. A contract sees the list.
+/// A list of buckets, in blocks of 64. No bucket moves when the list grows. A contract sees the list.
 #[derive(Drop)]
 pub(crate) struct Blocks {
     blocks: Vec<Vec<Bucket>>,
@@ -39,7 +39,7 @@ impl Model for Blocks {
 }
 
 impl Blocks {
-    /// No buckets. It takes no memory.
+    /// Makes a list of no buckets. Takes no memory.
     pub(crate) fn new(alloc: Global) -> Blocks
         ensures { result ≡ [] }
     {
@@ -49,7 +49,7 @@ impl Blocks {
         }
     }
 
-    /// How many buckets there are.
+    /// Returns the number of buckets.
     #[inline(always)]
     pub(crate) fn len(&self) -> usize
         ensures len { result ≡ length self.now }
@@ -58,7 +58,7 @@ impl Blocks {
         self.len
     }
 
-    /// A bucket.
+    /// Returns bucket number `at`.
     #[inline(always)]
     pub(crate) fn get(&self, at: usize) -> &Bucket
         requires { at < length self.now }
@@ -67,7 +67,7 @@ impl Blocks {
         &self.blocks[at / BLOCK][at % BLOCK]
     }
 
-    /// A bucket, to be changed.
+    /// Returns bucket number `at`, to be changed.
     #[inline(always)]
     fn bucket_mut(&mut self, at: usize) -> &mut Bucket
         requires { at < length self.old }
@@ -78,7 +78,7 @@ impl Blocks {
         &mut block[at % BLOCK]
     }
 
-    /// A place that a bucket holds under this hash becomes another place. Whether it was there.
+    /// Moves `held` to the place `to` in bucket number `at`, under the same hash; returns true if the bucket held it.
     #[inline(always)]
     pub(crate) fn relocate(&mut self, at: usize, held: Held, to: Place) -> bool
         requires at { at < length self.old }
@@ -89,7 +89,7 @@ impl Blocks {
         self.bucket_mut(at).relocate(held, to)
     }
 
-    /// A place that a bucket holds under this hash is taken out. Whether it was there.
+    /// Takes `held` out of bucket number `at`; returns true if the bucket held it.
     pub(crate) fn take_out(&mut self, at: usize, held: Held) -> bool
         requires { at < length self.old }
         ensures had { result ≡ holds_in (get_or self.old at []) held }
@@ -98,7 +98,7 @@ impl Blocks {
         self.bucket_mut(at).take_out(held)
     }
 
-    /// One more place in a bucket.
+    /// Adds a place to bucket number `at`. On `Err` nothing changed.
     pub(crate) fn add(&mut self, at: usize, held: Held, alloc: Global) -> Result<(), NoMemory>
         requires { at < length self.old }
         ensures only { self.new ≡ set self.old at (get_or self.new at []) }
@@ -109,7 +109,7 @@ impl Blocks {
         self.bucket_mut(at).push(held, alloc)
     }
 
-    /// A bucket becomes this one.
+    /// Replaces bucket number `at` with `bucket`.
     pub(crate) fn put(&mut self, at: usize, bucket: Bucket)
         requires { at < length self.old }
         ensures { self.new ≡ set self.old at bucket }
@@ -117,7 +117,7 @@ impl Blocks {
         *self.bucket_mut(at) = bucket;
     }
 
-    /// One more bucket. On `Err` nothing changed.
+    /// Adds a bucket at the end. On `Err` nothing changed.
     pub(crate) fn push(&mut self, bucket: Bucket, alloc: Global) -> Result<(), NoMemory>
         ensures ok { OnOk result (self.new ≡ self.old ++ bucket ∷ []) }
         ensures err { OnErr result (self.new ≡ self.old) }

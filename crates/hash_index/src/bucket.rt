@@ -14,7 +14,8 @@ use places::{Held, Place, Resolve};
 use std::alloc::Global;
 use std::marker::Model;
 
-/// The places of some hashes, in 128 bytes: up to eight in slots, and what overflows.
+/// The places of the hashes that belong to one bucket. A bucket has 128 bytes, with slots for up to eight places.
+/// Other places overflow into a list outside these bytes.
 #[derive(Drop)]
 pub(crate) struct Bucket {
     overflow: Overflow,
@@ -31,7 +32,7 @@ impl Model for Bucket {
 }
 
 impl Bucket {
-    /// A bucket of no places. It takes no memory of its own.
+    /// Makes a bucket of no places. Takes no memory outside the bucket.
     pub(crate) fn new() -> Bucket
         ensures { result ≡ [] }
     {
@@ -41,7 +42,7 @@ impl Bucket {
         }
     }
 
-    /// The parts of a bucket.
+    /// Returns the slots, and the list of what overflows.
     #[inline]
     pub(crate) fn parts(&self) -> (&Near, &Overflow)
         ensures { result.0.now ++ result.1.now ≡ self.now }
@@ -49,7 +50,7 @@ impl Bucket {
         (&self.near, &self.overflow)
     }
 
-    /// The place of a key of this hash.
+    /// Returns the place of a key with this hash; `None` if the key has none here.
     #[inline(always)]
     pub(crate) fn get<R: Resolve>(&self, hash: u64, resolver: &R, key: &KeyRef<'_>) -> Option<Place>
         ensures { (hash_of : Key → ℕ) → hash ≡ hash_of (shown_key key.now)
@@ -62,7 +63,7 @@ impl Bucket {
         }
     }
 
-    /// The first place that is held with a hash.
+    /// Returns the first place that the bucket holds under this hash; `None` if it holds none.
     #[inline(always)]
     pub(crate) fn candidate(&self, hash: u64) -> Option<Place>
         ensures { (hash_of : Key → ℕ) (keys : PlaceValue → Option Key) (k : Key) → hash ≡ hash_of k
@@ -74,7 +75,7 @@ impl Bucket {
         }
     }
 
-    /// Whether it holds this place under this hash.
+    /// Returns true if the bucket holds this place under this hash.
     #[inline(always)]
     pub(crate) fn holds(&self, held: Held) -> bool
         ensures { result ≡ holds_in self.now held }
@@ -82,7 +83,7 @@ impl Bucket {
         self.near.holds(held) || self.overflow.holds(held)
     }
 
-    /// Whether it holds this place under this hash in a slot.
+    /// Returns true if a slot of the bucket has this place under this hash.
     #[inline(always)]
     pub(crate) fn holds_first(&self, held: Held) -> bool
         ensures { result ≡ true → holds_in self.now held ≡ true }
@@ -90,13 +91,14 @@ impl Bucket {
         self.near.holds(held)
     }
 
-    /// Reads a little of all its memory. The result is meaningless; it only keeps the compiler from removing the load.
+    /// Reads a little at both ends of the slots, so that they are in the cache soon. The result is meaningless; it
+    /// only keeps the compiler from removing the load.
     #[inline(always)]
     pub(crate) fn touch(&self) -> u64 {
         self.near.touch()
     }
 
-    /// A place that it holds under this hash becomes another place. Whether it was there.
+    /// Moves `held` to the place `to`, under the same hash; returns true if the bucket held it.
     #[inline(always)]
     pub(crate) fn relocate(&mut self, held: Held, to: Place) -> bool
         requires { to.at < 8388608 }
@@ -106,7 +108,7 @@ impl Bucket {
         self.near.relocate(held, to) || self.overflow.relocate(held, to)
     }
 
-    /// A place that it holds under this hash is taken out. Whether it was there.
+    /// Takes `held` out; returns true if the bucket held it.
     #[inline(always)]
     pub(crate) fn take_out(&mut self, held: Held) -> bool
         ensures had { result ≡ holds_in self.old held }
@@ -115,7 +117,8 @@ impl Bucket {
         self.near.take_out(held) || self.overflow.take_out(held)
     }
 
-    /// One more place: in a slot, or else in memory for just as many as overflow.
+    /// Adds a place: to a free slot, or else to the list of what overflows. If the list has no room, it takes memory
+    /// for one place more. On `Err` nothing changed.
     #[inline]
     pub(crate) fn push(&mut self, held: Held, alloc: Global) -> Result<(), NoMemory>
         ensures ok { OnOk result (IsShuffled (self.old ++ held ∷ []) self.new) }

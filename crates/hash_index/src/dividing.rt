@@ -10,14 +10,15 @@ use entry::NoMemory;
 use places::Held;
 use std::alloc::Global;
 
-/// A bucket that is divided: what stays, and what goes to the new bucket.
+/// The two parts of a divided bucket: the places that stay, and the places that go to the new bucket.
 #[derive(Drop)]
 pub(crate) struct Halves {
     pub(crate) stays: Bucket,
     pub(crate) goes: Bucket,
 }
 
-/// One more place is dealt out: to the new bucket, which is number `count`, if it is to have it.
+/// Adds a place to one of the parts: to `goes` if its hash belongs to the new bucket, which is number `count`, and
+/// else to `stays`.
 fn deal(held: Held, count: usize, to: &mut Halves, alloc: Global) -> Result<(), NoMemory>
     requires { count < 2 ^ 63 }
     ensures { (start : List HeldValue) → Divides count start to.old.stays to.old.goes
@@ -30,7 +31,7 @@ fn deal(held: Held, count: usize, to: &mut Halves, alloc: Global) -> Result<(), 
     }
 }
 
-/// Each of these places is dealt out.
+/// Adds each of these places to its part, as `deal` does.
 fn deal_all(places: &[Held], count: usize, to: &mut Halves, alloc: Global) -> Result<(), NoMemory>
     requires { count < 2 ^ 63 }
     ensures { (start : List HeldValue) → Divides count start to.old.stays to.old.goes
@@ -42,7 +43,8 @@ fn deal_all(places: &[Held], count: usize, to: &mut Halves, alloc: Global) -> Re
     Ok(())
 }
 
-/// The places of this bucket divided between it and the new bucket, which is number `count`. No key is read.
+/// Returns the places of a bucket, divided between it and the new bucket, which is number `count`. The bucket itself
+/// doesn't change, and no key is read.
 pub(crate) fn divided(bucket: &Bucket, count: usize, alloc: Global) -> Result<Halves, NoMemory>
     requires { count < 2 ^ 63 }
     ensures { IfOk result (λ parts. Divides count bucket.now parts.stays parts.goes) }

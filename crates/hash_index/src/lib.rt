@@ -1,16 +1,16 @@
-//! An index of a log: which place of the log has a key's object.
+//! The index of a log: a map from each key to the place of its object in the log.
 //!
-//! It holds no keys: of each place it holds a piece of the hash of its key, and the owner of the log gives the key at
-//! each place (`Resolve`). The places are in buckets of 128 bytes. A bucket has up to eight places as arrays by field:
-//! first the tags, which are 16 bits of the piece, then the offsets with the other nine bits, then the segments. Others
-//! overflow into a list of the bucket's own. A look-up is given the piece of hash, reads one bucket, and reads a key
-//! only if the whole piece agrees.
+//! The index holds no keys. With each place it holds a piece of the hash of the key there, and the owner of the log
+//! gives the key at each place (`Resolve`). The places are in buckets of 128 bytes. A bucket has up to eight places in
+//! slots, with an array for each field: first the tags, which are 16 bits of the piece, then the offsets with the
+//! other nine bits, then the segments. Other places overflow into a list, of which each bucket has its own. A look-up
+//! takes a piece of hash and reads one bucket. It reads a key only where the whole piece agrees.
 //!
-//! The table grows bucket by bucket: a new bucket takes places of one other, by their pieces, so that no key is read.
-//! `grow` adds one at most, and an allocation takes memory for 64.
+//! The table grows bucket by bucket. A new bucket takes its places from one other bucket, by their pieces, so that no
+//! key is read. A call of `grow` adds at most one bucket, and an allocation takes memory for 64 buckets.
 //!
-//! `get`, `set`, `remove` and `move_to` take a key. Whoever looked it up, or moves objects within the log, knows its
-//! hash and its place: `insert`, `relocate`, `take_out` and `holds` take these two, and read no key.
+//! `get`, `set`, `remove` and `move_to` take a key. A caller that looked a key up, or that moves objects within the
+//! log, knows the key's hash and place: `insert`, `relocate`, `take_out` and `holds` take these two, and read no key.
 #![tactic(auto)]
 
 mod address;

@@ -14,7 +14,7 @@ use entry::KeyRef;
 use places::{Held, Place, Resolve, stands};
 use std::marker::Model;
 
-/// Up to eight places in slots, in no memory of their own. A contract sees a list.
+/// Up to eight places, in slots within the bucket. A contract sees a list of the places.
 #[derive(Drop)]
 pub(crate) struct Near {
     slots: Slots,
@@ -31,7 +31,7 @@ impl Model for Near {
 }
 
 impl Near {
-    /// No place.
+    /// Makes eight free slots, without a place.
     pub(crate) fn new() -> Near
         ensures { result ≡ [] }
     {
@@ -40,7 +40,7 @@ impl Near {
         }
     }
 
-    /// The places, unpacked.
+    /// Returns the places, unpacked.
     pub(crate) fn places(&self) -> ArrayVec<Held, SLOTS>
         ensures { result.items ≡ self.now }
     {
@@ -54,7 +54,7 @@ impl Near {
         places
     }
 
-    /// The place of a key of this hash.
+    /// Returns the place of a key with this hash; `None` if the key has none in a slot.
     #[inline(always)]
     pub(crate) fn get<R: Resolve>(&self, hash: u64, resolver: &R, key: &KeyRef<'_>) -> Option<Place>
         ensures { (hash_of : Key → ℕ) → hash ≡ hash_of (shown_key key.now)
@@ -78,7 +78,7 @@ impl Near {
         Some(self.slots.get(slot).place)
     }
 
-    /// The first place that is held with this hash.
+    /// Returns the first place that a slot has under this hash; `None` if no slot has one.
     #[inline(always)]
     pub(crate) fn candidate(&self, hash: u64) -> Option<Place>
         ensures { (hash_of : Key → ℕ) (keys : PlaceValue → Option Key) (k : Key) → hash ≡ hash_of k
@@ -93,7 +93,7 @@ impl Near {
         Some(self.slots.get(slot).place)
     }
 
-    /// Whether it holds this place under this hash.
+    /// Returns true if a slot has this place under this hash.
     #[inline(always)]
     pub(crate) fn holds(&self, held: Held) -> bool
         ensures { result ≡ holds_in self.now held }
@@ -105,13 +105,14 @@ impl Near {
         }
     }
 
-    /// Reads a little of all its memory. The result is meaningless; it only keeps the compiler from removing the load.
+    /// Reads a little at both ends of the slots, so that they are in the cache soon. The result is meaningless; it
+    /// only keeps the compiler from removing the load.
     #[inline(always)]
     pub(crate) fn touch(&self) -> u64 {
         self.slots.touch()
     }
 
-    /// A place that it holds under this hash becomes another place. Whether it was there.
+    /// Moves `held` to the place `to`, under the same hash; returns true if a slot had it.
     #[inline(always)]
     pub(crate) fn relocate(&mut self, held: Held, to: Place) -> bool
         requires { to.at < 8388608 }
@@ -130,7 +131,7 @@ impl Near {
         true
     }
 
-    /// A place that it holds under this hash is taken out. Whether it was there.
+    /// Takes `held` out; returns true if a slot had it.
     #[inline(always)]
     pub(crate) fn take_out(&mut self, held: Held) -> bool
         ensures had { result ≡ holds_in self.old held }
@@ -148,7 +149,8 @@ impl Near {
         true
     }
 
-    /// Takes one more place in, if a slot is free and can hold it. Whether it did.
+    /// Puts a place into a free slot; returns true if it did. Returns false if no slot is free, or if no slot can hold
+    /// the hash or the offset.
     #[inline]
     pub(crate) fn fill(&mut self, held: Held) -> bool
         ensures filled { result ≡ true → IsShuffled (self.old ++ held ∷ []) self.new }

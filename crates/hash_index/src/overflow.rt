@@ -1,4 +1,4 @@
-//! The places of a bucket that found no slot.
+//! The places of a bucket that are in none of its slots.
 
 ghost use Rattle.std.specs.Prelude.{◌≡◌, ℕ, ◌∷◌, ◌++◌, [], Option, OnOk, OnErr};
 ghost use Rattle.entry.specs.declared.key.Key.{Key};
@@ -12,7 +12,7 @@ use places::{Held, Place, Resolve};
 use std::alloc::{AllocError, Global};
 use std::marker::Model;
 
-/// A list of places that takes 16 bytes while it was never needed. A contract sees a list.
+/// A list of places. It takes 16 bytes until the first place is added. A contract sees the list.
 #[derive(Drop)]
 pub(crate) struct Overflow {
     list: Option<Box<PlaceList>>,
@@ -29,14 +29,14 @@ impl Model for Overflow {
 }
 
 impl Overflow {
-    /// No places.
+    /// Makes a list of no places. Takes no memory outside the bucket.
     pub(crate) fn new() -> Overflow
         ensures { result ≡ [] }
     {
         Overflow { list: None }
     }
 
-    /// The places.
+    /// Returns the places.
     #[inline]
     pub(crate) fn as_slice(&self) -> &[Held]
         ensures { result.now ≡ self.now }
@@ -47,7 +47,7 @@ impl Overflow {
         }
     }
 
-    /// The place of a key of this hash.
+    /// Returns the place of a key with this hash; `None` if the key has none in the list.
     #[inline(always)]
     pub(crate) fn get<R: Resolve>(&self, hash: u64, resolver: &R, key: &KeyRef<'_>) -> Option<Place>
         ensures { (hash_of : Key → ℕ) → hash ≡ hash_of (shown_key key.now)
@@ -60,7 +60,7 @@ impl Overflow {
         }
     }
 
-    /// The first place that is held with a hash.
+    /// Returns the first place that the list has under this hash; `None` if it has none.
     #[inline(always)]
     pub(crate) fn candidate(&self, hash: u64) -> Option<Place>
         ensures { (hash_of : Key → ℕ) (keys : PlaceValue → Option Key) (k : Key) → hash ≡ hash_of k
@@ -72,7 +72,7 @@ impl Overflow {
         }
     }
 
-    /// Whether it holds this place under this hash.
+    /// Returns true if the list has this place under this hash.
     #[inline]
     pub(crate) fn holds(&self, held: Held) -> bool
         ensures { result ≡ holds_in self.now held }
@@ -83,7 +83,7 @@ impl Overflow {
         }
     }
 
-    /// A place that it holds under this hash becomes another place. Whether it was there.
+    /// Moves `held` to the place `to`, under the same hash; returns true if the list had it.
     #[inline]
     pub(crate) fn relocate(&mut self, held: Held, to: Place) -> bool
         ensures had { result ≡ holds_in self.old held }
@@ -95,7 +95,7 @@ impl Overflow {
         }
     }
 
-    /// A place that it holds under this hash is taken out. Whether it was there.
+    /// Takes `held` out; returns true if the list had it. The list keeps its memory.
     #[inline]
     pub(crate) fn take_out(&mut self, held: Held) -> bool
         ensures had { result ≡ holds_in self.old held }
@@ -107,7 +107,8 @@ impl Overflow {
         }
     }
 
-    /// One more place, in memory for just as many.
+    /// Adds a place at the end. If there is no room for it, the list takes memory for just one place more. On `Err`
+    /// the places are as before.
     pub(crate) fn push(&mut self, held: Held, alloc: Global) -> Result<(), NoMemory>
         ensures ok { OnOk result (self.new ≡ self.old ++ held ∷ []) }
         ensures err { OnErr result (self.new ≡ self.old) }

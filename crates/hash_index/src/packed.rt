@@ -6,16 +6,18 @@ ghost use Rattle.hash_index.specs.Packing.{IsPackable};
 use places::Held;
 use std::marker::Model;
 
-/// How many offsets there are, and by what the upper bits of an offset's word are multiplied.
+/// Offsets in slots are below this number, 2^23. The word of an offset has nine bits of the piece above the offset's
+/// 23 bits.
 pub(crate) const OFFSETS: u32 = 8_388_608;
 
-/// How many of the pieces have one tag.
+/// This many pieces of a hash have the same tag.
 pub(crate) const LOWS: u64 = 512;
 
-/// How many pieces of a hash there are.
+/// Pieces of a hash are below this number, 2^25.
 const PIECES: u64 = 33_554_432;
 
-/// The tag of a piece of a hash, and its other bits; `None` if it is no such piece.
+/// Returns the tag of a piece of a hash, and its other nine bits. Returns `None` if the number is below 512 or at
+/// least 2^25, since no key has such a piece.
 #[inline(always)]
 pub(crate) fn parts(hash: u64) -> Option<(u16, u32)>
     ensures parts { IfSome result (λ p. p.0 * 512 + p.1 ≡ hash) }
@@ -29,7 +31,8 @@ pub(crate) fn parts(hash: u64) -> Option<(u16, u32)>
     Some(((hash / LOWS) as u16, (hash % LOWS) as u32))
 }
 
-/// A place as a slot packs it, with its tag, the word of its offset, and its segment. A contract sees the place.
+/// A place as a slot packs it: its tag, the word of its offset, and its segment. A contract sees the place and its
+/// hash.
 #[derive(Drop)]
 pub(crate) struct Packed {
     pub(crate) tag: u16,
@@ -50,7 +53,7 @@ impl Model for Packed {
 }
 
 impl Packed {
-    /// The place as a slot packs it; `None` if no slot can hold its hash or its offset.
+    /// Packs a place as a slot has it; returns `None` if no slot can hold its hash or its offset.
     #[inline(always)]
     pub(crate) fn of(held: Held) -> Option<Packed>
         ensures same { IfSome result (λ p. p ≡ held) }

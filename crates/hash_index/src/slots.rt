@@ -14,16 +14,16 @@ use places::{Held, Place, Resolve, stands};
 use std::marker::Model;
 use std::simd::prelude::*;
 
-/// How many slots a bucket has.
+/// A bucket has this many slots.
 pub(crate) const SLOTS: usize = 8;
 
-/// Eight slots, as arrays by field. A contract sees a list of places, of which those with a hash below 512 are free
-/// slots.
+/// Eight slots, with an array for each field. A contract sees a list of eight places. Those with a hash below 512 are
+/// free slots.
 #[derive(Drop)]
 pub(crate) struct Slots {
     /// The upper 16 bits of each piece of a hash; 0 in a free slot.
     tags: [u16; SLOTS],
-    /// The offset of each place, below 2^23, and above it the lower nine bits of the piece.
+    /// The offset of each place in the lower 23 bits, and the lower nine bits of the piece above it.
     ats: [u32; SLOTS],
     /// The segment of each place.
     segments: [u64; SLOTS],
@@ -41,7 +41,7 @@ impl Model for Slots {
     ghost invariant = { λ s. AreWords 65536 s.tags × AreWords 4294967296 s.ats };
 }
 
-/// The lowest bit of a word that is set; 8 if none is.
+/// Returns the number of the lowest bit that is set, counted from 0; 8 if no bit is set.
 #[inline(always)]
 fn lowest(bits: u64) -> usize
     ensures { result ≡ if bits == 0 then 8 else trailing_zeros w64 bits }
@@ -54,7 +54,7 @@ fn lowest(bits: u64) -> usize
 }
 
 impl Slots {
-    /// Nothing. Its clause says which hashes and offsets slots can have.
+    /// Does nothing. Its clause gives the limits of the hashes and offsets in slots.
     #[inline(always)]
     pub(crate) fn show_valid(&self)
         ensures { AllByRecursion IsPackable self.now }
@@ -62,7 +62,7 @@ impl Slots {
         let _tag = self.tags[0];
     }
 
-    /// How many slots it has.
+    /// Returns the number of slots, 8.
     #[inline(always)]
     pub(crate) fn len(&self) -> usize
         ensures len { length self.now ≡ 8 }
@@ -72,7 +72,7 @@ impl Slots {
         SLOTS
     }
 
-    /// Free slots.
+    /// Makes eight free slots.
     pub(crate) fn new() -> Slots
         ensures { result ≡ replicate 8 (unpacked 0 0 0) }
     {
@@ -83,7 +83,7 @@ impl Slots {
         }
     }
 
-    /// What a slot has.
+    /// Returns the place in a slot, with its hash.
     #[inline(always)]
     pub(crate) fn get(&self, slot: usize) -> Held
         requires { slot < 8 }
@@ -100,7 +100,7 @@ impl Slots {
         }
     }
 
-    /// Whether a slot has this place under this hash. It makes no branch.
+    /// Returns true if a slot has this place under this hash. The code has no branch.
     #[inline(always)]
     fn has(&self, slot: usize, sought: &Packed) -> bool
         requires { slot < 8 }
@@ -111,7 +111,7 @@ impl Slots {
             & (self.segments[slot] == sought.segment)
     }
 
-    /// The first slot that has this tag; 8 if none has. It compares all tags at once.
+    /// Returns the first slot that has this tag; 8 if none has it. Compares all tags at once.
     #[inline(always)]
     fn first_tagged(&self, tag: u16) -> usize
         ensures slot { result ≡ position_or_len (has_tag tag) self.now }
@@ -121,15 +121,14 @@ impl Slots {
         lowest(same.to_bitmask())
     }
 
-    /// Whether the first slot or the last one has the last segment. None does: whoever asks wants memory near both read
-    /// early, since the slot that it looks for isn't known yet.
+    /// Touches both cache lines early. Always false: `u64::MAX` is no segment.
     #[inline(always)]
     fn has_last_segment(&self) -> bool {
         (self.segments[0] == u64::MAX) | (self.segments[SLOTS - 1] == u64::MAX)
     }
 
-    /// The first slot that has this place under this hash; 8 if none has. It compares all of each slot and leaves early
-    /// from none, so that no branch has to be guessed.
+    /// Returns the first slot that has this place under this hash; 8 if none has it. Compares each slot whole, without
+    /// an early exit, so that the processor has no branch to predict.
     #[inline(always)]
     pub(crate) fn first_same(&self, sought: &Packed) -> usize
         ensures slot { result ≡ position_or_len (is_same sought.now) self.now }
@@ -146,7 +145,7 @@ impl Slots {
         found
     }
 
-    /// Whether the hash of a slot has these nine bits behind its tag.
+    /// Returns true if the hash of a slot has these lower nine bits.
     #[inline(always)]
     fn is_low(&self, slot: usize, low: u32) -> bool
         requires { slot < 8 }
@@ -155,8 +154,8 @@ impl Slots {
         self.ats[slot] / OFFSETS == low
     }
 
-    /// What `first_same` finds, for whoever changes the slot: mostly one tag tells it, and a store to a slot that isn't
-    /// known yet holds up what comes behind it.
+    /// Returns the same slot as `first_same`, for a caller that changes the slot. Mostly the tag decides, so that the
+    /// slot is known early. Some processors hold later loads back while they don't know the slot of a store.
     #[inline(always)]
     pub(crate) fn first_by_tag(&self, sought: &Packed) -> usize
         ensures slot { result ≡ position_or_len (is_same sought.now) self.now }
@@ -175,7 +174,7 @@ impl Slots {
         self.search_same(sought)
     }
 
-    /// `first_same`, out of line: few tags are those of two slots.
+    /// Calls `first_same`, out of line, since two slots rarely have the same tag.
     #[cold]
     fn search_same(&self, sought: &Packed) -> usize
         ensures slot { result ≡ position_or_len (is_same sought.now) self.now }
@@ -184,7 +183,7 @@ impl Slots {
         self.first_same(sought)
     }
 
-    /// Whether a slot has this hash. It makes no branch.
+    /// Returns true if a slot has this hash, given as its tag and its lower nine bits. The code has no branch.
     #[inline(always)]
     fn is_hashed(&self, slot: usize, tag: u16, low: u32) -> bool
         requires slot { slot < 8 }
@@ -194,7 +193,8 @@ impl Slots {
         (self.tags[slot] == tag) & (self.ats[slot] / OFFSETS == low)
     }
 
-    /// `first_hashed`, by a look at all slots. It is out of line: few tags are those of two slots.
+    /// Returns the same slot as `first_hashed`, by a look at all slots. The function is out of line, since two slots
+    /// rarely have the same tag.
     #[cold]
     fn search_hashed(&self, tag: u16, low: u32) -> usize
         requires { low < 512 }
@@ -212,7 +212,7 @@ impl Slots {
         found
     }
 
-    /// The first slot with this hash, as a tag and the other bits; 8 if none has it.
+    /// Returns the first slot with this hash, given as its tag and its lower nine bits; 8 if none has it.
     #[inline(always)]
     pub(crate) fn first_hashed(&self, tag: u16, low: u32) -> usize
         requires { low < 512 }
@@ -232,8 +232,8 @@ impl Slots {
         self.search_hashed(tag, low)
     }
 
-    /// The first slot with the hash at whose place the key stands; 8 if none has it. It is for the few keys that have
-    /// the hash of another one.
+    /// Returns the first slot with this hash at whose place the key stands; 8 if there is none. Few keys need this
+    /// search: those whose hash is also another key's.
     #[cold]
     pub(crate) fn first_of<R: Resolve>(&self, hash: u64, resolver: &R, key: &KeyRef<'_>) -> usize
         ensures slot { result ≡ position_or_len (is_of (R.keys resolver.now) (shown_key key.now) hash) self.now }
@@ -251,7 +251,7 @@ impl Slots {
         found
     }
 
-    /// The first free slot; 8 if none is free.
+    /// Returns the first free slot; 8 if none is free.
     #[inline(always)]
     pub(crate) fn first_free(&self) -> usize
         ensures slot { result ≡ position_or_len is_free self.now }
@@ -260,7 +260,7 @@ impl Slots {
         self.first_tagged(0)
     }
 
-    /// A slot gets this place.
+    /// Puts a packed place into a slot.
     #[inline(always)]
     pub(crate) fn put(&mut self, slot: usize, packed: &Packed)
         requires { slot < 8 }
@@ -271,7 +271,7 @@ impl Slots {
         self.segments[slot] = packed.segment;
     }
 
-    /// The place of a slot becomes another one, under the same hash.
+    /// Moves the place in a slot to `to`, under the same hash.
     #[inline(always)]
     pub(crate) fn go_to(&mut self, slot: usize, packed: &Packed, to: Place)
         requires slot { slot < 8 }
@@ -283,7 +283,7 @@ impl Slots {
         self.segments[slot] = to.segment;
     }
 
-    /// A slot is free from now on.
+    /// Frees a slot.
     #[inline(always)]
     pub(crate) fn free(&mut self, slot: usize)
         requires { slot < 8 }
@@ -294,7 +294,7 @@ impl Slots {
         self.segments[slot] = 0;
     }
 
-    /// Reads a slot near the begin and one near the end, so that all of it is in the cache soon. The result is
+    /// Reads the first tag and the last segment, so that both ends of the slots are in the cache soon. The result is
     /// meaningless.
     #[inline(always)]
     pub(crate) fn touch(&self) -> u64 {

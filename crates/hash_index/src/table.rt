@@ -1,4 +1,4 @@
-//! The table: buckets of places, by their hash.
+//! The table of an index: places in buckets, by their hashes.
 
 ghost use Rattle.std.specs.Prelude.{◌≡◌, ◌+◌, ◌<◌, [], OnOk, OnErr};
 ghost use Rattle.place_index.specs.Steps.{IsShuffled};
@@ -13,16 +13,18 @@ use places::{Held, Place, Resolve};
 use std::alloc::{AllocError, Global};
 use std::marker::Model;
 
-/// How many keys there may be for each bucket before there is one bucket more.
+/// A table that isn't small gets one more bucket once it has this many keys for each bucket.
 const KEYS_PER_BUCKET: usize = 6;
 
-/// How many there may be in a small table: memory costs little there, and fewer places overflow.
+/// A small table gets one more bucket once it has this many keys for each bucket. Memory costs little there, and fewer
+/// places overflow.
 const KEYS_IF_SMALL: usize = 4;
 
-/// A table of fewer buckets is small.
+/// A table of fewer buckets than this is small.
 const SMALL: usize = 1024;
 
-/// Places as buckets: a place is in the bucket of its hash. A contract sees the buckets' places one after another.
+/// A table of places in buckets: each place is in the bucket of its hash. A contract sees the places of all buckets as
+/// one list.
 #[derive(Drop)]
 pub struct BucketTable {
     alloc: Global,
@@ -42,7 +44,7 @@ impl Model for BucketTable {
     ghost invariant = { λ t. AreInParts (bucket_of (length t.buckets)) 0 t.buckets };
 }
 
-/// How many buckets so many keys want.
+/// Returns the number of buckets that a table should have for so many keys.
 #[inline]
 fn buckets_for(keys: usize) -> usize {
     let if_small = keys / KEYS_IF_SMALL + 1;
@@ -53,7 +55,7 @@ fn buckets_for(keys: usize) -> usize {
 }
 
 impl BucketTable {
-    /// One bucket more, in a table of no places. On `Err` it was refused memory.
+    /// Adds a bucket to a table of no places. On `Err` nothing changed.
     fn add_empty(&mut self) -> Result<(), NoMemory>
         requires { self.old ≡ [] }
         ensures { self.new ≡ [] }
@@ -61,7 +63,7 @@ impl BucketTable {
         self.buckets.push(Bucket::new(), self.alloc)
     }
 
-    /// One bucket more, with its places of one other. On `Err` nothing changed.
+    /// Adds a bucket, which takes its places from one other bucket if there is one. On `Err` nothing changed.
     fn add_bucket(&mut self) -> Result<(), NoMemory>
         ensures ok { OnOk result (IsShuffled self.old self.new) }
         ensures err { OnErr result (self.new ≡ self.old) }
@@ -154,7 +156,7 @@ impl Table for BucketTable {
         self.buckets.take_out(at, held)
     }
 
-    /// One more place in its bucket. A table of no buckets has no memory for any.
+    /// Adds a place to its bucket. A table of no buckets refuses each place.
     fn push(&mut self, held: Held) -> Result<(), NoMemory> {
         if self.buckets.len() == 0 {
             return Err(AllocError);
@@ -163,7 +165,7 @@ impl Table for BucketTable {
         self.buckets.add(at, held, self.alloc)
     }
 
-    /// As many buckets as so many keys want.
+    /// Adds buckets until there are enough for so many keys, or until one is refused.
     fn presize(&mut self, keys: usize) {
         for _ in self.buckets.len()..buckets_for(keys) {
             if self.add_empty().is_err() {
@@ -172,7 +174,7 @@ impl Table for BucketTable {
         }
     }
 
-    /// One bucket more, if so many keys want one.
+    /// Adds one bucket if there are too few for so many keys. If the bucket is refused, the table stays as it is.
     fn grow(&mut self, keys: usize) {
         if self.buckets.len() < buckets_for(keys) {
             let _ = self.add_bucket();
