@@ -1,4 +1,4 @@
--- Ids that rise, with some left out and some put in, by membership.
+-- Which ids are in a list of rising ids once some are left out and some are put in.
 use Rattle.std.proofs.Common.{◌≡◌, ℕ, ◌⊎◌, inl, inr, Bool, true, false, cond, List, [], ◌∷◌, refl, sym, subst}
 use Rattle.std.specs.Prelude.{nat_lt}
 use Rattle.entry.specs.Bag.{IsAmong}

@@ -1,4 +1,4 @@
--- Compaction of one image keeps what is tracked, and an open pass.
+-- Compaction of one image keeps what is tracked, and what is true of an open pass.
 use Rattle.std.proofs.Common.{◌≡◌, ℕ, ◌⊎◌, inl, inr, List, refl, sym, ap, subst, ◌∙◌}
 use Rattle.std.specs.Prelude.{Option, Some, None}
 use Rattle.std.proofs.lemmas.Bool.{cases_eq}

@@ -1,4 +1,4 @@
--- What is tracked when texts change, and when segments that have nothing of any key come into the log set.
+-- What is tracked stays so when texts change, and when segments without objects and tombstones join the log set.
 use Rattle.std.proofs.Common.{◌≡◌, ℕ, ◌<◌, ◌≤◌, ◌⊎◌, inl, inr, List, refl, sym, subst, arith}
 use Rattle.entry.specs.declared.key.Key.{Key}
 use Rattle.entry.specs.declared.entry.Object.{Object as ObjectValue}

@@ -1,4 +1,4 @@
--- Without a pass nothing is asked of one.
+-- If no pass is open, all that is asked of a pass is true.
 use Rattle.std.proofs.Common.{ℕ, List}
 use Rattle.std.specs.Prelude.{Option}
 use Rattle.log_model.specs.Data.{Start}

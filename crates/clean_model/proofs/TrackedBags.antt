@@ -1,4 +1,5 @@
--- What is tracked is clean and means the map: images alone, and whatever holds them and no more than the log.
+-- Images that are tracked are clean and mean the map. The same is true of any bag that has all objects and
+-- tombstones of the images, and no more than those of the log.
 use Rattle.std.proofs.Common.{◌≡◌, ℕ, ◌⊎◌, inl, inr, List, refl, sym, ap, subst, arith}
 use Rattle.std.specs.Prelude.{Option, Some, None}
 use Rattle.entry.specs.declared.key.Key.{Key}
@@ -20,7 +21,7 @@ use Rattle.clean_model.proofs.Lists.{among_at}
 pub in_segment : (log : LogSet) (s : ℕ) (e : Entry) → ImageHas log.ids log.image s e → SegmentHas log s e
 in_segment log s e m = record { counts = m.counts; among = inl m.among }
 
--- of one key, of one entry
+-- `IsOfKey` stays true of an equal entry, and of an equal key
 pub of_same : (k : Key) (e f : Entry) → e ≡ f → IsOfKey k f → IsOfKey k e
 of_same k e f same at = subst (λ (g : Entry). IsOfKey k g) (sym same) at
 

@@ -9,16 +9,16 @@ use Rattle.clean_model.specs.Memory.{Pass}
 
 -- ---- a pass
 
--- what a survivor begins with
+-- what a survivor begins with: its header
 abbrev pub survivor_entries : ℕ → ℕ → List Entry
 survivor_entries master s = entry.Header (record { master = master; segment = s; role = role.Survivor }) ∷ []
 
--- the entries begin as a survivor's do
+-- the entries begin with a survivor's header of this master and segment
 abbrev pub BeginAsSurvivor : ℕ → ℕ → List Entry → Type 0
 BeginAsSurvivor master s es = (more : List Entry) × (es ≡ survivor_entries master s ++ more)
 
--- A pass's segments: its victims are older segments of the digest in force; its survivors, if any, are of victims, and
--- in no digest yet.
+-- Which segments a pass has. Its victims are segments that the digest in force lists before the head. It has survivors
+-- only if it has victims. No survivor is in the digest in force, and none is the head that a roll is opening.
 pub record IsPassOf (in_force : Start) (new : Option Start) (pass : Pass) : Type 0 where
   pub victims : (s : ℕ) → IsAmong s pass.victims → IsAmong s in_force.others
   pub some : (s : ℕ) → IsAmong s pass.survivors → pass.victims ≡ [] → ⊥
@@ -27,11 +27,11 @@ pub record IsPassOf (in_force : Start) (new : Option Start) (pass : Pass) : Type
 
 -- ---- its commit
 
--- the segment is of the digest in force, and no victim
+-- the digest in force has the segment, and the segment is no victim
 abbrev pub Stays : Start → Pass → ℕ → Type 0
 Stays in_force pass s = IsAmong s (ids_of in_force) × (IsAmong s pass.victims → ⊥)
 
--- A head's digest is that in force less the victims, with the survivors.
+-- A new head commits the pass: its digest has the segments in force, the victims left out and the survivors put in.
 pub record IsCommit (in_force : Start) (pass : Pass) (n : Start) : Type 0 where
   pub from : (s : ℕ) → IsAmong s n.others → Stays in_force pass s ⊎ IsAmong s pass.survivors
   pub stays : (s : ℕ) → IsAmong s (ids_of in_force) → (IsAmong s pass.victims → ⊥) → IsAmong s n.others

@@ -7,6 +7,6 @@ use Rattle.clean_model.specs.Memory.{LogSet, SegmentHas}
 
 -- ---- what holds while it loads
 
--- what the log set has of a key, if anything, is of one that these contents have
+-- The log set has no entry of a key that these contents lack.
 abbrev pub HasOnly : LogSet → Contents → Type 0
 HasOnly log contents = (k : Key) (s : ℕ) (e : Entry) → contents k ≡ None → SegmentHas log s e → IsOfKey k e → ⊥

@@ -1,4 +1,4 @@
--- What is appended to the head leaves the backups as they are.
+-- The backups hold the log's texts once a unit is appended to the head.
 use Rattle.std.proofs.Common.{◌≡◌, ℕ, ◌≤◌, ◌⊎◌, inl, inr, true, List, [], ◌∷◌, ◌++◌, length, Some, refl, sym, ap, subst}
 use Rattle.std.proofs.Common.{◌∙◌, arith, append_assoc}
 use Rattle.std.specs.Prelude.{None, IsSome}

@@ -1,4 +1,4 @@
--- Each choice of what is left stands for a prefix of the history.
+-- Each choice from what is left means the map after a prefix of the history.
 use Rattle.std.proofs.Common.{◌≡◌, ℕ, ◌<◌, ◌≤◌, ◌⊎◌, inl, inr, Bool, true, false, cond, List, [], ◌∷◌, ◌++◌, length}
 use Rattle.std.proofs.Common.{map, Some, refl, sym, ap, subst, ◌∙◌, arith}
 use Rattle.std.specs.Prelude.{Option, None, IsSome}
@@ -37,7 +37,7 @@ pub held_by : (p : Shown) (keep : ℕ → Bool) (h : Holding) → IsHeld (surviv
     → (keep h.backup ≡ true) × (p.holds h.backup h.segment ≡ Some h.replica)
 held_by p keep h held = kept_one (keep h.backup) (p.holds h.backup h.segment) h.replica held
 
--- What a choice stands for.
+-- What a choice means.
 pub record Stands (d : FailData) (c : Choice) : Type 0 where
   pub count : ℕ
   pub durable : durable_of d ≤ count

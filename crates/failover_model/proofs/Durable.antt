@@ -1,4 +1,4 @@
--- The durable count is that of the takes that answered Ok.
+-- The durable count that a master computes is the one that the takes that answered Ok give.
 use Rattle.std.proofs.Common.{◌≡◌, ℕ, suc, ◌<◌, ◌≤◌, ◌⊎◌, inl, inr, Bool, true, false, cond, List, [], ◌∷◌, length, map}
 use Rattle.std.proofs.Common.{Some, refl, ap, subst, ◌∙◌, arith}
 use Rattle.std.specs.Prelude.{Option, None, slice_get, nat_lt}

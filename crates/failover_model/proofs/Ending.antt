@@ -1,4 +1,4 @@
--- A roll ends, or the fifth part of a failover: the new head is in force.
+-- A new head comes into force, at the end of a roll or in a failover.
 use Rattle.std.proofs.Common.{◌≡◌, ℕ, ◌<◌, ◌≤◌, ◌⊎◌, inl, inr, false, List, ◌++◌, length, Some, refl, sym, ap, subst}
 use Rattle.std.proofs.Common.{◌∙◌, arith}
 use Rattle.std.specs.Prelude.{None}

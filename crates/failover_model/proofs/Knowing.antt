@@ -1,4 +1,5 @@
--- A master knows what is held on backups that haven't failed: so its ops fit, and it knows it again after them.
+-- A master that knows what the backups that haven't failed hold asks only for ops that fit, and knows what they hold
+-- once an op is taken.
 use Rattle.std.proofs.Common.{◌≡◌, ℕ, inl, inr, Bool, true, false, cond, List, ◌∷◌, ◌++◌, length, Some, max, refl, sym}
 use Rattle.std.proofs.Common.{ap, subst, ◌∙◌, arith}
 use Rattle.std.specs.Prelude.{Option, None, IsSome, ◌==◌, ◌&&◌}
@@ -99,7 +100,7 @@ module _ (d : FailData) (p : Shown) (known : IsKnown d p) (b s : ℕ) (x : Optio
   head_same : (s ≡ id → ⊥) → (c : ℕ) → q.holds c id ≡ p.holds c id
   head_same other c = unchanged p.holds b s x c id (λ both. other both.1)
 
--- who hadn't taken it after hadn't before
+-- a backup that hasn't taken a segment after an op hadn't taken it before
 fewer_taken : (took : ℕ → List ℕ) (s b t c : ℕ) → has (with_taken took s b t) c ≡ false → has (took t) c ≡ false
 fewer_taken took s b t c away = elim (true_or_false (has (took t) c)) as (λ _. has (took t) c ≡ false) [
   | inl had ↦ absurd (both_ways (has (with_taken took s b t) c) (taken_still took s b t c had) away)

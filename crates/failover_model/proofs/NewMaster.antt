@@ -1,4 +1,4 @@
--- A new master of which nothing is held is kept.
+-- The log of a new master is kept if the backups hold nothing of the master.
 use Rattle.std.proofs.Common.{◌≡◌, ℕ, inl, inr, true, false, List, [], ◌++◌, take, Some, refl, sym, ap, subst, ◌∙◌}
 use Rattle.std.proofs.Common.{arith}
 use Rattle.std.specs.Prelude.{None, ◌==◌, if◌then◌else◌}

@@ -1,4 +1,4 @@
--- The heads that went before, through each event.
+-- What stays true of the earlier heads through each event.
 use Rattle.std.proofs.Common.{◌≡◌, ℕ, suc, ◌<◌, ◌≤◌, ◌⊎◌, inl, inr, Bool, true, false, cond, List, [], ◌∷◌, ◌++◌}
 use Rattle.std.proofs.Common.{length, Some, refl, sym, ap, subst, ◌∙◌, arith}
 use Rattle.std.specs.Prelude.{None, slice_get, nat_lt}
@@ -40,7 +40,7 @@ heads_units past h =
     flat_map-append (λ (x : TakenHead). x.head.units) past (h ∷ [])
     ∙ ap (λ (us : List LogUnit). units_in past ++ us) (append-nil h.head.units)
 
--- the history has the same units, whoever took them
+-- the units of the history are the same, whichever backups took them
 units_again : (past : List TakenHead) (g h : TakenHead) (st : State) (cs : List Command) → g.head.units ≡ h.head.units
     → AreNumbered st 0 cs (units_in (past ++ g ∷ [])) → AreNumbered st 0 cs (units_in (past ++ h ∷ []))
 units_again past g h st cs same are = subst (AreNumbered st 0 cs)

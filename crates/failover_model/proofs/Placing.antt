@@ -1,4 +1,4 @@
--- A replica is put at a place: what holds of the others stays.
+-- A replica is put at a place: what is true of the other replicas stays true.
 use Rattle.std.proofs.Common.{◌≡◌, ℕ, ◌<◌, ◌⊎◌, inl, inr, true, false, length, Some, refl, sym, ap, subst, ◌∙◌, arith}
 use Rattle.std.specs.Prelude.{Option, IsSome}
 use Rattle.std.proofs.lemmas.Bool.{cases_eq}

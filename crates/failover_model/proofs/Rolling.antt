@@ -1,4 +1,4 @@
--- A roll begins, or the third part of a failover.
+-- A roll, or a failover, begins to open a new head.
 use Rattle.std.proofs.Common.{◌≡◌, ℕ, ◌<◌, ◌≤◌, ◌⊎◌, inl, inr, true, false, List, [], length, map, Some, refl, sym, ap}
 use Rattle.std.proofs.Common.{subst, ◌∙◌, arith}
 use Rattle.std.specs.Prelude.{None, IsSome, ◌==◌}

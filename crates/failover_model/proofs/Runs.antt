@@ -1,4 +1,4 @@
--- At each stop of each run the log is kept, and the master knows what it may know.
+-- At each stop of each run the log is kept, and the master knows what the backups that haven't failed hold.
 use Rattle.std.proofs.Common.{◌≡◌, ℕ, ◌<◌, inl, inr, List, ◌∷◌, length, refl, sym, ap}
 use Rattle.std.proofs.Common.{subst, ◌∙◌}
 use Rattle.failover_model.specs.Shown.{Shown, Act, Op, On, Raise}

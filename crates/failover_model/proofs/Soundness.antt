@@ -1,4 +1,4 @@
--- Backups that hold a log hold a sound picture of it.
+-- What the backups show of a kept log is sound.
 use Rattle.std.proofs.Common.{take, sym, ◌∙◌}
 use Rattle.versioned_map.specs.History.{commands_of}
 use Rattle.versioned_map.proofs.Versions.{safe_after}

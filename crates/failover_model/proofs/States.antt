@@ -1,4 +1,4 @@
--- Which states a log stands for, and which keys its fronts have.
+-- Which states a log represents, and which keys the head's fronts have.
 use Rattle.std.proofs.Common.{◌≡◌, ℕ, zero, suc, ◌≤◌, inl, inr, List, [], ◌∷◌, ◌++◌, length, take, refl, sym, ap, ◌∙◌}
 use Rattle.std.proofs.Common.{subst, arith, drop, append_assoc}
 use Rattle.std.proofs.lemmas.List.{length-map, take_all, take-append-drop}

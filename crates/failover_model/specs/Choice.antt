@@ -1,4 +1,4 @@
--- The newest log of what is shown, and which losses leave it to a recovery.
+-- How a recovery may choose the newest log from what is shown, and which losses of backups leave it a choice.
 use Rattle.std.specs.Prelude.{◌≡◌, ℕ, ◌<◌, ◌≤◌, ◌⊎◌, List, [], ◌∷◌, ◌++◌, map, Bool, true, Some}
 use Rattle.std.specs.List.{flat_map, AllByRecursion}
 use Rattle.entry.specs.declared.entry.Entry.{Entry}
@@ -9,6 +9,7 @@ use Rattle.failover_model.specs.Shown.{Shown, HoldsHead}
 
 -- ---- a choice
 
+-- a replica, and the backup and the segment of which it is
 pub record Holding : Type 0 where
   pub backup : ℕ
   pub segment : ℕ
@@ -23,12 +24,12 @@ pub record Choice : Type 0 where
   pub head : Holding
   pub others : List Holding
 
--- all objects and tombstones in it
+-- all objects and tombstones of the choice
 abbrev pub bag_of : Choice → List Entry
 bag_of c = flat_map (λ (h : Holding). h.replica.text.entries) c.others ++ c.head.replica.text.entries
 
--- A choice of the newest log: the head is open, the greatest that isn't below the least; each other replica may be
--- used.
+-- A choice of the newest log. Its head is the newest one that is held and isn't below the registry's least head, and
+-- the head's replica is open. A recovery may use each other replica.
 pub record IsChoice (s : Shown) (c : Choice) : Type 0 where
   pub held : IsHeld s c.head
   pub is_open : c.head.replica.is_open ≡ true
@@ -47,7 +48,7 @@ pub record IsChoice (s : Shown) (c : Choice) : Type 0 where
 abbrev pub IsHeadLeft : Shown → (ℕ → Bool) → ℕ → Type 0
 IsHeadLeft s keep t = (b : ℕ) × (keep b ≡ true) × HoldsHead s b t
 
--- the newest opened head, if it may be used
+-- the head `t` is the newest opened head, and a recovery may use it
 pub record IsNewestOpened (IsOpenedHead : ℕ → Type 0) (least t : ℕ) : Type 0 where
   pub opened : IsOpenedHead t
   pub usable : least ≤ t
@@ -57,14 +58,15 @@ pub record IsNewestOpened (IsOpenedHead : ℕ → Type 0) (least t : ℕ) : Type
 abbrev pub IsHomeLeft : (ℕ → ℕ → Type 0) → (ℕ → Bool) → ℕ → Type 0
 IsHomeLeft IsHome keep t = (b : ℕ) × IsHome t b × (keep b ≡ true)
 
--- Of the newest opened head one of its homes is left, or a replica of a later head; of any head, if none was opened.
+-- The head survives if a home of the newest opened head is left, or a replica of a later head. If no opened head may
+-- be used, a replica of any head is enough.
 abbrev pub HeadSurvives : (ℕ → ℕ → Type 0) → (ℕ → Type 0) → Shown → (ℕ → Bool) → Type 0
 HeadSurvives IsHome IsOpenedHead s keep =
     ((t : ℕ) × IsNewestOpened IsOpenedHead s.least t
     × (IsHomeLeft IsHome keep t ⊎ ((u : ℕ) × (t < u) × IsHeadLeft s keep u)))
     ⊎ (((t : ℕ) → IsOpenedHead t → s.least ≤ t → ⊥) × ((u : ℕ) × IsHeadLeft s keep u))
 
--- a digest of the newest head that is left
+-- the head `t` is the newest that is left, and a replica of it that is left has this opening
 pub record IsNewestLeft (s : Shown) (keep : ℕ → Bool) (t : ℕ) (opening : Opening) : Type 0 where
   pub b : ℕ
   pub r : Replica
@@ -74,7 +76,7 @@ pub record IsNewestLeft (s : Shown) (keep : ℕ → Bool) (t : ℕ) (opening : O
   pub usable : s.least ≤ t
   pub newest : (u : ℕ) → IsHeadLeft s keep u → u ≤ t
 
--- Of each other id of the newest digest that is left one of its homes is left.
+-- For each other id of the digest of the newest head that is left, a home of that segment is left.
 abbrev pub SegmentsSurvive : (ℕ → ℕ → Type 0) → Shown → (ℕ → Bool) → Type 0
 SegmentsSurvive IsHome s keep = (t : ℕ) (opening : Opening) → IsNewestLeft s keep t opening →
     (id : ℕ) → IsAmong id (listed_ids opening.digest) → (id ≡ t → ⊥) → IsHomeLeft IsHome keep id

@@ -1,4 +1,4 @@
--- What a master knows of its log, its fleet apart, if backups may fail.
+-- What a master whose backups may fail knows of its log, without what the backups hold.
 use Rattle.std.specs.Prelude.{◌≡◌, ℕ, ◌⊎◌, List, [], ◌++◌, length, map, take, Bool, true, false, Option, Some, None}
 use Rattle.std.specs.Prelude.{if◌then◌else◌}
 use Rattle.entry.specs.declared.tablet.Tablet.{Tablet}
@@ -14,26 +14,27 @@ use Rattle.failover_model.specs.Text.{Text, Replica}
 
 -- ---- heads
 
--- what a head begins with, as its replicas say it
+-- the opening of a head, as its replicas have it
 abbrev pub opening_for : Start → Opening
 opening_for n = record { digest = digest_for n; safe = n.safe }
 
--- The segment that is appended to. Number 0 stands for none: nothing is held of it, and its digest has no other ids.
+-- The segment that is appended to. Id 0 means that there is no head yet: no backup holds it, and its digest lists no
+-- other ids.
 pub record Head : Type 0 where
   pub start : Start
-  -- what it was given before the history began
+  -- the entries that were loaded before the history began
   pub loaded : List Entry
   pub units : List LogUnit
 
--- the head's objects and tombstones, up to this many units
+-- the head's loaded entries and those of its first `count` units
 abbrev pub front_entries : Head → ℕ → List Entry
 front_entries h count = h.loaded ++ entries_of (take count h.units)
 
--- the head's text up to this many units
+-- the head's text with its first `count` units
 abbrev pub front : Head → ℕ → Text
 front h count = record { opening = Some (opening_for h.start); entries = front_entries h count }
 
--- a head with nothing but its opening
+-- the text of a head with nothing but its opening
 abbrev pub bare : Start → Text
 bare n = record { opening = Some (opening_for n); entries = [] }
 
@@ -42,7 +43,7 @@ bare_replica n = record { text = bare n; is_open = true }
 
 -- ---- data
 
--- What a log is set up with.
+-- The configuration of a log.
 pub record FailConfig : Type 0 where
   pub master : ℕ
   -- how many backups there are, numbered from 0
@@ -79,7 +80,7 @@ pub record FailData : Type 0 where
   pub head : Head
   -- how many units of the head each of its backups took, by takes that answered Ok
   pub counts : ℕ → ℕ
-  -- the backups on which the head was closed, in a roll
+  -- the backups on which a roll or a failover closed the head in force
   pub shut : List ℕ
   pub mode : Mode
   -- the heads that a roll was opening as a failover began
@@ -99,7 +100,7 @@ pub record FailData : Type 0 where
 abbrev pub HasTaken : FailData → ℕ → ℕ → Type 0
 HasTaken d s b = has (d.took s) b ≡ true
 
--- so it did, and hasn't failed
+-- the backup is a home of the segment: it took an Open or a Seal of the segment, and hasn't failed
 abbrev pub IsHome : FailData → ℕ → ℕ → Type 0
 IsHome d s b = HasTaken d s b × (has d.failed b ≡ false)
 
@@ -107,7 +108,7 @@ IsHome d s b = HasTaken d s b × (has d.failed b ≡ false)
 abbrev pub homes : FailData → ℕ → List ℕ
 homes d s = without d.failed (d.took s)
 
--- the head that a roll is opening
+-- the head that a roll or a failover is opening, until it is in force
 abbrev pub new_of : Mode → Option Start
 new_of Calm = None
 new_of (Rolls n) = Some n
@@ -116,7 +117,7 @@ new_of (Opens n) = Some n
 new_of (Closes n) = Some n
 new_of Repairs = None
 
--- a failover is open
+-- true if a failover is open
 abbrev pub is_failing : Mode → Bool
 is_failing Calm = false
 is_failing (Rolls n) = false
@@ -125,7 +126,7 @@ is_failing (Opens n) = true
 is_failing (Closes n) = true
 is_failing Repairs = true
 
--- the new head of a failover
+-- the new head of a failover, until it is in force
 abbrev pub failover_head_of : Mode → Option Start
 failover_head_of Calm = None
 failover_head_of (Rolls n) = None
@@ -134,7 +135,7 @@ failover_head_of (Opens n) = Some n
 failover_head_of (Closes n) = Some n
 failover_head_of Repairs = None
 
--- the head in force was opened after the last backup that failed
+-- true if the head in force was opened after the last failure of a backup
 abbrev pub is_settled : Mode → Bool
 is_settled Calm = true
 is_settled (Rolls n) = true
@@ -143,7 +144,7 @@ is_settled (Opens n) = false
 is_settled (Closes n) = false
 is_settled Repairs = true
 
--- a head that a roll is opening, or was opening as a failover began
+-- a new head: one that a roll or a failover is opening, or one that a roll was opening as a failover began
 abbrev pub IsNew : FailData → Start → Type 0
 IsNew d n = (new_of d.mode ≡ Some n) ⊎ IsAmong n d.abandoned
 
@@ -157,18 +158,19 @@ state_after d count = after d.opening (take count (commands_of d.history))
 abbrev pub state_of : FailData → State
 state_of d = after d.opening (commands_of d.history)
 
--- how many records come before the one whose unit is at this place of the head
+-- how many records come before the record of the unit at this place of the head; all records, if no unit is there
 abbrev pub before : FailData → ℕ → ℕ
 before d place = records_before d.head.units (length d.history) place
 
--- how many of its units all backups of the head took
+-- how many of the head's units were taken by every backup that took the head's Open
 abbrev pub everywhere : FailData → ℕ
 everywhere d = fewest (length d.head.units) (map d.counts (d.took d.head.start.id))
 
--- the records before the first unit that a backup of the head didn't take
+-- how many records come before the first unit that some backup of the head didn't take
 abbrev pub taken_records : FailData → ℕ
 taken_records d = before d (everywhere d)
 
--- How many of the first records are durable. While a failover is open that stays as it was.
+-- The durable count: how many of the first records are durable. While a failover is open, the count stays what it was
+-- as the failover began.
 abbrev pub durable_of : FailData → ℕ
 durable_of d = if is_failing d.mode then d.frozen else taken_records d

@@ -1,4 +1,4 @@
--- What is durable, in terms of takes that answered Ok, over the units of all heads that there were.
+-- Which records are durable, by the takes that answered Ok, over the units of all heads of a history.
 use Rattle.std.specs.Prelude.{◌≡◌, ℕ, ◌<◌, ◌≤◌, ◌⊎◌, List, [], ◌∷◌, ◌++◌, length, Some, slice_get, nat_lt}
 use Rattle.std.specs.List.{flat_map}
 use Rattle.entry.specs.Bag.{IsAmong}
@@ -21,7 +21,7 @@ pub record TakenHead : Type 0 where
 abbrev pub head_now : FailData → TakenHead
 head_now d = record { head = d.head; took = d.took d.head.start.id; counts = d.counts }
 
--- the heads that went before, and the one in force
+-- the earlier heads, and then the head in force
 abbrev pub heads_of : List TakenHead → FailData → List TakenHead
 heads_of past d = past ++ head_now d ∷ []
 
@@ -33,20 +33,21 @@ units_in hs = flat_map (λ (h : TakenHead). h.head.units) hs
 abbrev pub takers : TakenHead → ℕ → ℕ
 takers h place = how_many (λ (b : ℕ). nat_lt place (h.counts b)) h.took
 
--- as many backups as replicas took each unit of the first records
+-- as many backups as a segment has replicas took each unit of the first `count` records
 abbrev pub AreTaken : FailData → List TakenHead → ℕ → Type 0
 AreTaken d past count = (h : TakenHead) (place : ℕ) (u : LogUnit) → IsAmong h (heads_of past d)
     → slice_get h.head.units place ≡ Some u → u.number < count → d.config.replicas ≤ takers h place
 
--- The durable count: the most of the first records whose units were each taken whole by as many backups as replicas.
+-- The durable count is the greatest count of first records such that as many backups as a segment has replicas took
+-- each of their units whole.
 pub record IsDurable (d : FailData) (past : List TakenHead) (count : ℕ) : Type 0 where
   pub units : AreNumbered d.opening 0 (commands_of d.history) (units_in (heads_of past d))
   pub within : count ≤ length d.history
   pub taken : AreTaken d past count
   pub greatest : (more : ℕ) → more ≤ length d.history → AreTaken d past more → more ≤ count
 
--- The heads that went before have the earlier units, each taken by as many backups as replicas. Before a new head is in
--- force the old one is so too.
+-- The earlier heads and the head in force have the units of the history, in order. As many backups as a segment has
+-- replicas took each unit of an earlier head, and also each unit of the head in force once a new head is opened.
 pub record IsPast (d : FailData) (past : List TakenHead) : Type 0 where
   pub units : AreNumbered d.opening 0 (commands_of d.history) (units_in (heads_of past d))
   pub whole : (h : TakenHead) (place : ℕ) (u : LogUnit) → IsAmong h past → slice_get h.head.units place ≡ Some u
@@ -58,10 +59,10 @@ pub record IsPast (d : FailData) (past : List TakenHead) : Type 0 where
 
 -- ---- laws
 
--- A new master has no heads before.
+-- A new master has no earlier heads.
 abbrev pub FreshIsPast : Type 0
 FreshIsPast = (c : FailConfig) → IsPast (fresh c) []
 
--- One that took over a recovered map has none before either.
+-- A master that took over a recovered map has no earlier heads either.
 abbrev pub AdoptedIsPast : Type 0
 AdoptedIsPast = (d : FailData) (p : Shown) (st : State) → IsLoaded d p st → IsPast (adopted d st) []

@@ -1,4 +1,4 @@
--- What replicas of a segment may hold, between its image and its text: why a repair may seal an image.
+-- Why a failover may seal a segment's image: a replica may have anything between the segment's image and its text.
 use Rattle.std.specs.Prelude.{ℕ, ◌≤◌, ◌⊎◌, List}
 use Rattle.entry.specs.declared.key.Key.{Key}
 use Rattle.entry.specs.declared.entry.Entry.{Entry}
@@ -10,7 +10,7 @@ use Rattle.clean_model.specs.Memory.{Place, Index, LogSet, Pass}
 use Rattle.clean_model.specs.Tracked.{IsTracked, IsPassing, IsAround}
 use Rattle.failover_model.specs.Log.{Texts, IsVariant, IsBase}
 
--- Each variant of these segments has what the image has of keys, and no more than the text.
+-- Each variant of these segments has all objects and tombstones of the image, and no others than those of the text.
 pub record AreBetween (log : LogSet) (texts : Texts) (ids : List ℕ) : Type 0 where
   pub counts : (s : ℕ) → IsAmong s ids → IsAmong s log.ids
   pub image : (s : ℕ) (es : List Entry) (k : Key) (e : Entry) → IsAmong s ids → IsVariant texts s es → IsOfKey k e
@@ -18,7 +18,8 @@ pub record AreBetween (log : LogSet) (texts : Texts) (ids : List ℕ) : Type 0 w
   pub text : (s : ℕ) (es : List Entry) (k : Key) (e : Entry) → IsAmong s ids → IsVariant texts s es → IsOfKey k e
       → IsAmong e es → IsAmong e (log.text s)
 
--- These are all segments of the log set, but for survivors and for a head without units.
+-- These are all segments of the log set, but for survivors of the open pass, and for segments whose images have no
+-- objects and tombstones. All victims are among them.
 pub record AreAll (log : LogSet) (pass : Pass) (ids : List ℕ) : Type 0 where
   pub rest : (s : ℕ) → IsAmong s log.ids → IsAmong s ids ⊎ (IsAmong s pass.survivors
       ⊎ ((k : Key) (e : Entry) → IsOfKey k e → IsAmong e (log.image s) → ⊥))
@@ -26,8 +27,8 @@ pub record AreAll (log : LogSet) (pass : Pass) (ids : List ℕ) : Type 0 where
 
 -- ---- laws
 
--- While the master tracks its images, whatever lies between image and text of each segment stands for the present
--- state, inside an open pass too.
+-- While memory is tracked, variants of all segments that lie between image and text represent the present state, while
+-- a pass is open too.
 abbrev pub BetweenStands : Type 0
 BetweenStands = (log : LogSet) (pass : Pass) (index : Index) (rest : List Place) (st : State) (next recorded : ℕ)
     (texts : Texts) (ids : List ℕ) (base : List Entry) → IsTracked log pass index st.contents

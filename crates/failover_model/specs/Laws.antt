@@ -1,4 +1,4 @@
--- What holds through every event.
+-- What stays true through every event.
 use Rattle.std.specs.Prelude.{◌≡◌, ℕ, ◌<◌, List, Some, IsSome, slice_get}
 use Rattle.entry.specs.declared.entry.Entry.{Entry}
 use Rattle.entry.specs.Meaning.{among}
@@ -19,16 +19,16 @@ use Rattle.failover_model.specs.Steps.{texts_resealed, Seals, texts_sealed, Free
 
 -- ---- what is kept
 
--- Backups that hold a log hold a sound picture of it, in every part of a roll and of a failover.
+-- What the backups show of a kept log is sound, at every point of a roll and of a failover.
 abbrev pub KeptIsSound : Type 0
 KeptIsSound = (d : FailData) (p : Shown) → IsKept d p → IsSound d p
 
--- What a replica holds, its segment's text has, of a master that is still loading too.
+-- Each entry of a replica is in its segment's text, while the master is loading too.
 abbrev pub ReplicasAreTexts : Type 0
 ReplicasAreTexts = (d : FailData) (texts : Texts) (p : Shown) (b s : ℕ) (r : Replica) (e : Entry)
     → IsLogHeld d texts p → p.holds b s ≡ Some r → among r.text.entries e → among (texts.text s).entries e
 
--- Each home of another segment of the log holds it whole.
+-- Each home of a segment of the log, the head in force apart, holds the segment whole.
 abbrev pub HomesHoldCopies : Type 0
 HomesHoldCopies = (d : FailData) (texts : Texts) (p : Shown) (s b : ℕ) → IsLogHeld d texts p → IsOther d s
     → IsHome d s b → HoldsCopy texts p b s
@@ -42,14 +42,14 @@ KeptIsReplicated = (d : FailData) (p : Shown) (place b : ℕ) (u : LogUnit) → 
 
 -- ---- a new master
 
--- One that loads nothing is kept.
+-- The log of a new master that loads nothing is kept, and the master knows what is held.
 abbrev pub FreshIsKept : Type 0
 FreshIsKept = (c : FailConfig) (p : Shown) → MayBegin c p → IsKept (fresh c) p × IsKnown (fresh c) p
 
 -- ---- ops
 
--- With an op taken the texts are held, whether the master knows it or not: for the one after a take that answered Ok,
--- for the other after a fault.
+-- The backups hold the texts once an op is taken, whether or not the master learns it. The master is `e` after a take
+-- that answered Ok, and is still `d` after a take that ended in a fault.
 abbrev pub BothHeld : FailData → FailData → Texts → Shown → Type 0
 BothHeld d e texts q = IsLogHeld d texts q × IsLogHeld e texts q
 
@@ -69,7 +69,7 @@ ExtendHandsOver = (d e : FailData) (texts : Texts) (p q : Shown) (o : Op) → Is
     → q.holds is.b d.head.start.id ≡ Some s
     → (r.text ≡ front d.head (d.counts is.b)) × (s.text ≡ front d.head is.to)
 
--- ops that put a replica are on a backup that there is
+-- An op that puts a replica has to name a backup of the configuration, here and below.
 abbrev pub ReplacesHeld : Type 0
 ReplacesHeld = (d e : FailData) (texts : Texts) (p q : Shown) (o : Op) → IsLogHeld d texts p → (is : Replaces d o e)
     → is.b < d.config.backups → taken p o ≡ Some q → BothHeld d e texts q
@@ -107,7 +107,8 @@ ResealsHeld = (d e : FailData) (texts : Texts) (p q : Shown) (o : Op) → IsLogH
     → (is : Reseals d texts o e) → is.b < d.config.backups → taken p o ≡ Some q
     → BothHeld d e (texts_resealed texts is) q
 
--- The texts stand for the history if whichever replicas are taken, the new one among them, stand for the present state.
+-- The texts represent the history once a replica is sealed anew, if the base of the head in force represents the
+-- present state whichever variants are taken, the new image among them.
 abbrev pub ResealsStanding : Type 0
 ResealsStanding = (d e : FailData) (texts : Texts) (p q : Shown) (o : Op) → IsLogHeld d texts p → IsStanding d texts
     → (is : Reseals d texts o e) → BasesStand (texts_resealed texts is) d.head.start (state_of d)
@@ -116,18 +117,19 @@ ResealsStanding = (d e : FailData) (texts : Texts) (p q : Shown) (o : Op) → Is
 
 -- ---- rolls
 
--- A roll that begins leaves the backups as they are, or the third part of a failover.
+-- The backups hold the log's texts once a roll, or a failover, has begun to open a new head.
 abbrev pub RollingIsHeld : Type 0
 RollingIsHeld = (d : FailData) (texts : Texts) (p : Shown) (n : Start) (mode : Mode) → IsLogHeld d texts p
     → IsRoll d texts p n mode → IsLogHeld (rolling d n mode) (texts_rolling texts n) p
 
--- The texts stand for the history if whichever replicas are taken of the new digest stand for the present state.
+-- The texts represent the history once a new head is being opened, if its base represents the present state whichever
+-- variants are taken.
 abbrev pub RollingIsStanding : Type 0
 RollingIsStanding = (d : FailData) (texts : Texts) (p : Shown) (n : Start) (mode : Mode) → IsLogHeld d texts p
     → IsStanding d texts → IsRoll d texts p n mode → BasesStand texts n (state_of d)
     → IsStanding (rolling d n mode) (texts_rolling texts n)
 
--- A roll that ends leaves them too, or the fifth part of a failover.
+-- The backups hold the log's texts once a new head is in force, at the end of a roll or in a failover.
 abbrev pub EndingIsHeld : Type 0
 EndingIsHeld = (d : FailData) (texts : Texts) (p : Shown) (n : Start) (mode : Mode) → IsLogHeld d texts p
     → IsKnown d p → EndsRoll d n mode → IsLogHeld (ended d n mode) texts p
@@ -136,19 +138,20 @@ abbrev pub EndingIsStanding : Type 0
 EndingIsStanding = (d : FailData) (texts : Texts) (p : Shown) (n : Start) (mode : Mode) → IsLogHeld d texts p
     → IsStanding d texts → IsKnown d p → EndsRoll d n mode → IsStanding (ended d n mode) texts
 
--- A roll with the digest in force and the old head may begin while nothing is under way, and in a failover.
+-- An ordinary roll, whose digest lists the digest in force with the old head, may begin while nothing is under way,
+-- and in a failover.
 abbrev pub OrdinaryIsRoll : Type 0
 OrdinaryIsRoll = (d : FailData) (texts : Texts) (p : Shown) (mode : Mode) → IsLogHeld d texts p → MayTurn d mode
     → IsRoll d texts p (next_start d) mode
 
--- Its digest stands for the present state.
+-- The base of an ordinary roll's new head represents the present state.
 abbrev pub OrdinaryStands : Type 0
 OrdinaryStands = (d : FailData) (p : Shown) (mode : Mode) (kept : IsKept d p) → MayTurn d mode
     → BasesStand kept.texts (next_start d) (state_of d)
 
 -- ---- failovers
 
--- A backup's failure leaves the others as they are, whatever the op that it was asked for has done.
+-- The backups hold the log's texts once one of them has failed and a failover is open.
 abbrev pub FailingIsHeld : Type 0
 FailingIsHeld = (d : FailData) (texts : Texts) (p : Shown) (b : ℕ) → IsLogHeld d texts p → MayFail d
     → IsLogHeld (failing d b) texts p
@@ -157,7 +160,7 @@ abbrev pub FailingIsStanding : Type 0
 FailingIsStanding = (d : FailData) (texts : Texts) (p : Shown) (b : ℕ) → IsLogHeld d texts p → IsStanding d texts
     → MayFail d → IsStanding (failing d b) texts
 
--- So does the end of a failover.
+-- The backups hold the log's texts once a failover has ended.
 abbrev pub MendedIsHeld : Type 0
 MendedIsHeld = (d : FailData) (texts : Texts) (p : Shown) → IsLogHeld d texts p → IsKnown d p → d.mode ≡ Repairs
     → IsLogHeld (mended d) texts p
@@ -168,18 +171,19 @@ MendedIsStanding = (d : FailData) (texts : Texts) (p : Shown) → IsLogHeld d te
 
 -- ---- commands
 
--- What is appended leaves the backups as they are, of a master that is still loading too.
+-- The backups hold the log's texts once a unit is appended to the head, before it is pushed, and while the master is
+-- loading too.
 abbrev pub AppendedIsHeld : Type 0
 AppendedIsHeld = (d : FailData) (texts : Texts) (p : Shown) (history : List Record) (unit : List Entry)
     → IsLogHeld d texts p → MayAppend d unit
     → IsLogHeld (with_appended d history unit) (texts_appended d texts unit) p
 
--- So does another state that the history begins with.
+-- The backups hold the same texts whatever state the history begins with.
 abbrev pub OpeningIsApart : Type 0
 OpeningIsApart = (d : FailData) (texts : Texts) (p : Shown) (st : State) → IsLogHeld d texts p → IsKnown d p
     → IsLogHeld (record d { opening = st }) texts p × IsKnown (record d { opening = st }) p
 
--- A record that is applied has its unit in the head.
+-- The texts represent the history with one more record once the record's unit is appended to the head.
 abbrev pub AppliedIsStanding : Type 0
 AppliedIsStanding = (d : FailData) (texts : Texts) (p : Shown) (segment : ℕ) (r : Record) → IsLogHeld d texts p
     → IsStanding d texts → MayApply d segment r
@@ -187,7 +191,7 @@ AppliedIsStanding = (d : FailData) (texts : Texts) (p : Shown) (segment : ℕ) (
 
 -- ---- segments that no digest names
 
--- An id that is taken without a roll leaves the backups as they are.
+-- The backups hold the log's texts once a segment that is no head has taken an id.
 abbrev pub IdTakenIsHeld : Type 0
 IdTakenIsHeld = (d : FailData) (texts : Texts) (p : Shown) → IsLogHeld d texts p
     → IsLogHeld (id_taken d) (texts_taken d texts) p
@@ -212,7 +216,7 @@ FreesHeld = (d e : FailData) (texts : Texts) (p q : Shown) (o : Op) → IsLogHel
 
 -- ---- what the master knows
 
--- The op fits, and the master it leads to knows what is then held.
+-- The op fits what is held, and the master `e` knows what is held once the op is taken.
 abbrev pub Fits : FailData → Shown → Op → Type 0
 Fits e p o = (q : Shown) × (taken p o ≡ Some q) × IsKnown e q
 
@@ -245,12 +249,13 @@ abbrev pub FreesFits : Type 0
 FreesFits = (d e : FailData) (p : Shown) (o : Op) → IsKnown d p → (is : Frees d o e) → IsSome (p.holds is.b is.s)
     → Fits e p o
 
--- After a fault of one backup, whatever it has done, the master knows what the others hold.
+-- The master knows what the other backups hold once one backup has failed, whatever that one did with its last op.
 abbrev pub FailingKnown : Type 0
 FailingKnown = (d : FailData) (p q : Shown) (b : ℕ) → IsKnown d p
     → ((c s : ℕ) → (c ≡ b → ⊥) → q.holds c s ≡ p.holds c s) → IsKnown (failing d b) q
 
--- So it does after commands, rolls, the end of a failover, and adoption.
+-- A master that knows what is held also knows it after commands, rolls, the end of a failover, an id that is taken,
+-- and adoption.
 abbrev pub AppendedKnown : Type 0
 AppendedKnown = (d : FailData) (texts : Texts) (p : Shown) (history : List Record) (unit : List Entry)
     → IsLogHeld d texts p → IsKnown d p → IsKnown (with_appended d history unit) p

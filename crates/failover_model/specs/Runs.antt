@@ -11,17 +11,19 @@ use Rattle.failover_model.specs.Steps.{Raises, ClosesOld, Reseals, Seals, Frees}
 
 -- ---- ops
 
--- a replica is sealed anew, and whichever are taken then stand for the present state
+-- The op seals a lost replica anew. The base of the head in force then represents the present state, whichever
+-- variants are taken, the new image among them.
 abbrev pub IsRepair : FailData → Texts → Op → FailData → Type 0
 IsRepair d texts o e =
     (is : Reseals d texts o e) × BasesStand (texts_resealed texts is) d.head.start (state_of d)
 
--- with the op taken the master is this one
+-- the master `d` may ask for the op next, and is `e` once the op is taken
 abbrev pub IsNext : FailData → Texts → Shown → Op → FailData → Type 0
 IsNext d texts p o e = Extends d o e ⊎ (OpensNew d o e ⊎ (Replaces d o e ⊎ (Raises d o e
     ⊎ (ClosesOld d o e ⊎ (IsRepair d texts o e ⊎ (Seals d texts p o e ⊎ Frees d o e))))))
 
--- The history and the heads stay: who took what changed, what is closed, or that the registry was raised.
+-- The master `e` has the history and the heads of `d`. Only these may differ: the counts of units, the backups on
+-- which the head is closed, who took which segment, and the mode.
 pub record GoesOn (d e : FailData) : Type 0 where
   pub counts : ℕ → ℕ
   pub shut : List ℕ
@@ -31,7 +33,7 @@ pub record GoesOn (d e : FailData) : Type 0 where
   pub failing : is_failing mode ≡ is_failing d.mode
   pub gives : e ≡ record d { counts = counts; shut = shut; took = took; mode = mode }
 
--- the op is on a backup that there is, or on the registry
+-- the op names a backup of the configuration, or the registry
 abbrev pub IsThere : FailConfig → Op → Type 0
 IsThere c (On b s act) = b < c.backups
 IsThere c (Raise id) = Unit {0}
@@ -43,36 +45,36 @@ IsOn b (Raise id) = ⊥
 
 -- ---- events
 
--- A master, its backups and the registry; it may have halted.
+-- What a master knows, what its backups and the registry show, and whether the master has halted.
 pub record World : Type 0 where
   pub knows : FailData
   pub shown : Shown
   pub halted : Bool
 
--- What a master may do next.
+-- What may happen next to a master and its backups.
 pub data Event : Type 0 where
-  -- a command is applied, whose key's object lies in this segment
+  -- a record's command is applied; the object of its key, if any, lies in this segment
   Applies : ℕ → Record → Event
-  -- a roll to this head begins, or the third part of a failover
+  -- a roll, or a failover, begins to open this head; the mode is the new one
   Turns : Start → Mode → Event
   -- a segment that is no head takes an id
   TakesId : Event
-  -- a roll or the fifth part of a failover ends
+  -- a roll ends, or a failover has closed the old head: this head is in force now
   Ends : Start → Mode → Event
   -- a failover ends, since no replica is lost any more
   Mended : Event
   -- an op is taken
   Takes : Op → Event
-  -- an op ends in a fault: a failover begins
+  -- an op ends in a fault of this backup, and a failover begins
   Fails : Op → ℕ → Event
-  -- an op ends in a fault: the master halts
+  -- an op ends in a fault, and the master halts
   Halts : Op → Event
 
 -- the picture after a fault: as it was, or with the op taken
 abbrev pub IsFaulted : Shown → Op → Shown → Type 0
 IsFaulted p o q = (q ≡ p) ⊎ (taken p o ≡ Some q)
 
--- the op may come next, with texts that the backups hold
+-- the log is kept, and the master `d` may ask for the op next; it is `e` once the op is taken
 abbrev pub MayTake : FailData → Shown → Op → FailData → Type 0
 MayTake d p o e = IsThere d.config o × (kept : IsKept d p) × IsNext d kept.texts p o e
 
@@ -103,6 +105,6 @@ abbrev pub DurableStays : Type 0
 DurableStays = (e : Event) (w v : World) → IsKept w.knows w.shown → Becomes e w v
     → durable_of w.knows ≤ durable_of v.knows
 
--- And it is within the history.
+-- The durable count is at most the length of the history.
 abbrev pub DurableIsWithin : Type 0
 DurableIsWithin = (d : FailData) (p : Shown) → IsKept d p → durable_of d ≤ length d.history

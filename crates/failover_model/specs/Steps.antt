@@ -1,4 +1,5 @@
--- What a master becomes: a command is applied, a roll or a failover goes on, a backup fails; and which ops that takes.
+-- How a master changes when a command is applied, a roll or a failover goes on, or a backup fails, and which ops it
+-- asks for.
 use Rattle.std.specs.Prelude.{◌≡◌, ℕ, suc, ◌<◌, ◌≤◌, ◌⊎◌, ◌==◌, List, [], ◌∷◌, ◌++◌, length, true, false, Some, None}
 use Rattle.std.specs.Prelude.{if◌then◌else◌}
 use Rattle.entry.specs.declared.entry.Entry.{Entry}
@@ -31,14 +32,14 @@ abbrev pub with_image : Texts → ℕ → List Entry → Texts
 with_image texts id es =
     record texts { images = λ s. if s == id then es ∷ texts.images s else texts.images s }
 
--- the segment's text, its images forgotten
+-- the texts with this text of a segment, and with no images of the segment
 abbrev pub with_new : Texts → ℕ → Text → Texts
 with_new texts id t = record {
   text = λ s. if s == id then t else texts.text s;
   images = λ s. if s == id then [] else texts.images s;
 }
 
--- one more backup took the segment's Open or Seal
+-- who took which segment, once this backup too took the Open or Seal of segment `id`
 abbrev pub with_taken : (ℕ → List ℕ) → ℕ → ℕ → ℕ → List ℕ
 with_taken took id b s = if s == id then b ∷ took s else took s
 
@@ -47,15 +48,16 @@ with_count counts b n c = if c == b then n else counts c
 
 -- ---- a new master
 
--- no head yet, in this format
+-- the start of a master that has no head yet, in this format: id 0 means no head
 abbrev pub no_head : ℕ → Start
 no_head format = record { id = 0; others = []; lens = no_lens format; safe = 1 }
 
--- the first head, which records this safe version, in this format
+-- the first head of a master in this format, which records this safe version
 abbrev pub restored_start : ℕ → ℕ → Start
 restored_start format safe = record { id = 1; others = []; lens = no_lens format; safe = safe }
 
--- a master without a history, whose first head is being opened; what it loads before has versions below this one
+-- A master without a history, whose first head is being opened. What the master loads before its history begins has
+-- versions below `safe`.
 abbrev pub restored : FailConfig → ℕ → FailData
 restored c safe = record {
   config = c;
@@ -76,7 +78,7 @@ restored c safe = record {
 abbrev pub fresh : FailConfig → FailData
 fresh c = restored c 1
 
--- Nothing is held of the master, and the registry has no word of it.
+-- A new master may begin: the backups hold nothing of it, and the registry has no least head for it.
 pub record MayBegin (c : FailConfig) (p : Shown) : Type 0 where
   pub some : 0 < c.replicas
   pub nothing : (b s : ℕ) → p.holds b s ≡ None
@@ -84,7 +86,7 @@ pub record MayBegin (c : FailConfig) (p : Shown) : Type 0 where
 
 -- ---- a command
 
--- what the record appends, whose key's object lies in this segment
+-- the unit that the record appends; the object of its key, if any, lies in this segment
 abbrev pub unit_now : FailData → ℕ → Record → List Entry
 unit_now d segment r = unit_of (state_of d) segment r.command
 
@@ -99,17 +101,19 @@ with_appended d history unit = record d {
 abbrev pub applied : FailData → ℕ → Record → FailData
 applied d segment r = with_appended d (d.history ++ r ∷ []) (unit_now d segment r)
 
--- What is appended has keys of the master's tablets, and is nothing, or no roll is under way and no failover open.
+-- The unit may be appended: its keys lie in the master's tablets. The unit is empty if a roll is under way or a
+-- failover is open.
 pub record MayAppend (d : FailData) (unit : List Entry) : Type 0 where
   pub keys : AreOfTablets d.config unit
   pub calm : (unit ≡ []) ⊎ (d.mode ≡ Calm)
 
--- The key is of the master's tablets; the command appends nothing, or no roll is under way and no failover open.
+-- The record may be applied: its key lies in the master's tablets. The command appends nothing if a roll is under way
+-- or a failover is open.
 pub record MayApply (d : FailData) (segment : ℕ) (r : Record) : Type 0 where
   pub key : have_key d.config.tablets (command_key r.command) ≡ true
   pub calm : (unit_now d segment r ≡ []) ⊎ (d.mode ≡ Calm)
 
--- the texts once the unit is at the end of the head's
+-- the texts once the unit is at the end of the head's text
 abbrev pub texts_appended : FailData → Texts → List Entry → Texts
 texts_appended d texts unit =
     let units = with_unit d.head.units (length d.history) unit in
@@ -117,7 +121,7 @@ texts_appended d texts unit =
 
 -- ---- adoption
 
--- All that was loaded is on the backups, and stands for this state.
+-- All that was loaded is on the backups, and represents this state.
 pub record IsLoaded (d : FailData) (p : Shown) (st : State) : Type 0 where
   pub texts : Texts
   pub held : IsLogHeld d texts p
@@ -127,7 +131,7 @@ pub record IsLoaded (d : FailData) (p : Shown) (st : State) : Type 0 where
   pub stands : (base : List Entry) → IsBase texts d.head.start.others base
       → Represents d.head.start.safe (base ++ front_entries d.head (length d.head.units)) st
 
--- the master whose history begins with this state
+-- the master once its history begins with this state: what the head has so far counts as loaded
 abbrev pub adopted : FailData → State → FailData
 adopted d st = record d {
   opening = st;
@@ -138,16 +142,17 @@ adopted d st = record d {
 
 -- ---- a roll begins
 
--- the master once a roll to this head has begun, or the third part of a failover
+-- the master once a roll, or a failover, has begun to open this head
 abbrev pub rolling : FailData → Start → Mode → FailData
 rolling d n mode = record d { mode = mode; next = suc d.next; took = λ s. if s == n.id then [] else d.took s }
 
--- the texts once the new head's is its opening
+-- the texts once the new head's text is its opening
 abbrev pub texts_rolling : Texts → Start → Texts
 texts_rolling texts n = with_new texts n.id (bare n)
 
--- A roll to this head may begin, whatever its digest leaves out or takes in: the other ids of it are held whole at
--- their homes, and the lengths of it are those of their texts.
+-- A roll to this head may begin, whichever segments its digest leaves out or takes in. The homes of each segment that
+-- the digest lists, the old head apart, hold the segment whole. The lengths of the digest are those of the segments'
+-- texts.
 pub record IsRoll (d : FailData) (texts : Texts) (p : Shown) (n : Start) (mode : Mode) : Type 0 where
   pub may : ((d.mode ≡ Calm) × (mode ≡ Rolls n)) ⊎ ((d.mode ≡ Mends) × (mode ≡ Opens n))
   pub next : n.id ≡ d.next
@@ -173,8 +178,8 @@ next_start d = record {
   safe = (state_of d).safe;
 }
 
--- An ordinary roll may begin, or the third part of a failover that is no commit: there is an old head, or nothing was
--- appended yet.
+-- An ordinary roll may begin, or a failover that commits no pass may begin to open its new head. There is an old head,
+-- or nothing was appended yet.
 pub record MayTurn (d : FailData) (mode : Mode) : Type 0 where
   pub may : ((d.mode ≡ Calm) × (mode ≡ Rolls (next_start d))) ⊎ ((d.mode ≡ Mends) × (mode ≡ Opens (next_start d)))
   pub some : d.head.start.id ≡ 0 → (d.head.start.others ≡ []) × (front_entries d.head (length d.head.units) ≡ [])
@@ -189,11 +194,11 @@ id_taken d = record d { next = suc d.next; took = λ s. if s == d.next then [] e
 abbrev pub survivor_text : List Entry → Text
 survivor_text entries = record { opening = None; entries = entries }
 
--- that of one that nothing was copied to
+-- the text of a survivor to which nothing was copied
 abbrev pub empty_survivor : Text
 empty_survivor = survivor_text []
 
--- the texts once that segment's is this
+-- the texts once the segment with the next id has that text
 abbrev pub texts_taken : FailData → Texts → Texts
 texts_taken d texts = with_new texts d.next empty_survivor
 
@@ -209,8 +214,8 @@ ended d n mode = record d {
   abandoned = [];
 }
 
--- A roll may end: the new head was opened on all its backups, and the old one is closed on its homes; in a failover the
--- registry was raised.
+-- A roll may end: the new head was opened on all its backups, and the old head is closed on its homes. In a failover
+-- the registry was raised too.
 pub record EndsRoll (d : FailData) (n : Start) (mode : Mode) : Type 0 where
   pub may : ((d.mode ≡ Rolls n) × (mode ≡ Calm)) ⊎ ((d.mode ≡ Closes n) × (mode ≡ Repairs))
   pub opened : d.config.replicas ≤ length (d.took n.id)
@@ -218,7 +223,7 @@ pub record EndsRoll (d : FailData) (n : Start) (mode : Mode) : Type 0 where
 
 -- ---- a backup fails
 
--- the new head of a roll, if one is under way
+-- the new head of the roll under way, as a list; empty if no roll is under way or a failover is open
 abbrev pub new_heads : Mode → List Start
 new_heads Calm = []
 new_heads (Rolls n) = n ∷ []
@@ -227,7 +232,7 @@ new_heads (Opens n) = []
 new_heads (Closes n) = []
 new_heads Repairs = []
 
--- A backup's failure opens a failover if none is open, under format 2.
+-- A backup's failure opens a failover: the format is 2, and no failover is open yet.
 pub record MayFail (d : FailData) : Type 0 where
   pub two : d.config.format ≡ 2
   pub works : is_failing d.mode ≡ false
@@ -241,7 +246,7 @@ failing d b = record d {
   frozen = durable_of d;
 }
 
--- no replica of a segment that the head lists is lost: each has as many homes as there are replicas
+-- each other segment that the head lists has as many homes as a segment has replicas, so no replica of it is lost
 abbrev pub NoneIsLost : FailData → Type 0
 NoneIsLost d = (s : ℕ) → IsAmong s d.head.start.others → d.config.replicas ≤ length (homes d s)
 
@@ -249,19 +254,19 @@ NoneIsLost d = (s : ℕ) → IsAmong s d.head.start.others → d.config.replicas
 abbrev pub mended : FailData → FailData
 mended d = record d { mode = Calm; frozen = 0 }
 
--- The master knows what backups that haven't failed hold: nothing that they didn't take. Those that failed hold nothing
--- of heads that were opened later.
+-- The master knows what the backups that haven't failed hold: they hold no segment that they didn't take. Backups that
+-- failed hold nothing of heads that were opened later.
 pub record IsKnown (d : FailData) (p : Shown) : Type 0 where
   pub absent : (b s : ℕ) → has d.failed b ≡ false → has (d.took s) b ≡ false → p.holds b s ≡ None
   pub new : (b : ℕ) (n : Start) → has d.failed b ≡ true → new_of d.mode ≡ Some n → p.holds b n.id ≡ None
   pub head : (b : ℕ) → has d.failed b ≡ true → d.mode ≡ Repairs → p.holds b d.head.start.id ≡ None
-  -- the head has on each home just what was taken there, and is open if it wasn't closed there
+  -- each home of the head holds just the units that it took, and holds the head open unless the master closed it
   pub exact : (b : ℕ) (r : Replica) → IsHome d d.head.start.id b → p.holds b d.head.start.id ≡ Some r
       → (r.text ≡ front d.head (d.counts b)) × (has d.shut b ≡ false → r.is_open ≡ true)
 
 -- ---- ops
 
--- A home of the head takes its next units, however many.
+-- A home of the head takes the next units that it lacks, one or more.
 pub record Extends (d : FailData) (o : Op) (e : FailData) : Type 0 where
   pub b : ℕ
   pub to : ℕ
@@ -283,12 +288,13 @@ pub record OpensNew (d : FailData) (o : Op) (e : FailData) : Type 0 where
   pub apart : has (d.took n.id) b ≡ false
   pub few : length (d.took n.id) < d.config.replicas
   pub whole : (c : ℕ) → IsHome d d.head.start.id c → d.counts c ≡ length d.head.units
-  -- in a failover each lost replica of it was replaced
+  -- each lost replica of the head in force was replaced
   pub enough : (d.head.start.id ≡ 0) ⊎ (d.config.replicas ≤ length (homes d d.head.start.id))
   pub op : o ≡ On b n.id (Open (bare n))
   pub gives : e ≡ record d { took = with_taken d.took n.id b }
 
--- The head in force is opened whole on a backup that hasn't failed and had no part in it, for one that was lost.
+-- The head in force is opened whole on a backup that hasn't failed and didn't take it before. This replica replaces a
+-- lost one.
 pub record Replaces (d : FailData) (o : Op) (e : FailData) : Type 0 where
   pub b : ℕ
   pub mode : d.mode ≡ Mends
@@ -302,7 +308,7 @@ pub record Replaces (d : FailData) (o : Op) (e : FailData) : Type 0 where
     counts = with_count d.counts b (length d.head.units);
   }
 
--- The registry is raised to a failover's new head, once that is open on all its backups.
+-- The registry is raised to a failover's new head, once the new head is open on all its backups.
 pub record Raises (d : FailData) (o : Op) (e : FailData) : Type 0 where
   pub n : Start
   pub mode : d.mode ≡ Opens n
@@ -321,8 +327,8 @@ pub record ClosesOld (d : FailData) (o : Op) (e : FailData) : Type 0 where
   pub op : o ≡ On b d.head.start.id Close
   pub gives : e ≡ record d { shut = b ∷ d.shut }
 
--- A lost replica of another segment is sealed anew on a backup that hasn't failed, from its image, which has nothing
--- that the text hasn't.
+-- A lost replica of another segment is sealed anew on a backup that hasn't failed. It gets the segment's image, which
+-- has no entry that the text lacks.
 pub record Reseals (d : FailData) (texts : Texts) (o : Op) (e : FailData) : Type 0 where
   pub b : ℕ
   pub s : ℕ
@@ -336,7 +342,7 @@ pub record Reseals (d : FailData) (texts : Texts) (o : Op) (e : FailData) : Type
   pub op : o ≡ On b s (Seal (record (texts.text s) { entries = image }))
   pub gives : e ≡ record d { took = with_taken d.took s b }
 
--- the texts once the image is one of the segment's
+-- the texts once the sealed image is one of the segment's images
 abbrev pub texts_resealed : {d e : FailData} {o : Op} (texts : Texts) → Reseals d texts o e → Texts
 texts_resealed texts is = with_image texts is.s is.image
 
@@ -354,7 +360,7 @@ pub record IsFree (d : FailData) (s : ℕ) : Type 0 where
   pub new : (n : Start) → IsNew d n → s ≡ n.id → ⊥
   pub others : IsOther d s → ⊥
 
--- A survivor is sealed on a backup that hasn't failed. What other backups hold of it has this text.
+-- A survivor is sealed on a backup that hasn't failed. Each replica that other backups hold of it has the same text.
 pub record Seals (d : FailData) (texts : Texts) (p : Shown) (o : Op) (e : FailData) : Type 0 where
   pub b : ℕ
   pub s : ℕ
@@ -371,7 +377,7 @@ pub record Seals (d : FailData) (texts : Texts) (p : Shown) (o : Op) (e : FailDa
   pub op : o ≡ On b s (Seal (survivor_text entries))
   pub gives : e ≡ record d { took = with_taken d.took s b }
 
--- the texts once the survivor's is what is sealed
+-- the texts once the survivor's text is what is sealed
 abbrev pub texts_sealed : {d e : FailData} {p : Shown} {o : Op} (texts : Texts) → Seals d texts p o e → Texts
 texts_sealed texts is = with_new texts is.s (survivor_text is.entries)
 

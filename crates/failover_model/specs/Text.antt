@@ -5,7 +5,7 @@ use Rattle.entry.specs.declared.digest.Digest.TheVariants as digest
 use Rattle.entry.specs.declared.entry.Entry.{Entry}
 use Rattle.entry.specs.Text.{Opening, text_of, listed_len}
 
--- a segment's text: a head has an opening, a survivor has none
+-- the text of a segment: its opening, if it is a head, and its objects and tombstones; a survivor has no opening
 pub record Text : Type 0 where
   pub opening : Option Opening
   pub entries : List Entry
@@ -28,7 +28,7 @@ pub record Replica : Type 0 where
   pub text : Text
   pub is_open : Bool
 
--- The replica may be used for that id of a digest: a closed one, and an open one that has at least the listed length.
--- If the digest lists no lengths, any may be used.
+-- A recovery may use the replica for this id of a digest if the replica is closed, or has at least the length that the
+-- digest lists for the id. If the digest lists no length for the id, a recovery may use any replica.
 abbrev pub IsUsable : Digest → ℕ → Replica → Type 0
 IsUsable digest id r = (r.is_open ≡ false) ⊎ IfSome (listed_len id digest) (λ n. n ≤ length_of r.text)

@@ -23,9 +23,10 @@ ghost use Rattle.failover_model.specs.Runs.{NextGoesOn, DurableStays, DurableIsW
 ghost use Rattle.failover_model.specs.Images.{BetweenStands};
 ghost use Rattle.failover_model.specs.Durable.{FreshIsPast, AdoptedIsPast};
 
-/// If a log is kept, whichever backups are left: each choice of the newest log from them stands for a prefix of the
-/// history with all that is durable, and there is one if both survive. What a replica holds its segment's text has, the
-/// homes of other segments hold them whole, and each backup of the head has its durable units.
+/// A kept log is sound: whichever backups are left, each choice of the newest log from them means the map after a
+/// prefix of the history that has every durable record, and there is a choice if both survive. Each entry of a replica
+/// is in its segment's text. The homes of each segment but the head hold it whole. Each backup that took the head's
+/// Open holds the head's durable units.
 pub fn failing_log_kept()
     ensures sound { KeptIsSound }
     ensures texts { ReplicasAreTexts }
@@ -33,21 +34,22 @@ pub fn failing_log_kept()
     ensures replicated { KeptIsReplicated }
 {}
 
-/// A new master's log is kept from its first stop on. Another state that the history begins with leaves the texts.
+/// The log of a new master that loads nothing is kept. The backups hold the same texts whatever state the history
+/// begins with.
 pub fn failing_log_begins()
     ensures fresh { FreshIsKept }
     ensures opening { OpeningIsApart }
 {}
 
-/// An op on the head in force that is taken leaves the backups with the log's texts, also if nobody knows that it was
-/// taken, and of a master that is still loading too.
+/// The backups hold the log's texts once an op on the head in force is taken: an Extend, the Open of a replacement, or
+/// a Close. This is true whether or not the master learns that the op was taken, and while the master is loading too.
 pub fn head_op_holds()
     ensures extends { ExtendsHeld }
     ensures replaces { ReplacesHeld }
     ensures closes { ClosesHeld }
 {}
 
-/// The texts then stand for what they did.
+/// The texts represent the history once an op on the head in force is taken.
 pub fn head_op_stands()
     ensures extends { ExtendsStanding }
     ensures replaces { ReplacesStanding }
@@ -59,7 +61,8 @@ pub fn head_op_hands_over()
     ensures { ExtendHandsOver }
 {}
 
-/// So it is with an op that opens a new head, or raises the registry to it.
+/// The backups hold the log's texts, and these represent the history, once an op opens a new head on a backup or
+/// raises the registry to it.
 pub fn new_op_keeps()
     ensures opens_held { OpensHeld }
     ensures opens_standing { OpensStanding }
@@ -67,14 +70,14 @@ pub fn new_op_keeps()
     ensures raises_standing { RaisesStanding }
 {}
 
-/// So it is with an op that seals a lost replica anew.
+/// The backups hold the log's texts, and these represent the history, once an op seals a lost replica anew.
 pub fn repair_keeps()
     ensures held { ResealsHeld }
     ensures standing { ResealsStanding }
 {}
 
-/// A roll that begins keeps the log if its digest stands for the present state, as that of an ordinary roll does. So
-/// does its end, in a failover too.
+/// The log stays kept when a roll begins, if the segments of the new digest represent the present state. Those of an
+/// ordinary roll do. The log stays kept when a roll ends, too. All this is true of a failover's roll as well.
 pub fn roll_keeps()
     ensures begins_held { RollingIsHeld }
     ensures begins_standing { RollingIsStanding }
@@ -84,7 +87,7 @@ pub fn roll_keeps()
     ensures ends_standing { EndingIsStanding }
 {}
 
-/// A backup's fault while no failover is open keeps the log, and so does the end of a failover.
+/// The log stays kept when a backup fails while no failover is open, and when a failover ends.
 pub fn failover_keeps()
     ensures fails_held { FailingIsHeld }
     ensures fails_standing { FailingIsStanding }
@@ -92,14 +95,15 @@ pub fn failover_keeps()
     ensures ends_standing { MendedIsStanding }
 {}
 
-/// A command that is applied keeps the log, also one that appends nothing while a failover is open.
+/// The log stays kept when a command is applied. While a roll or a failover is open, only a command that appends
+/// nothing may be applied.
 pub fn command_keeps()
     ensures held { AppendedIsHeld }
     ensures standing { AppliedIsStanding }
 {}
 
-/// An id that is taken without a roll keeps the log, and so do a survivor's seal and a free, also if nobody knows that
-/// they were taken.
+/// The log stays kept when a segment that is no head takes an id, when a survivor is sealed, and when a replica that
+/// no digest names is freed, also if the master doesn't learn that the op was taken.
 pub fn spare_keeps()
     ensures id_held { IdTakenIsHeld }
     ensures id_standing { IdTakenIsStanding }
@@ -108,7 +112,8 @@ pub fn spare_keeps()
     ensures frees_held { FreesHeld }
 {}
 
-/// A master knows what backups that haven't failed hold, so its ops fit.
+/// If a master knows what the backups that haven't failed hold, each of its ops fits, and it knows what they hold once
+/// the op is taken. If a backup fails, the master knows what the others hold.
 pub fn op_fits()
     ensures extends { ExtendsFits }
     ensures opens { OpensFits }
@@ -121,7 +126,8 @@ pub fn op_fits()
     ensures fails { FailingKnown }
 {}
 
-/// A master goes on knowing what backups that haven't failed hold.
+/// A master that knows what the backups that haven't failed hold also knows it after a command, a roll, the end of a
+/// failover, an id that is taken, and adoption.
 pub fn knows_on()
     ensures appended { AppendedKnown }
     ensures rolls { RollingKnown }
@@ -136,7 +142,8 @@ pub fn ops_go_on()
     ensures { NextGoesOn }
 {}
 
-/// The durable count is within the history, and no event lowers it. A new master has no heads before.
+/// The durable count is at most the length of the history, and no event lowers it. A new master has no earlier heads,
+/// also if it took over a recovered map.
 pub fn durable_stays()
     ensures fresh { FreshIsPast }
     ensures adopted { AdoptedIsPast }
@@ -144,7 +151,8 @@ pub fn durable_stays()
     ensures within { DurableIsWithin }
 {}
 
-/// Whatever lies between image and text of each segment stands for the present state.
+/// If each replica has at least the objects and tombstones of its segment's image, and no others than those of its
+/// text, then the replicas represent the present state.
 pub fn images_stand()
     ensures { BetweenStands }
 {}

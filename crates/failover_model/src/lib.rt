@@ -1,21 +1,22 @@
 //! A log whose backups may fail, apart from any code: digests with lengths, the registry of the least head that may be
-//! used, and the six parts of a failover.
+//! used, and the parts of a failover.
 //!
-//! `specs/` has the definitions, `laws` what holds of them; there is no other code. It speaks of one master's replicas
-//! by their opening, entries and length, not by bytes, and of both formats: under format 1 digests list ids alone, and
-//! a fault halts the master. What the backups hold is a log (`IsLogHeld`) if each replica is whole, or too short to be
-//! used, or a head with nothing but its opening. A log is *kept* (`IsKept`) if whatever may be chosen of them stands
-//! for the history too. A master *knows* (`IsKnown`) what backups that haven't failed hold. To the layer above it
-//! promises:
+//! `specs/` has the definitions, and `laws` has the theorems on them; the crate has no other code. A replica of this
+//! model has an opening, entries and a length, and no bytes. The model has both formats: under format 1 digests list
+//! ids alone, and a fault halts the master. The backups hold a log (`IsLogHeld`) if each replica of the head in force
+//! has some first units of the head, each replica of a new head has the opening alone, and each other replica is
+//! whole, or too short to be used. A log is *kept* (`IsKept`) if, moreover, whatever a recovery may choose of the
+//! replicas represents the history. A master *knows* (`IsKnown`) what the backups that haven't failed hold. The crate
+//! promises to the layer above:
 //! - A kept log is sound, whichever backups are left (`KeptIsSound`).
-//! - A new master's log is kept (`FreshIsKept`). The texts that backups hold stay those of the log through each op, also
-//!   if nobody knows that it was taken (`BothHeld`), through a command, a roll and each part of a failover, and they go
-//!   on to stand for the history. Every op fits (`Fits`).
-//! - Whatever lies between a segment's image and its text may stand for it (`BetweenStands`), so a repair may seal an
+//! - A new master's log is kept (`FreshIsKept`). The log stays kept through each op, also if the master doesn't learn
+//!   that the op was taken (`BothHeld`), and through each command, each roll and each part of a failover. Every op
+//!   fits what the backups hold (`Fits`).
+//! - A replica may have anything between its segment's image and text (`BetweenStands`), so a failover may seal an
 //!   image.
-//! - The durable count never falls (`DurableStays`), and is within the history (`DurableIsWithin`).
+//! - The durable count never falls (`DurableStays`), and is at most the length of the history (`DurableIsWithin`).
 //!
-//! It uses `log_model`, `clean_model`, `versioned_map` and `entry`.
+//! This crate uses `log_model`, `clean_model`, `versioned_map` and `entry`.
 #![tactic(auto)]
 
 mod laws;

@@ -1,4 +1,4 @@
--- What units are when one is added, and which states their fronts stand for.
+-- Units with one more unit at the end, and the states that the first units represent.
 use Rattle.std.proofs.Common.{◌≡◌, ℕ, suc, ◌<◌, ◌≤◌, ◌⊎◌, inl, inr, List, [], ◌∷◌, ◌++◌, length, take, refl, sym, ap}
 use Rattle.std.proofs.Common.{zero, subst, ◌∙◌, arith, Some}
 use Rattle.std.specs.Prelude.{slice_get}

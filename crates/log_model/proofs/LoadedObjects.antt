@@ -1,4 +1,4 @@
--- An object that is loaded stands for its key.
+-- A bag with one more loaded object represents the state with this object.
 use Rattle.std.proofs.Common.{◌≡◌, ℕ, ◌<◌, inl, inr, List, [], ◌∷◌, ◌++◌, Some, refl, sym, subst, ◌∙◌, arith}
 use Rattle.std.specs.Prelude.{Option, None}
 use Rattle.entry.specs.declared.key.Key.{Key}

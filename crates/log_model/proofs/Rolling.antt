@@ -1,4 +1,4 @@
--- A bag under another safe version.
+-- A bag that represents a state, with another recorded safe version.
 use Rattle.std.proofs.Common.{ℕ, List, arith}
 use Rattle.entry.specs.declared.entry.Entry.{Entry}
 use Rattle.versioned_map.specs.Represents.{Represents}

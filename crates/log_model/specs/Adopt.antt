@@ -1,4 +1,4 @@
--- A state with an object more, which was loaded.
+-- States of the map while objects are loaded.
 use Rattle.std.specs.Prelude.{ℕ, ◌<◌, List, [], ◌∷◌, ◌++◌, Some}
 use Rattle.entry.specs.declared.entry.Object.{Object}
 use Rattle.entry.specs.declared.entry.Entry.{Entry}
@@ -13,7 +13,8 @@ with_loaded st o = record { contents = with_contents st.contents o.key (Some (ve
 
 -- ---- law
 
--- An object of a key that the bag has nothing of stands for its key.
+-- If a bag represents a state and has no entry of an object's key, and the object's version is below the safe version,
+-- then the bag with this object represents the state with this object loaded.
 abbrev pub LoadedIsRepresented : Type 0
 LoadedIsRepresented = (recorded : ℕ) (bag : List Entry) (st : State) (o : Object) → Represents recorded bag st
     → ((f : Entry) → among bag f → IsOfKey o.key f → ⊥) → o.version < st.safe

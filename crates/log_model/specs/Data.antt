@@ -20,7 +20,7 @@ pub record Start : Type 0 where
   pub lens : Option (List ℕ)
   pub safe : ℕ
 
--- What one record appended, which is something.
+-- The unit of one record that appended something. `number` is the record's place in the history, from 0.
 pub record LogUnit : Type 0 where
   pub number : ℕ
   pub entries : List Entry
@@ -28,14 +28,14 @@ pub record LogUnit : Type 0 where
 -- The segment that is appended to.
 pub record Head : Type 0 where
   pub start : Start
-  -- what it was given before the history began
+  -- the objects that were loaded before the history began
   pub loaded : List Entry
   pub units : List LogUnit
-  -- how many units each replica has, of those that were opened
+  -- how many units each replica has; only replicas that were opened are listed
   pub taken : List ℕ
 
--- No roll is under way; or this many replicas of a new head were opened; or all were, and this many of the old head
--- are closed.
+-- What a roll has done so far. In `Ready` no roll is under way. In `Opened` so many replicas of the new head were
+-- opened. In `Closed` all were opened, and so many replicas of the old head are closed.
 pub data Phase : Type 0 where
   Ready : Phase
   Opened : ℕ → Start → Phase
@@ -47,21 +47,21 @@ pub data Phase : Type 0 where
 abbrev pub ids_of : Start → List ℕ
 ids_of n = n.others ++ n.id ∷ []
 
--- these ids, each with its length
+-- these ids, each with its length; an id without a length gets 0
 abbrev pub listed_with : List ℕ → List ℕ → List Listed
 listed_with [] ns = []
 listed_with (s ∷ ids) [] = record { id = s; len = 0 } ∷ listed_with ids []
 listed_with (s ∷ ids) (n ∷ ns) = record { id = s; len = n } ∷ listed_with ids ns
 
--- the length of an opening whose digest lists this many segments with their lengths
+-- the length in bytes of an opening whose digest lists this many segments with their lengths
 abbrev pub opening_len : ℕ → ℕ
 opening_len count = 32 + 16 * count
 
--- a head as its own digest lists it: as long as its opening
+-- a head as its own digest lists it: with the length of its opening
 abbrev pub own_listed : List ℕ → ℕ → Listed
 own_listed others id = record { id = id; len = opening_len (suc (length others)) }
 
--- the digest of a head with this id, after these other ids and their lengths
+-- the digest of a head with this id, which lists these other ids first, with these lengths if there are any
 abbrev pub digest_with : List ℕ → Option (List ℕ) → ℕ → Digest
 digest_with others None id = digest.Ids (others ++ id ∷ [])
 digest_with others (Some ns) id = digest.Lengths (listed_with others ns ++ own_listed others id ∷ [])
@@ -70,16 +70,16 @@ digest_with others (Some ns) id = digest.Lengths (listed_with others ns ++ own_l
 abbrev pub digest_for : Start → Digest
 digest_for n = digest_with n.others n.lens n.id
 
--- the length that the next digest lists for a segment: for the head what its text has, for another one what this
--- digest lists
+-- the length that the next digest lists for a segment: for the old head the length `len` of its text, for another
+-- segment the length that the old digest lists, or `len` if it lists none
 abbrev pub len_next : Digest → ℕ → ℕ → ℕ → ℕ
 len_next digest head len s = if s == head then len else unwrap_or (listed_len s digest) len
 
--- the lengths of these segments, if this digest lists lengths
+-- the lengths that the next digest lists for these segments, or None if the old digest lists no lengths
 abbrev pub lens_next : Digest → (ℕ → ℕ) → List ℕ → Option (List ℕ)
 lens_next digest len ids = if lists_lengths digest then Some (map len ids) else None
 
--- what a head opens with
+-- the opening of a head: its header, digest and safe version
 abbrev pub start_entries : ℕ → Start → List Entry
 start_entries master n = entry.Header (record {
   master = master;
@@ -91,11 +91,11 @@ start_entries master n = entry.Header (record {
 abbrev pub entries_of : List LogUnit → List Entry
 entries_of us = flat_map (λ (u : LogUnit). u.entries) us
 
--- the head's objects and tombstones, up to this many units
+-- the head's loaded entries and those of its first `count` units
 abbrev pub front_entries : Head → ℕ → List Entry
 front_entries h count = h.loaded ++ entries_of (take count h.units)
 
--- the head's entries, up to this many units
+-- the head's opening, loaded entries, and the entries of its first `count` units
 abbrev pub head_entries : ℕ → Head → ℕ → List Entry
 head_entries master h count = start_entries master h.start ++ front_entries h count
 
@@ -107,13 +107,13 @@ new_of (Closed j n) = Some n
 
 -- ---- history
 
--- how many records come before the one whose unit is at this place; all of them, if there is none
+-- how many records come before the record of the unit at this place; all records, if no unit is at this place
 abbrev pub records_before : List LogUnit → ℕ → ℕ → ℕ
 records_before [] all place = all
 records_before (u ∷ us) all zero = u.number
 records_before (u ∷ us) all (suc place) = records_before us all place
 
--- the fewest units that one of the replicas has, at most this many
+-- the least of these numbers of units, or `units` if all of them are greater
 abbrev pub fewest : ℕ → List ℕ → ℕ
 fewest units [] = units
 fewest units (n ∷ ns) = min n (fewest units ns)

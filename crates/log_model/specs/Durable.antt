@@ -6,12 +6,13 @@ use Rattle.versioned_map.specs.Represents.{unit_of}
 use Rattle.versioned_map.specs.Versioned.{State, after_command}
 use Rattle.log_model.specs.Data.{LogUnit}
 
--- a record's unit before these, if it appended one
+-- these units with the unit of an earlier record put first; the same units, if that record appended nothing
 abbrev pub with_first : ℕ → List Entry → List LogUnit → List LogUnit
 with_first number [] us = us
 with_first number (e ∷ es) us = record { number = number; entries = e ∷ es } ∷ us
 
--- the units are those of the records from this number on, each that appended something
+-- The units are those of these commands, which begin in state `st`. The first command has this number. A command that
+-- appends nothing has no unit.
 abbrev pub AreNumbered : State → ℕ → List Command → List LogUnit → Type 0
 AreNumbered st number [] us = us ≡ []
 AreNumbered st number (c ∷ cs) us =

@@ -1,17 +1,17 @@
--- Lists of ids, which rise.
+-- Lists of rising ids.
 use Rattle.std.specs.Prelude.{ℕ, List, [], ◌∷◌, Bool, false, ◌==◌, ◌||◌, nat_lt, if◌then◌else◌}
 
--- whether the id is among these
+-- true if the id is in the list
 abbrev pub has : List ℕ → ℕ → Bool
 has [] s = false
 has (z ∷ ids) s = (z == s) || has ids s
 
--- ids that rise with one more at its place
+-- the rising ids with one more id, put where the list still rises
 abbrev pub inserted : ℕ → List ℕ → List ℕ
 inserted s [] = s ∷ []
 inserted s (z ∷ ids) = if nat_lt s z then s ∷ z ∷ ids else z ∷ inserted s ids
 
--- ids that rise with several more at their places
+-- the rising ids with several more ids, each put where the list still rises
 abbrev pub all_inserted : List ℕ → List ℕ → List ℕ
 all_inserted [] ids = ids
 all_inserted (s ∷ more) ids = inserted s (all_inserted more ids)

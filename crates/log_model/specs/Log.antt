@@ -7,7 +7,7 @@ use Rattle.log_model.specs.Data.{Start, LogUnit, Head}
 
 -- ---- texts
 
--- the text as replicated of each segment
+-- the text of each segment as it was replicated
 abbrev pub Texts : Type 0
 Texts = ℕ → List Entry
 
@@ -17,18 +17,19 @@ base_of texts ids = flat_map (λ (s : ℕ). filter is_data (texts s)) ids
 
 -- ---- the heads
 
--- the other ids of a digest are below the head's
+-- the other ids of a head's digest are below the head's own id
 abbrev pub AreBelow : Start → Type 0
 AreBelow n = AllByRecursion (λ (s : ℕ). s < n.id) n.others
 
--- Each replica of the head has all its units.
+-- All replicas of the head were opened, and each has all units.
 pub record IsWhole (replicas : ℕ) (h : Head) : Type 0 where
   pub opened : length h.taken ≡ replicas
   pub all : (j count : ℕ) → slice_get h.taken j ≡ Some count → count ≡ length h.units
 
 -- ---- units
 
--- each unit is of a later record than the one before it, and of one of this many
+-- The record of each unit comes later than that of the unit before it. The first unit's record has the number `from`
+-- or a greater one, and the last unit's has a number below `all`.
 abbrev pub Rise : ℕ → List LogUnit → ℕ → Type 0
 Rise from [] all = from ≤ all
 Rise from (u ∷ us) all = (from ≤ u.number) × Rise (suc u.number) us all

@@ -11,11 +11,11 @@ pub record LogOp : Type 0 where
   pub segment : ℕ
   pub act : ActValue
 
--- the op as its backup sees it
+-- the op as the backup of this master gets it
 abbrev pub op_of : ℕ → LogOp → OpValue
 op_of master o = record { master = master; segment = o.segment; act = o.act }
 
--- the picture with the op taken; None if it doesn't fit
+-- the picture once the op is taken, or None if the op doesn't fit what the backup holds
 abbrev pub taken : Picture → ℕ → LogOp → Option Picture
 taken p master o =
     option_map (λ (r : Option Replica). with_replica p o.backup master o.segment r)
