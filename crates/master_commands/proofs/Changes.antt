@@ -1,4 +1,4 @@
--- The change that a command makes: the reply, the length of its unit, and what its tombstone names.
+-- The change that a command makes: its reply, the length of its unit, and the segment that its tombstone names.
 use Rattle.std.proofs.Common.{◌≡◌, ℕ, ◌+◌, ◌<◌, List, [], ◌∷◌, ◌++◌, length, Bool, true, false, Option, Some, None}
 use Rattle.std.proofs.Common.{if◌then◌else◌, refl, sym, ap, ◌∙◌}
 use Rattle.std.proofs.Common.{arith, inl, inr}

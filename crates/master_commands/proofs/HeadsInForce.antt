@@ -1,4 +1,4 @@
--- The head in force and the mode of a log, once a head took a unit or was settled.
+-- The head in force and the mode of a log, once the head took a unit or the loading ended.
 use Rattle.std.proofs.Common.{◌≡◌, ◌⊎◌, ℕ, inl, inr, Bool, true, false, List, [], ◌∷◌, length, refl, ap, ◌∙◌, arith}
 use Rattle.std.specs.Prelude.{Option, None, Some, not, nat_le, if◌then◌else◌}
 use Rattle.std.specs.Option.{option_map_or}

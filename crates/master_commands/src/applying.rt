@@ -1,4 +1,4 @@
-//! How a command is applied.
+//! How a command is applied to a core.
 
 ghost use Rattle.std.specs.Prelude.{◌⊎◌, ◌≡◌, None, Some, IfOk, IfErr, OnOk, OnErr};
 ghost use Rattle.std.specs.Result.{result_err};
@@ -28,18 +28,21 @@ pub trait Commands {
     /// No test refuses the command.
     ghost passes: { Self → CommandValue → Type 0 };
 
-    /// Which test would refuse a step with this command, if any. It does not look at memory.
+    /// Returns the refusal that the first failing test would give this command, or Ok if the command passes all tests.
+    /// Want of memory is not tested.
     fn would(&self, command: &Command) -> Result<(), Refusal>;
 
-    /// The reply to a command that no test refuses. Nothing changes. Only a reply with a value takes memory.
+    /// Returns the reply to a command that no test refuses, and changes nothing. Only a reply with a value takes
+    /// memory, so only such a reply can be refused.
     fn answer_to(&self, command: &Command) -> Result<Reply, NoMemory>
         requires { passes self.now command.now };
 
-    /// One command: it is answered, and its record and its unit are added; or it is refused, and nothing changes.
+    /// Applies a command of this seat: adds its record and its unit, and returns the record's place and the reply. If a
+    /// test refuses the command or memory runs out, nothing changes.
     fn apply(&mut self, seat: u64, command: Command) -> Result<StepAnswer, Refusal>;
 
-    /// One command, as `apply` does it, wherever it lies. Beside its unit and its record, which has the reply, nothing
-    /// is copied. The answer is the place of the record.
+    /// Applies a command as `apply` does, but borrows the command, and returns only the place of its record. The record
+    /// has the reply. Nothing is copied except to the unit and to the record.
     fn accept(&mut self, seat: u64, command: &CommandRef<'_>) -> Result<u64, Refusal>;
 }
 
@@ -102,7 +105,7 @@ impl Commands for Core {
     }
 }
 
-/// What the tests of a command found, and the reply.
+/// Makes all tests of a command. Returns what they found, and the reply.
 fn consider(core: &Core, command: &CommandRef<'_>) -> Result<(Judged, Reply), Refusal>
     ensures passed { IfOk result (λ _. command_refusal core.now (shown_command command.now) ≡ None) }
     ensures judged { IfOk result (λ considered.
@@ -122,7 +125,8 @@ fn consider(core: &Core, command: &CommandRef<'_>) -> Result<(Judged, Reply), Re
     }
 }
 
-/// Adds the record of a command that passed all tests, and appends the unit of its change. The place of the record.
+/// Adds the record of a command that passed all tests, and appends the unit of its change. Returns the place of the
+/// record. On `Err` the core is as it was.
 fn add(core: &mut Core, accepted: &RecordRef<'_>, judged: &Judged) -> Result<u64, NoMemory>
     requires passed { command_refusal core.old (shown_command accepted.now.command) ≡ None }
     requires judged { IsJudged core.old (shown_command accepted.now.command) judged.now.change
@@ -152,7 +156,8 @@ fn add(core: &mut Core, accepted: &RecordRef<'_>, judged: &Judged) -> Result<u64
     Ok(place as u64)
 }
 
-/// Adds a command other than a get that passed all tests, with the reply that its change tells.
+/// Adds a put or a delete that passed all tests, with the reply that follows from its change. Returns the place of the
+/// record.
 #[inline(always)]
 fn add_change(
     core: &mut Core,
@@ -180,7 +185,7 @@ fn add_change(
     add(core, &accepted, judged)
 }
 
-/// Adds a command that passed all tests, with its reply. The place of its record.
+/// Adds a command that passed all tests, with its reply. Returns the place of its record.
 fn add_judged(
     core: &mut Core,
     seat: u64,
@@ -204,7 +209,8 @@ fn add_judged(
     }
 }
 
-/// The reply to a command, if the index found this for its key. Only a value takes memory.
+/// Makes the reply to a command whose key has the object that was found, or none. Only a reply with a value takes
+/// memory.
 fn reply_from(
     alloc: Global,
     command: &CommandRef<'_>,

@@ -1,4 +1,4 @@
-//! What a command does, from what its key has.
+//! The change that a command makes, which follows from the version that its key has.
 
 ghost use Rattle.std.specs.Prelude.{◌≡◌, ◌≤◌, ℕ, List, Option, None, Some, true, IfOk, IfErr};
 ghost use Rattle.entry.specs.declared.key.Key.{Key};
@@ -20,22 +20,23 @@ use versioned_map::{If, Reply};
 /// What a command does to the map, and so what it appends.
 #[derive(Clone, Copy)]
 pub enum Change {
-    /// Nothing.
+    /// The command changes nothing, and appends nothing.
     Nothing,
-    /// The absent key gets this version.
+    /// An absent key gets an object of this version.
     Create(Version),
-    /// The key goes from the first version to the second.
+    /// The key's object of the first version is replaced by an object of the second version.
     Replace(Version, Version),
-    /// The object of this version ends.
+    /// The key's object of this version is deleted.
     Delete(Version),
 }
 
 /// What the tests of a command found.
 #[derive(Clone, Copy)]
 pub struct Judged {
-    /// What the command does.
+    /// The change that the command makes.
     pub change: Change,
-    /// The hash of the command's key, and the place of the key's object. Without an object the place is 0 of segment 0.
+    /// The hash of the command's key, and the place of the key's object. If the key has no object, the place is offset
+    /// 0 of segment 0.
     pub held: Held,
     /// The version of the key's object, if there is one.
     pub present: Option<Version>,
@@ -45,7 +46,7 @@ pub struct Judged {
 #[derive(Clone, Copy)]
 pub struct VersionsSpent;
 
-/// What a put of an absent key does.
+/// The change that a put of an absent key makes under this condition.
 fn create(when: &If, safe: SafeVersion) -> Result<Change, VersionsSpent>
     ensures done { IfOk result (λ change. Creates safe when.now change) }
     ensures spent { IfErr result (λ _. CreatesSpent safe when.now) }
@@ -59,7 +60,7 @@ fn create(when: &If, safe: SafeVersion) -> Result<Change, VersionsSpent>
     }
 }
 
-/// What a put of a key of this version does.
+/// The change that a put makes under this condition if its key has an object of this version.
 fn replace(when: &If, dead: Version) -> Result<Change, VersionsSpent>
     ensures done { IfOk result (λ change. Replaces dead when.now change) }
     ensures spent { IfErr result (λ _. ReplacesSpent dead when.now) }
@@ -78,7 +79,8 @@ fn replace(when: &If, dead: Version) -> Result<Change, VersionsSpent>
     }
 }
 
-/// What a command does if its key has this version.
+/// The change that a command makes if its key has an object of this version, or none. The error says that no version is
+/// left for the put.
 pub fn change_of(
     command: &CommandRef<'_>,
     safe: SafeVersion,
@@ -101,20 +103,21 @@ pub fn change_of(
 }
 
 impl Change {
+    /// Returns true if the command changes nothing.
     pub fn is_nothing(&self) -> bool
         ensures { result ≡ is_nothing self.now }
     {
         matches!(self, Change::Nothing)
     }
 
-    /// Whether a key gets a place that had none.
+    /// Returns true if an absent key gets an object, so that the index needs one more place.
     pub fn creates(&self) -> bool
         ensures { result ≡ creates self.now }
     {
         matches!(self, Change::Create(_))
     }
 
-    /// The safe version afterwards.
+    /// The safe version after the change, from the safe version before it.
     pub fn safe_after(&self, safe: SafeVersion) -> SafeVersion
         ensures { result ≡ safe_of_change safe self.now }
     {
@@ -125,7 +128,8 @@ impl Change {
         }
     }
 
-    /// The reply to a command other than a get, if its key has an object of this version. It has no value.
+    /// The reply to a put or a delete that makes this change, if its key has an object of this version, or none. Such a
+    /// reply has no value.
     pub fn reply(&self, command: &CommandRef<'_>, present: Option<Version>) -> Reply
         ensures { RepliesFrom present (shown_command command.now) self.now result }
     {
@@ -138,7 +142,7 @@ impl Change {
     }
 }
 
-/// The reply to a command that is no get and changes nothing, if its key has an object of this version.
+/// The reply to a put or a delete that changes nothing, if its key has an object of this version, or none.
 fn unchanged_reply(command: &CommandRef<'_>, present: Option<Version>) -> Reply
     ensures { RepliesFrom present (shown_command command.now) Change.Nothing result }
 {
@@ -149,7 +153,8 @@ fn unchanged_reply(command: &CommandRef<'_>, present: Option<Version>) -> Reply
     }
 }
 
-/// Whether the key and the value of a put are too big for a quarter of a segment of this many bytes.
+/// Returns true for a put whose tombstone and object together are longer than a quarter of a segment of this many
+/// bytes.
 pub fn is_too_big(command: &CommandRef<'_>, segment: u64) -> bool
     ensures { result ≡ is_too_big (shown_command command.now) segment }
 {
@@ -162,7 +167,7 @@ pub fn is_too_big(command: &CommandRef<'_>, segment: u64) -> bool
     }
 }
 
-/// How many whole segments have to be free when a roll begins for a command.
+/// How many whole segments have to be free when a roll begins for a command: 3 for a put, and 2 for other commands.
 pub fn segments_for(command: &CommandRef<'_>) -> u64
     ensures needed { result ≡ segments_for (shown_command command.now) }
     ensures few { result ≤ 3 }

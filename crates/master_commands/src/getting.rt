@@ -1,4 +1,4 @@
-//! How a get is added: it changes neither the head nor the index.
+//! How a get is added. A get changes the history alone, and neither the head nor the index.
 
 ghost use Rattle.std.specs.Prelude.{◌≡◌, ◌∷◌, ◌++◌, [], None, IfOk, OnOk, OnErr};
 ghost use Rattle.entry.specs.View.{shown_key};
@@ -19,8 +19,8 @@ use log_head::Head;
 use master_state::Core;
 use versioned_map::Command;
 
-/// Adds a get that passed all tests, with what its key has. The value is copied from its image into the record. The
-/// place of the record.
+/// Adds a get that passed all tests, with the version and the value that its key has. The value is copied from its
+/// image to the record. Returns the place of the record.
 pub(crate) fn add_get(
     core: &mut Core,
     seat: u64,
@@ -47,7 +47,8 @@ pub(crate) fn add_get(
     Ok(place)
 }
 
-/// Adds the record of a get whose key's object, if there is one, lies at the place in the images.
+/// Adds the record of a get to the history. The object of the key, if there is one, lies at the place that the tests
+/// found.
 fn record_get<'a>(
     head: &'a Head,
     closed: &'a Images,
@@ -74,7 +75,8 @@ fn record_get<'a>(
     Ok(())
 }
 
-/// The reply that shows the object at the place, if the key has one.
+/// The reply to a get: the object at the place that the tests found, or None if the key has no object. The value isn't
+/// copied.
 fn reply_at<'a>(head: &'a Head, closed: &'a Images, judged: &Judged) -> ReplyRef<'a>
     ensures { let images = images_among head.entry.now closed.entry.now.images in
         shown_reply result ≡ found (found_at images judged.now.present judged.now.held.place) }

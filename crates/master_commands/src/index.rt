@@ -1,4 +1,4 @@
-//! What the images tell the index, and what the index finds in them.
+//! The index together with the images: how a key's object is found, and how the index follows a change.
 
 ghost use Rattle.std.specs.Prelude.{◌≡◌, ◌<◌, true};
 ghost use Rattle.std.specs.Option.{option_map};
@@ -20,11 +20,11 @@ use log_head::Head;
 use master_state::image_of;
 use segment::SegmentRef;
 
-/// The images of a log, which tell the index what key stands at a place.
+/// The images of a log as a resolver: they tell the index which key the object at a place has.
 #[derive(Drop)]
 pub struct LogImages<'a> {
     pub head: &'a Head,
-    /// Those of the closed segments.
+    /// The images of the closed segments.
     pub closed: &'a Images,
 }
 
@@ -39,7 +39,7 @@ impl<'a> Resolve for LogImages<'a> {
     }
 }
 
-/// The object that begins at an offset of the image.
+/// The object that begins at this offset of the image, if one does.
 #[inline(always)]
 fn object_in<'a>(image: &SegmentRef<'a>, at: usize) -> Option<ObjectRef<'a>>
     ensures { option_map shown_object result ≡ object_in image.entry.now at }
@@ -50,7 +50,7 @@ fn object_in<'a>(image: &SegmentRef<'a>, at: usize) -> Option<ObjectRef<'a>>
     }
 }
 
-/// The object at a place of the images.
+/// The object at this place of the images, if one is there.
 #[inline(always)]
 pub(crate) fn object_there<'a>(
     head: &'a Head,
@@ -64,8 +64,8 @@ pub(crate) fn object_there<'a>(
     object_in(&image, place.at)
 }
 
-/// The place and the object of a key of this hash. If its candidate is its place, the image is looked up once, and the
-/// entry is read once.
+/// The place and the object of a key with this hash, or None if the index finds no object of the key. If the candidate
+/// is already the key's place, one image is looked up and one entry is read.
 #[inline(always)]
 pub fn find_object<'a>(
     head: &'a Head,
@@ -81,7 +81,7 @@ pub fn find_object<'a>(
     let place = index.candidate(hash)?;
     match object_there(head, closed, place) {
         Some(object) if *key == object.key => Some((place, object)),
-        // The result is taken apart, so that the usual one doesn't lie in memory.
+        // The match makes the result anew, so that the compiler doesn't keep the result of the usual case in memory.
         _ => match find_by_keys(head, closed, index, hash, key) {
             Some((place, object)) => Some((place, object)),
             None => None,
@@ -89,7 +89,8 @@ pub fn find_object<'a>(
     }
 }
 
-/// The same if another key has the hash, so that more keys are read.
+/// Finds the object of a key whose candidate is the place of another key's object. The keys at the other places under
+/// the hash are read.
 #[inline(never)]
 fn find_by_keys<'a>(
     head: &'a Head,
@@ -109,8 +110,8 @@ fn find_by_keys<'a>(
     }
 }
 
-/// Changes the index as the key's object changed. `held` has the key's hash, and its place if it has one. The new
-/// object, if there is one, is at `place`.
+/// Changes the index as the change says. `held` has the key's hash, and the place of its old object if there is one.
+/// The new object, if there is one, is at `place`.
 #[inline(always)]
 pub fn move_object(index: &mut Index, change: &Change, held: Held, place: Place)
     requires room { creates change.now ≡ true → 0 < index.old.room }

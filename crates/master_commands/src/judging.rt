@@ -1,4 +1,4 @@
-//! How a command is judged: which test refuses it, and what the tests found.
+//! The tests of a command: which test refuses it, and what they find.
 
 ghost use Rattle.std.specs.Prelude.{◌≡◌, None, Some, IfOk, IfErr, IfSome};
 ghost use Rattle.std.specs.Result.{result_err};
@@ -21,7 +21,7 @@ use hash_index::{Held, Place};
 use history::{CommandRef, key_of};
 use master_state::{Core, Refusal};
 
-/// The tests that come before the key is looked up.
+/// Makes the tests that come before the key is looked up. The first failing test gives the refusal.
 fn admit(core: &Core, command: &CommandRef<'_>) -> Result<(), Refusal>
     ensures { result_err result ≡ early_refusal core.now (shown_command command.now) }
 {
@@ -40,7 +40,8 @@ fn admit(core: &Core, command: &CommandRef<'_>) -> Result<(), Refusal>
     Ok(())
 }
 
-/// Whether the unit of a change, if it makes one, can be appended.
+/// Tests if the unit of a change can be appended. A change without a unit passes. The refusal is Rolling if a roll is
+/// under way or has to come first, or a failover is open. It is Full if no roll may begin.
 fn fit(core: &Core, command: &CommandRef<'_>, change: &Change) -> Result<(), Refusal>
     ensures { IsChangeNow core.now (shown_command command.now) change.now →
         result_err result ≡ unit_refusal core.now (shown_command command.now)
@@ -62,7 +63,7 @@ fn fit(core: &Core, command: &CommandRef<'_>, change: &Change) -> Result<(), Ref
     Err(Refusal::Full)
 }
 
-/// The place and the object of the command's key, which has this hash.
+/// The place and the object of the command's key, which has this hash, or None if the key has no object.
 #[inline(always)]
 fn look_up<'a>(
     core: &'a Core,
@@ -84,7 +85,7 @@ fn look_up<'a>(
     )
 }
 
-/// The place that was found; 0 of segment 0 if there is none.
+/// The place that was found, or offset 0 of segment 0 if none was found.
 fn place_of(found: &Option<(Place, ObjectRef<'_>)>) -> Place
     ensures segment { result.segment ≡ segment_at (place_found found.now) }
     ensures place { (p : PlaceValue) → place_found found.now ≡ Some p → result ≡ p }
@@ -95,7 +96,7 @@ fn place_of(found: &Option<(Place, ObjectRef<'_>)>) -> Place
     }
 }
 
-/// The version of the object that was found.
+/// The version of the object that was found, if any.
 fn version_of(found: &Option<(Place, ObjectRef<'_>)>) -> Option<Version>
     ensures { result ≡ version_in (object_found found.now) }
 {
@@ -105,7 +106,7 @@ fn version_of(found: &Option<(Place, ObjectRef<'_>)>) -> Option<Version>
     }
 }
 
-/// Makes all tests, in order. What they found, and what the command's key has.
+/// Makes all tests of a command, in order. Returns what they found, and the place and the object of the command's key.
 #[inline(always)]
 pub(crate) fn judge<'a>(
     core: &'a Core,
@@ -138,7 +139,7 @@ pub(crate) fn judge<'a>(
     Ok((judged, found))
 }
 
-/// What the tests of a command found, as numbers alone.
+/// Makes all tests of a command, in order. Returns what they found, without a borrow of the core.
 pub(crate) fn weigh(core: &Core, command: &CommandRef<'_>) -> Result<Judged, Refusal>
     ensures passed { IfOk result (λ _. command_refusal core.now (shown_command command.now) ≡ None) }
     ensures judged { IfOk result (λ judged.

@@ -1,10 +1,10 @@
-//! What a command does to what a master knows, and how a master is loaded before its history begins. It takes nothing
-//! from the fleet.
+//! What a command does to a core, and how a core is loaded before its history begins. Neither hands the fleet any op.
 //!
-//! `Commands::apply` applies a command whole or not at all. It answers as the versioned map does, and adds the record
-//! and the unit to the log. `Commands::accept` does the same to a command that lies elsewhere, whose reply is read from
-//! its record. `Loads::load` adds an object that has its version already. `specs/Change.antt` says what a
-//! command does to its key, and `specs/Index.antt` what becomes of the index.
+//! `Commands::apply` applies a command whole or not at all. It answers what the versioned map replies, and adds the
+//! record to the history and the unit to the head. `Commands::accept` applies a command that the caller keeps, and
+//! returns the place of its record, from which the reply may be read. `Loads::load` adds an object that has its version
+//! already. `specs/Change.antt` says what a command does to its key, and `specs/Index.antt` says what becomes of the
+//! index.
 #![tactic(auto)]
 
 mod applying;

@@ -20,25 +20,28 @@ use log_head::Head;
 use master_state::{Core, Loaded, Posting, Refusal};
 use segment::AppendFault;
 
-/// How a core is loaded before its history begins.
+/// The steps that load a core before its history begins.
 pub trait Loads {
-    /// The object may be loaded: the core has no history yet, and the object is new to it.
+    /// The object may be loaded: the core is bare, the object's key was not loaded before, and the object's version is
+    /// below the safe version.
     ghost may_load: { Self → ObjectValue → Type 0 };
-    /// All that was loaded is pushed, and the core has no history yet.
+    /// The history may begin: the core is bare, and nothing is left to be pushed.
     ghost may_begin: { Self → Type 0 };
 
-    /// Makes the index as large as it is to be for so many objects, as far as memory is given. Nothing else changes.
+    /// Takes memory ahead for an index of so many objects. If memory runs out, the index grows later, as objects come.
+    /// Nothing that the core knows changes.
     fn presize(&mut self, objects: usize);
 
-    /// Loads an object with its own version: it is appended to the head, and the history begins with it. Or it is
-    /// refused, and nothing changes. Its key was not loaded before, and its version is below the safe one.
+    /// Loads an object, which keeps its version: it is appended to the head, and the opening of the history gets it. If
+    /// a test refuses the object or memory runs out, nothing changes.
     fn load(&mut self, object: &ObjectRef<'_>) -> Result<(), Refusal>
         requires { may_load self.old (shown_object object.now) };
 
-    /// Whether the loading may end: no roll is under way, and each replica has all that was loaded.
+    /// Returns true if the loading may end: no roll or failover is under way, and each replica of the head has all
+    /// units.
     fn can_finish(&self) -> bool;
 
-    /// Ends the loading. The history begins with what was loaded.
+    /// Ends the loading. The history begins with the objects that were loaded.
     fn begin_history(&mut self)
         requires { may_begin self.old };
 }
@@ -93,7 +96,7 @@ impl Loads for Core {
     }
 }
 
-/// The tests of an object that is to be loaded.
+/// Makes the tests of an object that is to be loaded. The first failing test gives the refusal.
 fn admit_object(core: &Core, object: &ObjectRef<'_>) -> Result<(), Refusal>
     ensures { result_err result ≡ load_refusal core.now (shown_object object.now) }
 {
@@ -116,7 +119,8 @@ fn admit_object(core: &Core, object: &ObjectRef<'_>) -> Result<(), Refusal>
     Err(Refusal::Full)
 }
 
-/// Whether a put of the object would be too big for a quarter of a segment of this many bytes.
+/// Returns true if a put of the object would be too big: its tombstone and its object together would be longer than a
+/// quarter of a segment of this many bytes.
 fn is_object_too_big(object: &ObjectRef<'_>, segment: u64) -> bool
     ensures { result ≡ is_object_too_big (shown_object object.now) segment }
 {
@@ -124,7 +128,7 @@ fn is_object_too_big(object: &ObjectRef<'_>, segment: u64) -> bool
     bytes as u64 > segment / 4
 }
 
-/// How many bytes the object has in a segment.
+/// The length of the object's entry, in bytes.
 fn object_len(object: &ObjectRef<'_>) -> usize
     ensures len { result ≡ length (text_of (loaded_unit (shown_object object.now))) }
     ensures small { result ≤ 2 ^ 32 }
@@ -143,7 +147,8 @@ fn entry_of<'a>(object: &ObjectRef<'a>) -> EntryRef<'a>
     })
 }
 
-/// Appends an object that fits, and sets its place in the index. On `Err` only memory was taken.
+/// Appends an object that fits to the head, and adds its place to the index. On `Err` nothing changed, except that
+/// memory may have been reserved.
 fn append_object(
     head: &mut Head,
     index: &mut Index,

@@ -1,4 +1,4 @@
-//! From a command and its change to the unit that the head takes.
+//! The unit of a command's change, and how it is appended to the head.
 
 ghost use Rattle.std.specs.Prelude.{◌≡◌, true, false, ℕ, ◌+◌, ◌^◌, ◌<◌, ◌≤◌, List, [], ◌∷◌, ◌++◌, length};
 ghost use Rattle.std.specs.Prelude.{OnOk, OnErr, IsErrOf};
@@ -27,7 +27,7 @@ use history::{CommandRef, History, ValueRef, key_of};
 use log_head::Head;
 use segment::AppendFault;
 
-/// The object that a put makes, as it lies in the command.
+/// The object that a put makes. Its key and its value are borrowed from the command.
 fn object_of<'a>(key: &KeyRef<'a>, version: Version, value: &ValueRef<'a>) -> EntryRef<'a>
     ensures { shown result ≡ object_entry (shown_key key.now) version value.now.bytes.now }
 {
@@ -38,7 +38,7 @@ fn object_of<'a>(key: &KeyRef<'a>, version: Version, value: &ValueRef<'a>) -> En
     })
 }
 
-/// The tombstone of the key's object of this version, which lies in this segment.
+/// The tombstone that ends the key's object of this version, which lies in this segment.
 fn tombstone_of<'a>(key: &KeyRef<'a>, version: Version, segment: u64) -> EntryRef<'a>
     ensures { shown result ≡ tombstone_entry (shown_key key.now) version segment }
 {
@@ -49,7 +49,7 @@ fn tombstone_of<'a>(key: &KeyRef<'a>, version: Version, segment: u64) -> EntryRe
     })
 }
 
-/// Where in the unit of a change its object begins.
+/// The offset at which the object of a change begins in the unit: behind the tombstone if there is one, and else 0.
 #[tactic(auto, using(crate::proofs::Changes::front_of_replacing))]
 fn object_offset(command: &CommandRef<'_>, change: &Change) -> usize
     ensures behind { (segment : ℕ) (front : List Entry) (o : Object) →
@@ -63,7 +63,7 @@ fn object_offset(command: &CommandRef<'_>, change: &Change) -> usize
     }
 }
 
-/// How many bytes the unit of a change has.
+/// The length of the unit of a change, in bytes; 0 if the change has no unit.
 pub fn unit_len(command: &CommandRef<'_>, change: &Change) -> usize
     ensures len { (segment : ℕ) →
         result ≡ length (text_of (unit_of_change segment (shown_command command.now) change.now)) }
@@ -87,7 +87,8 @@ pub fn unit_len(command: &CommandRef<'_>, change: &Change) -> usize
     }
 }
 
-/// Appends the unit of a change to the head. The dead object, if there is one, lies in this segment.
+/// Appends the unit of a change to the head, as the unit of the record with this number. The dead object, if there is
+/// one, lies in this segment. On `Err` the head is as it was.
 fn append_change(
     head: &mut Head,
     command: &CommandRef<'_>,
@@ -127,8 +128,9 @@ fn append_change(
     }
 }
 
-/// Appends the unit of a command's change, which fits, and changes the index. The command's record will have this
-/// number, and the history gets room for it; so many of its bytes are key and value. On `Err` only memory was taken.
+/// Appends the unit of a command's change, which fits, and changes the index. The history gets room for the command's
+/// record, which will have this number, and whose key and value have so many bytes. On `Err` nothing changed, except
+/// that memory may have been reserved.
 pub fn enact(
     head: &mut Head,
     index: &mut Index,

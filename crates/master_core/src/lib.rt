@@ -1,7 +1,6 @@
-//! What a master knows without its fleet, and the steps that take nothing from the fleet. The crate has nothing of its
-//! own, and shows the names of five others: `master_state` (what a master knows), `master_commands` (what a command
-//! does to it, and how it is loaded), `master_rolls` (rolls), `master_space` (compaction and cleaning) and
-//! `master_mending` (the pushes of a failover).
+//! A master without its fleet: its core, and what steps do to the core. The crate defines nothing, and exports the
+//! names of five other crates: `master_state` (the core), `master_commands` (commands, and the loading of a core),
+//! `master_rolls` (rolls), `master_space` (compaction and cleaning) and `master_mending` (the pushes of a failover).
 #![tactic(auto)]
 
 pub use cleaner::{PassFault, Survivors};

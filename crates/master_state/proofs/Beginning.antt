@@ -1,4 +1,4 @@
--- A new core.
+-- The core of a new master has the invariant.
 use Rattle.std.proofs.Common.{◌≡◌, inl, inr, ℕ, ◌<◌, ◌≤◌, Bool, true, false, ◌==◌, List, [], length, refl, sym, ap}
 use Rattle.std.proofs.Common.{subst, ◌∙◌, arith}
 use Rattle.std.specs.Prelude.{Some, None, IfSome, not, nat_le, if◌then◌else◌}

@@ -1,4 +1,4 @@
--- The test that comes before all others of a step, and what a step without a failover leaves.
+-- The test that comes first for a step, and what holds if it refuses nothing: no failover is open.
 use Rattle.std.proofs.Common.{◌≡◌, Bool, true, false, cond, refl, sym, subst}
 use Rattle.std.specs.Prelude.{Option, Some, None, IfSome, is_some}
 use Rattle.master_state.specs.declared.failover.Failover.{Failover}

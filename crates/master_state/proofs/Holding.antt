@@ -1,4 +1,4 @@
--- What is kept if the index changes.
+-- Which entries are kept if the index changes.
 use Rattle.std.proofs.Common.{◌≡◌, ℕ, true, List, refl}
 use Rattle.entry.specs.declared.key.Key.{Key}
 use Rattle.entry.specs.declared.entry.Entry.{Entry}

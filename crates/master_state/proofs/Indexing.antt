@@ -1,4 +1,4 @@
--- An index leads to the same objects where images grow, and to a new one where it is set.
+-- An index leads to the same objects once images have grown, and to a new object once it is set to its place.
 use Rattle.std.proofs.Common.{◌≡◌, ◌⊎◌, ℕ, inl, inr, List, [], ◌∷◌, ◌++◌, length, drop, refl, sym, ap, subst, ◌∙◌}
 use Rattle.std.proofs.Common.{append_assoc}
 use Rattle.std.specs.Prelude.{Option, Some, None}

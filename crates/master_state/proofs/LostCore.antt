@@ -1,4 +1,4 @@
--- A core of which a backup has failed.
+-- A core still has the invariant once a backup has failed and a failover began.
 use Rattle.std.proofs.Common.{◌≡◌, ◌⊎◌, inl, inr, ℕ, zero, suc, ◌+◌, ◌-◌, ◌<◌, ◌≤◌, Bool, true, false, List, [], ◌∷◌}
 use Rattle.std.proofs.Common.{◌++◌, length, map, filter, get_or, refl, sym, ap, subst, ◌∙◌, arith, add-one}
 use Rattle.std.specs.Prelude.{Option, Some, None, IfSome, is_some, is_none, not, nat_le, nat_lt, ◌==◌, ◌||◌}

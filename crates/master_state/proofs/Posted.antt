@@ -1,4 +1,4 @@
--- A core stays valid whatever its ledger has, whether it halts, and if replicas of its head take more.
+-- A core keeps the invariant when its ledger changes, when it halts, and when replicas of its head take more units.
 use Rattle.std.proofs.Common.{◌≡◌, ℕ, ◌≤◌, Bool, true, List, length, refl, arith}
 use Rattle.std.specs.Prelude.{Option, Some, None, IfSome, not, nat_le}
 use Rattle.std.specs.Option.{option_map_or}

@@ -1,4 +1,4 @@
--- The segments that a commit's digest takes in, and how many bytes each has.
+-- The survivors that the digest of a commit takes in, each with its length in bytes.
 use Rattle.std.proofs.Common.{◌≡◌, ℕ, zero, suc, ◌≤◌, Bool, true, false, List, [], ◌∷◌, length, refl, sym, ap, subst}
 use Rattle.std.proofs.Common.{◌∙◌, arith}
 use Rattle.std.specs.Prelude.{Option, Some, None, IfSome, ◌==◌, unwrap_or, if◌then◌else◌}

@@ -48,7 +48,7 @@ early_refusal d command =
     else if nat_le d.config.history (length d.history) then Some HistoryFull
     else None
 
--- the unit is within the segment's bytes
+-- the head's image with the unit isn't longer than a segment
 abbrev pub has_room : MasterData → List Entry → Bool
 has_room d unit = nat_le (length (text_of d.head.image) + length (text_of unit)) d.config.segment
 
@@ -56,8 +56,8 @@ abbrev pub is_empty : List Entry → Bool
 is_empty [] = true
 is_empty (e ∷ es) = false
 
--- why the unit of a command is not appended: it doesn't fit the open head and no roll may begin for the command, or a
--- roll is due
+-- why the unit of a command is not appended. Full: the unit doesn't fit the open head, and no roll may begin for the
+-- command. Rolling: the unit doesn't fit but a roll may begin, the head isn't open, or a failover is open.
 abbrev pub unit_refusal : MasterData → Command → List Entry → Option Refusal
 unit_refusal d command unit =
     if is_empty unit then None
@@ -65,11 +65,11 @@ unit_refusal d command unit =
     else if not (is_working d && has_room d unit) then Some Rolling
     else None
 
--- the segment in which the index finds the command's key; which one doesn't matter if it finds none
+-- the segment in which the index finds the command's key; 0, which nothing depends on, if the index doesn't find it
 abbrev pub dead_segment : MasterData → Command → ℕ
 dead_segment d command = segment_at (find d (command_key command))
 
--- what the command appends
+-- the unit that the command appends now
 abbrev pub unit_now : MasterData → Command → List Entry
 unit_now d command = unit_of (state_now d) (dead_segment d command) command
 
@@ -79,20 +79,21 @@ late_refusal d command =
     if is_spent (state_now d).safe ((state_now d).contents (command_key command)) command then Some VersionsSpent
     else unit_refusal d command (unit_now d command)
 
--- the first test that refuses the command, apart from memory; None if all are passed
+-- the first test that refuses the command, want of memory apart; None if the command passes all tests
 abbrev pub command_refusal : MasterData → Command → Option Refusal
 command_refusal d command =
     if is_none (early_refusal d command) then late_refusal d command else early_refusal d command
 
 -- ---- other steps
 
--- the test that comes before all others: while a failover is open, none of these steps is made
+-- the test that comes first for a compaction, a pass, a copy, a seal and a free: none of these steps is made once the
+-- master is halted or while a failover is open
 abbrev pub step_refusal : MasterData → Option Refusal
 step_refusal d = if d.is_halted then Some Halted else if is_some d.failover then Some Rolling else None
 
 -- ---- a roll
 
--- the test that refuses a roll by itself, apart from memory
+-- the test that refuses a roll that is asked for by itself, want of memory apart
 abbrev pub roll_refusal : MasterData → Option Refusal
 roll_refusal d =
     if d.is_halted then Some Halted
@@ -103,11 +104,11 @@ roll_refusal d =
 
 -- ---- a compaction
 
--- the id is the head's, or that of the head that a roll is opening
+-- the id is that of the head, or that of the head that a roll is opening
 abbrev pub is_head : HeadValue → ℕ → Bool
 is_head h id = (h.id == id) || option_map_or (λ (r : Roll). r.id == id) h.roll false
 
--- the test that refuses a compaction, apart from memory
+-- the test that refuses a compaction of this segment, want of memory apart
 abbrev pub compact_refusal : MasterData → ℕ → Option Refusal
 compact_refusal d id =
     if is_some (step_refusal d) then step_refusal d
@@ -118,8 +119,8 @@ compact_refusal d id =
 
 -- ---- a pass
 
--- why the first of some segments that may not be a victim may not: it was there before, is a head, or isn't in the
--- digest in force
+-- why one of these segments may not be a victim; the first such segment counts. It is among the segments before it, it
+-- is a head, or the digest in force doesn't list it.
 abbrev pub victim_fault : MasterData → List ℕ → List ℕ → Option PassFault
 victim_fault d before [] = None
 victim_fault d before (id ∷ ids) =
@@ -128,7 +129,7 @@ victim_fault d before (id ∷ ids) =
     else if not (has_id (digest_of d.head.image) id) then Some (NotInLog id)
     else victim_fault d (id ∷ before) ids
 
--- why the segments may not be the victims of a pass, their bytes apart
+-- why these segments may not be the victims of a pass, whatever bytes they have
 abbrev pub victims_fault : MasterData → List ℕ → Option PassFault
 victims_fault d ids =
     if is_some d.pass then Some PassOpen
@@ -136,12 +137,12 @@ victims_fault d ids =
     else if nat_lt 32 (length ids) then Some TooMany
     else victim_fault d [] ids
 
--- how many survivors a pass over these victims has: as many as what the victims keep fills
+-- how many survivors a pass over these victims has: as many as the kept entries of the victims fill
 abbrev pub survivors_for : MasterData → List ℕ → ℕ
 survivors_for d ids = survivors_over d.config.segment (log_set_ids d) d.index (images_in d.closed) ids
 
--- The test that refuses a pass whose victims may be that, apart from memory. It has at most four survivors, which have
--- the next ids.
+-- The test that refuses a pass over segments that may be victims, want of memory apart. The pass may have at most four
+-- survivors, and these take the next ids.
 abbrev pub space_refusal : MasterData → List ℕ → Option Refusal
 space_refusal d ids =
     if nat_lt 4 (survivors_for d ids) then Some (Pass TooMuch)
@@ -149,28 +150,28 @@ space_refusal d ids =
     else if nat_lt (2 ^ 62 + 1) (d.next + survivors_for d ids) then Some SegmentsSpent
     else None
 
--- the test that refuses a pass, apart from memory
+-- the test that refuses a pass over these victims, want of memory apart
 abbrev pub clean_refusal : MasterData → List ℕ → Option Refusal
 clean_refusal d ids =
     if is_some (step_refusal d) then step_refusal d
     else option_map_or (λ (fault : PassFault). Some (Pass fault)) (victims_fault d ids) (space_refusal d ids)
 
--- the test that refuses a copy, memory apart: no pass is open, or it is at its end
+-- the test that refuses a copy, want of memory apart. Nothing: no pass is open, or the open pass has copied all.
 abbrev pub copy_refusal : MasterData → Option Refusal
 copy_refusal d =
     if is_some (step_refusal d) then step_refusal d
     else if option_map_or (λ (p : OpenPass). not (is_at_end p)) d.pass false then None
     else Some Nothing
 
--- the test that refuses a seal, what the fleet answers apart: no pass is open, it isn't at its end, or all replicas of
--- its survivors are sealed
+-- the test that refuses a seal, what the fleet answers apart. Nothing: no pass is open, the open pass has something to
+-- copy, or all replicas of its survivors are sealed.
 abbrev pub seal_refusal : MasterData → Option Refusal
 seal_refusal d =
     if is_some (step_refusal d) then step_refusal d
     else if is_none (next_seal d) then Some Nothing
     else None
 
--- the test that refuses a free, what the fleet answers apart: nothing waits
+-- the test that refuses a free, what the fleet answers apart. Nothing: no segment waits to be freed.
 abbrev pub free_refusal : MasterData → Option Refusal
 free_refusal d =
     if is_some (step_refusal d) then step_refusal d
@@ -179,16 +180,16 @@ free_refusal d =
 
 -- ---- a push
 
--- each replica is open and has each unit, and no roll is under way
+-- each replica of the head is open and has each unit, and no roll is under way
 abbrev pub is_pushed : HeadValue → Bool
 is_pushed h = is_open h && (fewest (length h.units) h.taken == length h.units)
 
--- nothing waits to be pushed
+-- nothing is left to be pushed: no failover is open, and the head and its roll need no push
 abbrev pub is_done : MasterData → Bool
 is_done d = is_none d.failover && is_pushed d.head
 
--- The test that refuses a push, what the fleet answers apart. A failover whose new head may not be opened halts the
--- master.
+-- The test that refuses a push, what the fleet answers apart. If the new head of a failover may not be opened, this
+-- test doesn't refuse the push; the master halts then.
 abbrev pub push_refusal : MasterData → Option Refusal
 push_refusal d =
     if d.is_halted then Some Halted

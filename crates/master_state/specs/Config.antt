@@ -1,4 +1,4 @@
--- The limits of a configuration, and the first of them that one is outside of.
+-- The limits of a configuration, and the first limit that a configuration breaks.
 use Rattle.std.specs.Prelude.{◌*◌, ◌/◌, ◌%◌, ◌^◌, ◌==◌, ◌&&◌, Bool, not, nat_le, Option, Some, None, if◌then◌else◌}
 use Rattle.entry.specs.Format.{is_within}
 use Rattle.entry.specs.Tablet.{are_tablets}
@@ -7,7 +7,7 @@ use Rattle.master_state.specs.declared.config.ConfigFault.{ConfigFault}
 use Rattle.master_state.specs.declared.config.ConfigFault.TheVariants.{BadBackups, BadStep, BadSegment, BadSeglet}
 use Rattle.master_state.specs.declared.config.ConfigFault.TheVariants.{BadBudget, BadTablets, BadHistory, BadFormat}
 
--- at least one replica, on as many backups or more, and at most 64 of those
+-- a segment has at least one replica, there are at least as many backups as replicas, and at most 64 backups
 abbrev pub has_backups : Config → Bool
 has_backups c = nat_le 1 c.replicas && nat_le c.replicas c.backups && nat_le c.backups 64
 
@@ -20,7 +20,7 @@ has_seglet c = is_within 64 65536 c.seglet
 abbrev pub has_segment : Config → Bool
 has_segment c = is_within 512 8388608 c.segment && ((c.segment % c.seglet) == 0)
 
--- the seglets of four segments or more
+-- the memory has at least the seglets of four segments, and at most 2^32 seglets
 abbrev pub has_budget : Config → Bool
 has_budget c = is_within (4 * (c.segment / c.seglet)) (2 ^ 32) c.seglets
 

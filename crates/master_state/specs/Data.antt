@@ -21,16 +21,16 @@ pub record Origin : Type 0 where
   pub objects : List Object
   pub safe : ℕ
 
--- a new master's: no objects
+-- the origin of a new master: no objects
 abbrev pub no_origin : Origin
 no_origin = record { objects = []; safe = 1 }
 
 pub record MasterData : Type 0 where
   pub config : Config
   pub head : HeadValue
-  -- the closed segments of the log, and the survivors of the open pass
+  -- the images of the closed segments of the log, and those of the survivors of the open pass
   pub closed : List Image
-  -- the first id that no segment had yet
+  -- the least id that no segment of this master has had
   pub next : ℕ
   -- where the live objects lie: the places that the index holds
   pub index : Places
@@ -45,15 +45,15 @@ pub record MasterData : Type 0 where
   pub failed : List ℕ
   -- the failover that is open
   pub failover : Option Failover
-  -- no step is accepted any more
+  -- the master accepts no further step
   pub is_halted : Bool
   pub origin : Origin
-  -- what its backups answered, the last first
+  -- what the master's backups answered, the last answer first
   pub ledger : List Posting
-  -- the heads that a roll was opening as the last failover began, until its new head is in force
+  -- the heads that a roll was opening as the last failover began; empty again once that failover's new head is in force
   pub abandoned : List Start
 
--- a new master's
+-- the data of a new master
 abbrev pub fresh_data : Config → MasterData
 fresh_data config = record {
   config = config;

@@ -39,22 +39,25 @@ use Rattle.cleaner.specs.compactor.Places.{keys_in}
 use Rattle.master_state.specs.Index.{LiesFound}
 use Rattle.master_state.specs.Log.{opening_of, is_opened, is_headless, state_now, images_of, find, log_set_ids}
 
--- The index leads to the objects that the versioned map has, and to no other.
+-- The index leads from each key to the object that the versioned map has of it, and from no other key to an object. The
+-- safe version is that of the versioned map.
 pub record IsIndex (d : MasterData) : Type 0 where
   pub kept : AreKept (keys_in (images_of d)) d.index
   pub lies : (k : Key) → LiesFound (images_of d) k (find d k) ((state_now d).contents k)
   pub safe : d.safe ≡ (state_now d).safe
 
--- the ids that a digest lists beside the head in force, once it leaves out these and takes in those
+-- the ids of the log, the head in force included, without the victims and with the survivors
 abbrev pub listed_with : MasterData → List ℕ → List ℕ → List ℕ
 listed_with d victims survivors = all_inserted survivors (without victims (ids_of (head_of d.head).start))
 
--- what the digest of a roll lists: the whole log, or what a commit leaves of it
+-- the ids that the digest of a roll lists beside its own head: those of the whole log, or for a commit those of the log
+-- with the survivors in place of the victims
 abbrev pub listed_now : MasterData → List ℕ
 listed_now d =
     if is_committing d then listed_with d (victims_of d.pass) (survivors_of d.pass) else ids_of (head_of d.head).start
 
--- A roll is to a head that lists the log, and that is newer than the head in force.
+-- What holds of a roll that is under way: the head that it opens lists the log, and has a greater id than the head in
+-- force.
 pub record IsRollOf (d : MasterData) (r : Roll) : Type 0 where
   pub image : IsNewImage d.config.master r
   pub lists : (start_of r).others ≡ listed_now d
@@ -62,13 +65,14 @@ pub record IsRollOf (d : MasterData) (r : Roll) : Type 0 where
   pub newer : d.head.id < r.id
   pub used : r.id < d.next
 
--- A head before its log: it holds nothing, and lists no other segment.
+-- What holds of a master's head before any head is in force: it has no objects or tombstones, and lists no other
+-- segment.
 pub record IsFirst (h : HeadValue) : Type 0 where
   pub others : (head_of h).start.others ≡ []
   pub loaded : (head_of h).loaded ≡ []
   pub units : h.units ≡ []
 
--- the images are counted by the sizes of the configuration
+-- the images are counted by the segment, the seglet and the budget of the configuration
 pub record AreImagesOf (c : Config) (v : ImagesValue) : Type 0 where
   pub segment : v.segment ≡ c.segment
   pub seglet : v.seglet ≡ c.seglet
@@ -76,19 +80,19 @@ pub record AreImagesOf (c : Config) (v : ImagesValue) : Type 0 where
 
 -- ---- an open pass
 
--- no id is there twice
+-- no id is in the list twice
 abbrev pub AreApart : List ℕ → Type 0
 AreApart [] = Unit {0}
 AreApart (s ∷ ids) = (has ids s ≡ false) × AreApart ids
 
--- The victims of a pass are at most 32 closed segments, each once.
+-- The victims of a pass are 1 to 32 closed segments of the digest in force, each once.
 pub record AreVictims (d : MasterData) (victims : List ℕ) : Type 0 where
   pub some : 0 < length victims
   pub few : length victims ≤ 32
   pub apart : AreApart victims
   pub older : AllByRecursion (λ (s : ℕ). has (head_of d.head).start.others s ≡ true) victims
 
--- A survivor of a pass is no segment of a digest yet.
+-- No digest lists a survivor of an open pass yet. A survivor begins with its header, and isn't longer than a segment.
 pub record IsSurvivor (d : MasterData) (s : ℕ) : Type 0 where
   pub outside : has (ids_of (head_of d.head).start) s ≡ false
   pub not_new : IfSome d.head.roll (λ r. (r.id == s) ≡ false)
@@ -102,8 +106,8 @@ pub record AreSurvivors (d : MasterData) (survivors : Survivors) : Type 0 where
   pub few : survivors.count ≤ 4
   pub each : (s : ℕ) → IsAmong s (survivor_ids survivors) → IsSurvivor d s
 
--- What a pass needs until its commit begins: a whole segment, and places for its survivors and the next head in the
--- digest.
+-- What has to stay free until the commit of a pass begins: a whole segment of memory, and places in the digest for the
+-- survivors and the next head, in place of the victims.
 pub record IsSpare (d : MasterData) (victims survivors : ℕ) : Type 0 where
   pub free : whole_seglets d.config ≤ free_seglets d
   pub listed : length (newest_digest d.head) + survivors + 1 ≤ most_segments d.config + victims
@@ -112,36 +116,38 @@ pub record IsOpenPass (d : MasterData) (p : OpenPass) : Type 0 where
   pub pass : IsPass d.index.seed d.closed p
   pub victims : AreVictims d p.victims
   pub survivors : AreSurvivors d p.survivors
-  -- the survivors have room for all that is still to be copied
+  -- the survivors have room for all entries that are still to be copied
   pub rooms : HasRoomsIn d.config.segment (log_set_ids d) p d.closed d.index
   pub sealed : (s : ℕ) → IsAmong s (survivor_ids p.survivors) → replicas_of d.closed s ≤ d.config.replicas
-  -- what the index finds in a victim is still to be copied
+  -- an object that the index finds in a victim is still to be copied
   pub live : (k : Key) (q : Place) → find d k ≡ Some q → IsAmong q.segment p.victims
       → IsAmong q (rest_of (images_in d.closed) p)
-  -- nothing is sealed before all is copied
+  -- no survivor is sealed before all entries are copied
   pub unsealed : is_at_end p ≡ false → (s : ℕ) → IsAmong s (survivor_ids p.survivors) → replicas_of d.closed s ≡ 0
-  -- a failover may use what is kept for the commit
+  -- if no backup has failed, what the commit needs is free until it begins; a failover may use it
   pub spare : d.failed ≡ [] → p.is_committing ≡ false → IsSpare d (length p.victims) p.survivors.count
-  -- a commit is a roll of a pass that is ready
+  -- if the pass is committing, a roll is under way and the pass is ready
   pub commits : p.is_committing ≡ true → IsSome d.head.roll
       × (is_ready_pass d.config.replicas d.closed p ≡ true)
 
 -- ---- backups that failed
 
--- The backups that failed are some of the configuration's, each once, and as many as replicas are left.
+-- The backups that failed are backups of the configuration, each listed once. At least as many backups are left as a
+-- segment has replicas.
 pub record AreFailed (d : MasterData) : Type 0 where
   pub few : length d.failed + d.config.replicas ≤ d.config.backups
   pub there : AllByRecursion (λ (b : ℕ). b < d.config.backups) d.failed
   pub apart : AreApart d.failed
-  -- under format 1 a failure halts
+  -- backups are counted as failed under format 2 only: under format 1 a failure halts the master
   pub two : (d.failed ≡ [] → ⊥) → d.config.format ≡ 2
 
--- each segment of the digest in force has all its replicas
+-- each closed segment of the digest in force has all its replicas
 abbrev pub AreWhole : MasterData → Type 0
 AreWhole d = first_lacking d.config.replicas d.closed (head_of d.head).start.others ≡ None
 
--- What holds of an open failover. In its first part no roll is under way, in the next two there is one, unless no head
--- was open before, and in the last one its head is in force and some replica of another segment is lost.
+-- What holds of an open failover. In the part Mends no roll is under way. In the parts Opens and Closes a roll is under
+-- way; but if no head was in force before, Opens has no roll, and Closes doesn't come. In the part Repairs the new head
+-- is in force without units, and some closed segment lacks a replica.
 pub record IsFailover (d : MasterData) (f : Failover) : Type 0 where
   pub some : d.failed ≡ [] → ⊥
   pub closed : f.closed < d.config.replicas
@@ -154,7 +160,7 @@ pub record IsFailover (d : MasterData) (f : Failover) : Type 0 where
       × (is_opened d.head ≡ true) × (d.head.units ≡ []) × ((head_of d.head).loaded ≡ []) × (AreWhole d → ⊥)
       × (d.abandoned ≡ [])
 
--- tombstones name ids below this
+-- each tombstone in the images names a segment with an id below this
 abbrev pub NameBelow : (ℕ → List Entry) → ℕ → Type 0
 NameBelow images unused = (s : ℕ) (t : Tombstone) → IsAmong (entry.Tombstone t) (images s) → t.segment < unused
 
@@ -171,7 +177,7 @@ pub record IsCore (d : MasterData) : Type 0 where
   pub below : AreBelow (head_of d.head).start
   pub real : 0 < d.head.id
   pub used : d.head.id < d.next
-  -- a head that isn't in force yet is the first
+  -- as long as no head is in force, the head is a first one
   pub first : is_headless d ≡ true → IsFirst d.head
   pub next : d.next ≤ 2 ^ 62 + 1
   pub roll : IfSome d.head.roll (IsRollOf d)
@@ -180,14 +186,14 @@ pub record IsCore (d : MasterData) : Type 0 where
   -- no segment has more replicas than it should
   pub replicas_few : AllByRecursion (λ (c : Image). c.replicas ≤ d.config.replicas) d.closed
   pub waiting : AllByRecursion (λ (w : Waiting). (w.freed < w.replicas) × (w.replicas ≤ d.config.replicas)) d.waiting
-  -- the digest in force, and the newest one, have no more ids than they may have
+  -- the digest in force and the newest digest have no more ids than a digest may list
   pub digest : length (digest_of d.head.image) ≤ most_segments d.config
   pub listed : length (newest_digest d.head) ≤ most_segments d.config
   pub failed : AreFailed d
   pub whole : d.failover ≡ None → AreWhole d
   pub failover : IfSome d.failover (IsFailover d)
   pub abandoned : d.failover ≡ None → d.abandoned ≡ []
-  -- no more seglets are counted than there are
+  -- no more seglets are counted than the configuration has
   pub budget : used_seglets d ≤ d.config.seglets
   pub legal : IsLegal (opening_of d) d.history
   pub index : IsIndex d

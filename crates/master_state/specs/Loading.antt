@@ -28,7 +28,8 @@ use Rattle.master_state.specs.Steps.{rolling_data, pushed_data, halted, Fits}
 
 -- ---- a master to be loaded
 
--- a new master that is loaded with objects of versions below this one, which its head records
+-- the data of a new master that is to be loaded with objects of versions below this safe version; its head records the
+-- safe version
 abbrev pub restored_data : Config → ℕ → MasterData
 restored_data config safe = record (fresh_data config) {
   head = fresh_head config.master config.replicas (lone_start 1 config.format safe);
@@ -36,7 +37,7 @@ restored_data config safe = record (fresh_data config) {
   origin = record { objects = []; safe = safe };
 }
 
--- It has no history, no pass is open, and nothing waits to be freed.
+-- The core has no history, no pass is open, and no segment waits to be freed.
 pub record IsBare (d : MasterData) : Type 0 where
   pub history : d.history ≡ []
   pub pass : d.pass ≡ None
@@ -44,7 +45,7 @@ pub record IsBare (d : MasterData) : Type 0 where
 
 -- ---- an object
 
--- what the load of an object appends
+-- the unit that the load of an object appends
 abbrev pub loaded_unit : Object → List Entry
 loaded_unit o = entry.Object o ∷ []
 
@@ -52,7 +53,8 @@ loaded_unit o = entry.Object o ∷ []
 abbrev pub is_object_too_big : Object → ℕ → Bool
 is_object_too_big o segment = is_too_big (Put o.key o.value Any) segment
 
--- the first test that refuses an object, apart from memory; a load needs as much as a delete
+-- the first test that refuses an object, want of memory apart; a roll for a load needs as much space as a roll for a
+-- delete
 abbrev pub load_refusal : MasterData → Object → Option Refusal
 load_refusal d o =
     if is_object_too_big o d.config.segment then Some TooBig
@@ -61,51 +63,52 @@ load_refusal d o =
     else if not (is_working d && has_room d (loaded_unit o)) then Some Rolling
     else None
 
--- Its key was not loaded before, and its version is below the safe one.
+-- The object's key was not loaded before, and its version is below the safe version.
 pub record IsNewObject (d : MasterData) (o : Object) : Type 0 where
   pub absent : (opening_of d).contents o.key ≡ None
   pub low : o.version < d.origin.safe
 
--- with one object more
+-- the origin with one object more
 abbrev pub origin_with : Origin → Object → Origin
 origin_with origin o = record origin { objects = o ∷ origin.objects }
 
--- An object that no test refuses is loaded: with its own version it is a unit of the head and a part of the opening.
+-- An object that no test refuses is loaded. It keeps its version, and becomes a unit of the head and a part of the
+-- opening of the history.
 pub record Loads (d : MasterData) (o : Object) (e : MasterData) : Type 0 where
   pub passed : load_refusal d o ≡ None
   pub log : log_of e ≡ with_object (log_of d) o
-  -- what the index finds it found before, or it is in the head
+  -- each place that the index finds it found before, or the place is in the head
   pub found : (k : Key) (p : Place) → find e k ≡ Some p → (find d k ≡ Some p) ⊎ (p.segment ≡ d.head.id)
-  -- the head has the object, and of the rest only the index and the origin changed
+  -- the head has the object; apart from the head only the index and the origin changed
   pub rest : e ≡ record d {
     head = with_unit_end d.head 0 (loaded_unit o);
     index = e.index;
     origin = origin_with d.origin o;
   }
 
--- the laws of the log let the object be loaded, and it fits
+-- the laws of the log let the object be loaded, and its unit fits the head
 abbrev pub MayLoadNow : MasterData → Object → Type 0
 MayLoadNow d o = MayLoad (log_of d) o × Fits d (loaded_unit o)
 
 -- ---- the end
 
--- what a core becomes once all of it is loaded
+-- what a core becomes once all objects are loaded
 abbrev pub settled_data : MasterData → MasterData
 settled_data d = record d { head = settled d.head; ledger = posting.Settled ∷ d.ledger }
 
--- The history begins with what was loaded.
+-- The history begins with the objects that were loaded.
 pub record Settles (d e : MasterData) : Type 0 where
   pub log : log_of e ≡ adopted (log_of d) (opening_of d)
   pub rest : e ≡ settled_data d
 
 -- ---- laws
 
--- Rolls, halts and pushes leave a core without history, passes and what waits.
+-- A core that is bare stays bare when a roll begins, when the core halts, and when a push was taken.
 abbrev pub BareGoesOn : Type 0
 BareGoesOn = (d : MasterData) → IsBare d
     → IsBare (rolling_data d) × IsBare (halted d) × ((push : Next) → IsBare (pushed_data d push))
 
--- If nothing waits to be pushed, no roll or failover is under way, and each replica of the head has all units.
+-- If nothing is left to be pushed, no roll or failover is under way, and each replica of the head has all units.
 abbrev pub PushedIsWhole : Type 0
 PushedIsWhole = (d : MasterData) → IsCore d → is_done d ≡ true
     → ((log_of d).mode ≡ Calm) × IsWhole d.config.replicas (head_of d.head)

@@ -1,4 +1,4 @@
--- The log of a master, its images, and its index, in words that clauses cite.
+-- Where a master's replicas lie, which log its data are, and what its images and its index have.
 use Rattle.std.specs.Prelude.{◌≡◌, ℕ, zero, suc, ◌+◌, ◌-◌, ◌*◌, ◌%◌, List, [], ◌∷◌, ◌++◌, length, take, Bool, Option}
 use Rattle.std.specs.Prelude.{Some, None, map, nat_le, not, ◌==◌, slice_get, unwrap_or, if◌then◌else◌}
 use Rattle.std.specs.Option.{option_map, option_map_or}
@@ -37,29 +37,30 @@ use Rattle.cleaner.specs.compactor.Places.{keys_in}
 
 -- ---- placement
 
--- the backup at this place of a segment's order: it is cyclic, and a segment's first place is by its id
+-- the backup at this place of a segment's order: the order is a circle of all backups, and the segment's id says where
+-- it begins
 abbrev pub backup_at : Config → ℕ → ℕ → ℕ
 backup_at c segment place = (segment * c.step + place) % c.backups
 
--- those of so many places, from this one on
+-- the backups at so many places of a segment's order, from this place on
 abbrev pub backups_from : Config → ℕ → ℕ → ℕ → List ℕ
 backups_from c segment place zero = []
 backups_from c segment place (suc n) = backup_at c segment place ∷ backups_from c segment (suc place) n
 
--- the backups that haven't failed, in the segment's order
+-- the backups that haven't failed, in the order of the segment
 abbrev pub working : Config → List ℕ → ℕ → List ℕ
 working c failed segment = without failed (backups_from c segment 0 c.backups)
 
--- the home of a replica of a segment: the backups that haven't failed, in order
+-- the home of replica j of a segment: the backup at place j among those that haven't failed
 abbrev pub home : Config → List ℕ → ℕ → ℕ → ℕ
 home c failed segment j = unwrap_or (slice_get (working c failed segment) j) 0
 
--- the homes of the first replicas, so many, the last one first
+-- the homes of the first so many replicas of a segment, the last one first
 abbrev pub placed : Config → List ℕ → ℕ → ℕ → List ℕ
 placed c failed s zero = []
 placed c failed s (suc j) = home c failed s j ∷ placed c failed s j
 
--- which of the first replicas, so many, is on this backup
+-- which of the first so many replicas of a segment is on this backup, if any is
 abbrev pub place_in : Config → List ℕ → ℕ → ℕ → ℕ → Option ℕ
 place_in c failed s zero b = None
 place_in c failed s (suc j) b = if home c failed s j == b then Some j else place_in c failed s j b
@@ -76,19 +77,20 @@ fail_config c = record {
   format = c.format;
 }
 
--- the state that the history begins with: a new master has no keys, and a loaded one has what was loaded
+-- the map and the safe version that the history begins with: a new master has no keys, and a loaded master has the
+-- objects that were loaded
 abbrev pub opening_of : MasterData → State
 opening_of d = record { contents = contents_of d.origin.objects; safe = d.origin.safe }
 
--- all replicas of the head were opened
+-- all replicas of the head are open
 abbrev pub is_opened : HeadValue → Bool
 is_opened h = nat_le h.replicas (length h.taken)
 
--- no head is in force: none was open on all its backups yet
+-- the master is headless: none of its heads was opened on all its homes yet
 abbrev pub is_headless : MasterData → Bool
 is_headless d = option_map_or (λ (f : Failover). f.is_first) d.failover (not (is_opened d.head))
 
--- the head in force
+-- the head in force; the model's head without a number and without units if the master is headless
 abbrev pub in_force : MasterData → FailHead
 in_force d =
     if is_headless d then record { start = no_head d.config.format; loaded = []; units = [] }
@@ -98,17 +100,17 @@ in_force d =
       units = (head_of d.head).units;
     }
 
--- how far a roll is, while no failover is open: that to the first head begins with the master
+-- how far a roll is, while no failover is open; the opening of the first head counts as a roll
 abbrev pub calm_mode : HeadValue → Mode
 calm_mode h =
     if is_opened h then option_map_or (λ (r : Roll). Rolls (start_of r)) h.roll Calm else Rolls (head_of h).start
 
--- the new head of a failover: the first one is the master's only head
+-- the new head of a failover: the head that its roll opens, or the master's head if there was no head before
 abbrev pub new_start : HeadValue → Failover → Start
 new_start h f =
     if f.is_first then (head_of h).start else option_map_or start_of h.roll (head_of h).start
 
--- how far a failover is
+-- which part of a failover is under way
 abbrev pub failing_mode : HeadValue → Failover → Mode
 failing_mode h f = by_part f.part where
   by_part : Part → Mode
@@ -120,7 +122,7 @@ failing_mode h f = by_part f.part where
 abbrev pub mode_of : MasterData → Mode
 mode_of d = option_map_or (failing_mode d.head) d.failover (calm_mode d.head)
 
--- the log
+-- the log as the model has it
 abbrev pub log_of : MasterData → FailData
 log_of d = record {
   config = fail_config d.config;
@@ -141,19 +143,20 @@ log_of d = record {
 abbrev pub state_now : MasterData → State
 state_now d = state_of (log_of d)
 
--- how many of the first records have units that every replica of the head took; while a failover is open, as it began
+-- The durable count: how many of the first records have no unit that some replica of the head lacks. While a failover
+-- is open, the count stays as it was when the failover began.
 abbrev pub durable_now : MasterData → ℕ
 durable_now d =
     option_map_or (λ (f : Failover). f.frozen) d.failover
     (records_before (head_of d.head).units (length d.history) (everywhere d.head))
 
--- what the command's key has now
+-- the version and the value that the command's key has now, if any
 abbrev pub held_now : MasterData → Command → Option Versioned
 held_now d command = (state_now d).contents (command_key command)
 
 -- ---- images
 
--- the entries that memory has of a segment, if it has any
+-- the entries of a segment's image; None if there is no image
 abbrev pub image_of : MasterData → ℕ → Option (List Entry)
 image_of d segment = image_among d.head d.closed segment
 
@@ -166,14 +169,15 @@ images_of d segment = images_among d.head d.closed segment
 abbrev pub find : MasterData → Key → Option Place
 find d k = found (keys_in (images_of d)) k d.index
 
--- a key's object is found where it stands, and nothing of a key that has none
+-- If the key has an object, a place was found, and the object's text stands there. If the key has none, no place was
+-- found.
 abbrev pub Finds : (ℕ → List Entry) → Key → Option Place → Option Versioned → Type 0
 Finds images k None None = Unit {0}
 Finds images k None (Some x) = ⊥
 Finds images k (Some p) None = ⊥
 Finds images k (Some p) (Some x) = standing_at p.at (text_of (images p.segment)) ≡ Some (object_at k x)
 
--- The index finds just the objects of the versioned map.
+-- The index finds each object that the versioned map has, and no other.
 abbrev pub IsIndexed : MasterData → Type 0
 IsIndexed d = (k : Key) → Finds (images_of d) k (find d k) ((state_now d).contents k)
 
@@ -190,26 +194,26 @@ log_set_ids d = ids_in d.closed d.head.id (option_map (λ (r : Roll). r.id) d.he
 abbrev pub position_of : List Entry → ℕ → ℕ
 position_of image at = length (entries_in (take at (text_of image)))
 
--- a place as the models of memory count it: by entries
+-- the same place as the models of memory have it, with a number of entries in place of an offset
 abbrev pub entry_place : MasterData → Place → EntryPlace
 entry_place d p = record { segment = p.segment; position = position_of (images_of d p.segment) p.at }
 
--- the places that the open pass has before it
+-- the places of the entries that the open pass has yet to treat
 abbrev pub rest_now : MasterData → List Place
 rest_now d = option_map_or (rest_of (images_in d.closed)) d.pass []
 
--- the replicas of a segment from this one on, so many
+-- so many replicas of a segment, from replica j on, each with its backup
 abbrev pub spots_from : Config → List ℕ → ℕ → ℕ → ℕ → List Spot
 spots_from c failed s j zero = []
 spots_from c failed s j (suc n) =
     record { segment = s; backup = home c failed s j } ∷ spots_from c failed s (suc j) n
 
--- the replicas of these segments that weren't freed
+-- the replicas of these waiting segments that weren't freed yet
 abbrev pub spots_in : Config → List ℕ → List Waiting → List Spot
 spots_in c failed [] = []
 spots_in c failed (w ∷ ws) = spots_from c failed w.segment w.freed (w.replicas - w.freed) ++ spots_in c failed ws
 
--- memory as compaction and cleaning see it
+-- the master's memory as the models of compaction and cleaning have it
 abbrev pub memory_of : MasterData → FailMemory
 memory_of d = record {
   images = images_of d;

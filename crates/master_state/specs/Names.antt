@@ -10,7 +10,7 @@ use Rattle.master_state.specs.declared.config.ConfigFault.{ConfigFault}
 use Rattle.master_state.specs.declared.config.ConfigFault.TheVariants.{BadBackups, BadStep, BadSegment, BadSeglet}
 use Rattle.master_state.specs.declared.config.ConfigFault.TheVariants.{BadBudget, BadTablets, BadHistory, BadFormat}
 
--- its name; that of a pass's fault, with its number
+-- the text that is printed for a refusal: its name, and behind some names a segment or a backup
 abbrev pub refusal_text : Refusal → List ℕ
 refusal_text TooBig = codes "TooBig"
 refusal_text Full = codes "Full"

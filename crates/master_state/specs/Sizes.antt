@@ -19,7 +19,7 @@ use Rattle.master_state.specs.Data.{MasterData}
 
 -- ---- what is answered
 
--- the size of an object: its table, its place, and the length of its entry
+-- the size of an object: its table, the place of its key, and the length of its entry in bytes
 abbrev pub size_of : Object → Size
 size_of o = record {
   table = o.key.table;
@@ -27,12 +27,12 @@ size_of o = record {
   bytes = length (spelling (entry.Object o));
 }
 
--- no key is there twice
+-- no key has two objects in the list
 abbrev pub AreOnce : List Object → Type 0
 AreOnce [] = Unit {0}
 AreOnce (o ∷ os) = (contents_of os o.key ≡ None) × AreOnce os
 
--- The sizes are those of all objects of the contents, each once, by table, then by place.
+-- The list has the size of each object of the contents once, sorted by table and then by place.
 pub record AreSizesOf (contents : Contents) (sizes : List Size) : Type 0 where
   pub objects : List Object
   pub all : contents_of objects ≡ contents
@@ -42,7 +42,7 @@ pub record AreSizesOf (contents : Contents) (sizes : List Size) : Type 0 where
 
 -- ---- how they are found
 
--- the object, if the entry is one and the index names its place
+-- the object, if the entry is an object and the index names this place for its key
 abbrev pub live_at : Places → Place → Entry → Option Object
 live_at held p (entry.Header h) = None
 live_at held p (entry.Digest l) = None
@@ -50,17 +50,17 @@ live_at held p (entry.Safe version) = None
 live_at held p (entry.Object o) = if names held o.key p then Some o else None
 live_at held p (entry.Tombstone t) = None
 
--- these objects among the entries of a segment from an offset on
+-- the live objects among these entries of a segment, which begin at this offset
 abbrev pub live_from : Places → ℕ → ℕ → List Entry → List Object
 live_from held segment at [] = []
 live_from held segment at (e ∷ es) =
     option_to_list (live_at held (record { segment = segment; at = at }) e)
     ++ live_from held segment (at + length (spelling e)) es
 
--- those of closed segments
+-- the live objects of the closed segments
 abbrev pub live_closed : Places → List Image → List Object
 live_closed held images = flat_map (λ (image : Image). live_from held image.id 0 image.segment) images
 
--- those of all images
+-- the live objects of all closed segments and of the head
 abbrev pub live_objects : MasterData → List Object
 live_objects d = live_closed d.index d.closed ++ live_from d.index d.head.id 0 d.head.image

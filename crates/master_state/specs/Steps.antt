@@ -1,5 +1,5 @@
--- What a master's core becomes: a command is applied, a roll or a pass begins, a segment is compacted, an entry is
--- copied, an op was taken, a take failed.
+-- What a master's core becomes when a command is applied, a roll or a pass begins, a segment is compacted, an entry is
+-- copied, an op was taken, or a take failed.
 use Rattle.std.specs.Prelude.{◌≡◌, ◌⊎◌, ℕ, suc, ◌+◌, ◌≤◌, ◌==◌, ◌&&◌, ◌-◌, List, [], ◌∷◌, ◌++◌, length, map, filter}
 use Rattle.std.specs.Prelude.{Bool, false, true, not, nat_lt, is_none, is_some, Option, Some, None}
 use Rattle.std.specs.Prelude.{if◌then◌else◌}
@@ -61,16 +61,16 @@ use Rattle.master_state.specs.Ledger.{ended_with}
 use Rattle.master_state.specs.Log.{home, place_in, is_opened, durable_now, log_of, memory_of, state_now, images_of}
 use Rattle.master_state.specs.Log.{find, log_set_ids}
 
--- the head with a record's unit, where there is one
+-- the head with the unit of the record of this number; the same head if the unit has no entries
 abbrev pub appended : HeadValue → ℕ → List Entry → HeadValue
 appended h number [] = h
 appended h number (e ∷ es) = with_unit_end h number (e ∷ es)
 
--- the reply to a command: the versioned map's
+-- what the versioned map replies to a command now
 abbrev pub reply_now : MasterData → Command → Reply
 reply_now d command = reply_to (state_now d) command
 
--- the reply shows a value, so it takes memory
+-- the reply has a value, so making it takes memory
 abbrev pub IsFound : Reply → Type 0
 IsFound (reply.Found version value) = Unit {0}
 IsFound reply.None = ⊥
@@ -80,16 +80,16 @@ IsFound (reply.Mismatch version) = ⊥
 abbrev pub record_now : MasterData → ℕ → Command → Record
 record_now d seat command = record { seat = seat; command = command; reply = reply_now d command }
 
--- A command that no test refuses is answered as the versioned map does, and adds its record and its unit to the log.
+-- A command that no test refuses gets the reply of the versioned map, and its record and its unit are added to the log.
 pub record Applies (d : MasterData) (seat : ℕ) (command : Command) (answer : StepAnswer) (e : MasterData) : Type 0 where
   pub passed : command_refusal d command ≡ None
   pub told : answer ≡ Applied (length d.history) (reply_now d command)
   pub config : e.config ≡ d.config
   pub running : e.is_halted ≡ false
   pub log : log_of e ≡ applied (log_of d) (dead_segment d command) (record_now d seat command)
-  -- what the index finds it found before, or it is in the head
+  -- each place that the index finds it found before, or the place is in the head
   pub found : (k : Key) (p : Place) → find e k ≡ Some p → (find d k ≡ Some p) ⊎ (p.segment ≡ d.head.id)
-  -- the head has the unit, and of the rest only the index, the safe version and the history changed
+  -- the head has the unit; apart from the head only the index, the safe version and the history changed
   pub rest : e ≡ record d {
     head = appended d.head (length d.history) (unit_now d command);
     index = e.index;
@@ -97,33 +97,33 @@ pub record Applies (d : MasterData) (seat : ℕ) (command : Command) (answer : S
     history = e.history;
   }
 
--- The command of a record is applied, and told with its place and its reply.
+-- The command of a record is applied, and the answer has the record's place and reply.
 abbrev pub AppliesAs : MasterData → Record → ℕ → MasterData → Type 0
 AppliesAs d r place e = Applies d r.seat r.command (Applied place r.reply) e
 
--- what is appended to the head leaves it a whole segment
+-- The head is open, and its image with the unit is a valid segment within the greatest length.
 pub record Fits (d : MasterData) (unit : List Entry) : Type 0 where
   pub opened : is_open d.head ≡ true
   pub segment : IsSegment (d.head.image ++ unit)
   pub limit : length (text_of (d.head.image ++ unit)) ≤ 8388608
 
--- The laws of the log let the command be applied, and what it appends is nothing or fits.
+-- The laws of the log let the command be applied, and its unit is empty or fits the head.
 abbrev pub MayApplyNow : MasterData → ℕ → Command → Type 0
 MayApplyNow d seat command = MayApply (log_of d) (dead_segment d command) (record_now d seat command)
     × ((unit_now d command ≡ []) ⊎ Fits d (unit_now d command))
 
--- each of these segments with the bytes that it has
+-- the segments with these ids, each with the length of its image in bytes
 abbrev pub listed_in : List Image → List ℕ → List Listed
 listed_in closed ids = map (λ (s : ℕ). record { id = s; len = length (text_of (images_in closed s)) }) ids
 
--- What the next head begins with. It lists the log, and records the safe version of now. If a pass is ready, it lists
--- the pass's survivors in place of its victims.
+-- The opening of the next head. Its digest lists the log, and it records the present safe version. If a pass is ready,
+-- its digest lists the survivors of the pass in place of the victims.
 abbrev pub start_now : MasterData → Start
 start_now d =
     if is_ready d then start_after d.head (victims_of d.pass) (listed_in d.closed (survivors_of d.pass)) d.next d.safe
     else start_after d.head [] [] d.next d.safe
 
--- what a core becomes when a roll begins; the roll of a pass that is ready is its commit
+-- what a core becomes when a roll begins; if a pass is ready, the roll is its commit
 abbrev pub rolling_data : MasterData → MasterData
 rolling_data d = record d {
   head = with_roll d.head d.config.master (start_now d);
@@ -132,24 +132,24 @@ rolling_data d = record d {
   ledger = posting.Began d.next ∷ d.ledger;
 }
 
--- what the next head begins with, as the log has it
+-- the opening of the next head by the log's own steps
 abbrev pub next_now : MasterData → Start
 next_now d = if is_ready d then commit_start (log_of d) (memory_of d) else next_start (log_of d)
 
--- A roll that no test refuses begins: an ordinary one, or the commit of a pass that is ready.
+-- A roll that no test refuses begins. If a pass is ready, the roll is its commit.
 pub record BeginsRoll (d : MasterData) (answer : StepAnswer) (e : MasterData) : Type 0 where
   pub passed : roll_refusal d ≡ None
   pub told : answer ≡ RollingTo d.next
   pub log : log_of e ≡ rolling (log_of d) (next_now d) (Rolls (next_now d))
   pub rest : e ≡ rolling_data d
 
--- the opening of a head is a whole segment
+-- the opening of a head is a valid segment within the greatest length
 pub record IsOpening (master : ℕ) (n : Start) : Type 0 where
   pub segment : IsSegment (start_entries master n)
   pub limit : length (text_of (start_entries master n)) ≤ 8388608
 
--- The next head's opening is a whole segment, and the head in force is open. If a pass is ready, the digest is its
--- commit's.
+-- What a roll that begins needs: the head is open, and the opening of the next head is a valid segment. If a pass is
+-- ready, the next digest is that of its commit.
 pub record MayRollNow (d : MasterData) : Type 0 where
   pub opened : is_open d.head ≡ true
   pub opening : IsOpening d.config.master (next_now d)
@@ -159,14 +159,16 @@ pub record MayRollNow (d : MasterData) : Type 0 where
 abbrev pub kept_now : MasterData → ℕ → List Entry
 kept_now d id = kept_of (log_set_ids d) d.index id (images_of d id)
 
--- what a core becomes when a segment is compacted: its image is the kept entries, and the index follows
+-- what a core becomes when a segment is compacted: its image has the kept entries alone, and the index names their new
+-- places
 abbrev pub compacted_data : MasterData → ℕ → MasterData
 compacted_data d id = record d {
   closed = changed d.closed id (replaced_by (kept_now d id));
   index = moved_all (log_set_ids d) d.index id (images_of d id);
 }
 
--- A compaction that no test refuses replaces the image, and tells its length. The log stays as it was.
+-- A compaction that no test refuses replaces the segment's image, and answers the new length in bytes. The log stays as
+-- it was.
 pub record Compacts (d : MasterData) (id : ℕ) (answer : StepAnswer) (e : MasterData) : Type 0 where
   pub passed : compact_refusal d id ≡ None
   pub told : answer ≡ Compacted id (length (text_of (kept_now d id)))
@@ -175,7 +177,7 @@ pub record Compacts (d : MasterData) (id : ℕ) (answer : StepAnswer) (e : Maste
 
 -- ---- a pass
 
--- a pass that begins, with nothing copied or sealed
+-- a pass at its beginning
 abbrev pub fresh_pass : List ℕ → Survivors → Cursor → Pass
 fresh_pass victims survivors cursor = record {
   victims = victims;
@@ -185,12 +187,12 @@ fresh_pass victims survivors cursor = record {
   is_committing = false;
 }
 
--- the survivors of a pass that begins over these victims: they have the next ids
+-- the survivors of a pass that begins now over these victims: they take the next ids
 abbrev pub next_survivors : MasterData → List ℕ → Survivors
 next_survivors d victims = record { first = d.next; count = survivors_for d victims }
 
--- A pass that no test refuses begins. Its survivors have the next ids and a whole segment of memory each, and it has
--- all objects and tombstones of its victims before it.
+-- A pass that no test refuses begins. Its survivors take the next ids, and each counts a whole segment of memory. The
+-- pass has yet to treat all objects and tombstones of its victims.
 pub record BeginsPass (d : MasterData) (victims : List ℕ) (answer : StepAnswer) (e : MasterData) : Type 0 where
   pub passed : clean_refusal d victims ≡ None
   pub told : answer ≡ Begun (next_survivors d victims)
@@ -205,14 +207,15 @@ pub record BeginsPass (d : MasterData) (victims : List ℕ) (answer : StepAnswer
     ledger = posting.Survivors d.next (survivors_for d victims) ∷ d.ledger;
   }
 
--- what a copy answers, by what became of the entry
+-- what a copy answers, by the fate of the entry
 abbrev pub copy_answer : Copied → StepAnswer
 copy_answer copied.Moved = Moved
 copy_answer copied.Carried = Carried
 copy_answer copied.Dropped = Dropped
 
--- A copy that no test refuses treats the next entry of the pass: a live object moves to a survivor and the index with
--- it, a tombstone that is kept is carried there, and any other entry is dropped. The log stays as it was.
+-- A copy that no test refuses treats the next entry of the pass. A live object is moved to a survivor, and the index
+-- then names the copy. A tombstone that is kept is carried to a survivor. Any other entry is dropped. The log stays as
+-- it was.
 pub record Copies (d : MasterData) (answer : StepAnswer) (e : MasterData) : Type 0 where
   pub passed : copy_refusal d ≡ None
   pub pass : Pass
@@ -224,23 +227,25 @@ pub record Copies (d : MasterData) (answer : StepAnswer) (e : MasterData) : Type
   pub log : log_of e ≡ log_of d
   pub rest : e ≡ record d { closed = e.closed; index = e.index; pass = Some after }
 
--- what a core becomes when the next replica of its survivors was sealed
+-- what a core becomes when the next replica of the pass's survivors was sealed
 abbrev pub sealed_data : MasterData → MasterData
 sealed_data d =
     option_map_or (λ (x : ℕ × ℕ). record d { closed = changed d.closed x.0 more_replicas }) (next_seal d) d
 
--- what waits once a replica of the first segment was freed: with the last one the segment waits no more
+-- the waiting segments once the next replica of the first one was freed; the segment waits no more if that was its last
+-- replica
 abbrev pub freed_one : List Waiting → List Waiting
 freed_one [] = []
 freed_one (w ∷ ws) = if suc w.freed == w.replicas then ws else record w { freed = suc w.freed } ∷ ws
 
--- what a core becomes when a replica of the first segment that waits was freed
+-- what a core becomes when the next replica of the first waiting segment was freed
 abbrev pub freed_data : MasterData → MasterData
 freed_data d = record d { waiting = freed_one d.waiting }
 
 -- ---- an op of the head
 
--- A pass has ended: its victims are no longer in memory, and wait to be freed.
+-- The core once a pass has ended: the victims are no longer in memory, and those that some backup holds wait to be
+-- freed.
 abbrev pub pass_ended : Pass → MasterData → MasterData
 pass_ended p d = record d {
   closed = after_pass p d.closed;
@@ -248,13 +253,13 @@ pass_ended p d = record d {
   waiting = d.waiting ++ leaving p.victims d.closed;
 }
 
--- the same if the roll that ended was the pass's commit
+-- the core once a roll has ended: if the roll was a pass's commit, the pass has ended too
 abbrev pub roll_ended : Option Pass → MasterData → MasterData
 roll_ended None d = d
 roll_ended (Some p) d = if p.is_committing then pass_ended p d else d
 
--- one more replica of the old head was closed; with the last one its segment is one of the closed ones, and a commit
--- ends its pass
+-- The core once one more replica of the old head was closed. Once its last replica was closed, the old head is one of
+-- the closed segments. If the roll was a commit, its pass has then ended.
 abbrev pub closed_data : MasterData → Roll → MasterData
 closed_data d r =
     let e = record d {
@@ -272,7 +277,7 @@ taken_data d (next.OpenNew j) =
     option_map_or (λ (r : Roll). record d { head = with_new_replica d.head r }) d.head.roll d
 taken_data d (next.CloseOld j) = option_map_or (closed_data d) d.head.roll d
 
--- the backup of the replica that a push is for
+-- the home of the replica that a push is for
 abbrev pub backup_of : MasterData → Next → ℕ
 backup_of d next = home d.config d.failed (segment_of d.head next) (replica_of next)
 
@@ -290,7 +295,7 @@ ledger_after d (next.OpenNew j) =
 ledger_after d (next.CloseOld j) =
     ended_with (suc j == d.config.replicas) (posting.Shut (backup_of d (next.CloseOld j)) ∷ d.ledger)
 
--- what a master knows once the op of a push was taken, and posted
+-- what a core becomes when the op of a push was taken and posted
 abbrev pub pushed_data : MasterData → Next → MasterData
 pushed_data d next = taken_data (record d { ledger = ledger_after d next }) next
 
@@ -300,42 +305,43 @@ halted d = record d { is_halted = true }
 
 -- ---- a backup fails
 
--- A failure of a backup opens a failover under format 2, if none is open and as many backups as replicas are left.
+-- A failure of a backup opens a failover if the format is 2, no failover is open, and at least as many backups are left
+-- after it as a segment has replicas.
 abbrev pub may_lose : MasterData → Bool
 may_lose d =
     (d.config.format == 2) && is_none d.failover
     && nat_lt (length d.failed + d.config.replicas) d.config.backups
 
--- one less, if a place below that many is gone
+-- how many of the first n replicas are left if the one at this place is lost
 abbrev pub less_by : ℕ → Option ℕ → ℕ
 less_by n None = n
 less_by n (Some place) = if nat_lt place n then n - 1 else n
 
--- a closed segment once the backup has failed: one of its replicas may be lost
+-- the image of a closed segment once backup b has failed: if b was one of its homes, it has one replica less
 abbrev pub lost_image : Config → List ℕ → ℕ → Image → Image
 lost_image c failed b image =
     if is_some (place_in c failed image.id image.replicas b) then fewer_replicas image else image
 
--- a segment that waits, in the same way
+-- a waiting segment once backup b has failed: if b was one of its homes, it has one replica less
 abbrev pub lost_waiting : Config → List ℕ → ℕ → Waiting → Waiting
 lost_waiting c failed b w =
     let place = place_in c failed w.segment w.replicas b in
     record w { freed = less_by w.freed place; replicas = less_by w.replicas place }
 
--- some replica of it is still to be freed
+-- some replica of the segment is still to be freed
 abbrev pub still_waits : Waiting → Bool
 still_waits w = nat_lt w.freed w.replicas
 
--- which replica of the head is on the backup
+-- which opened replica of the head is on backup b, if any is
 abbrev pub place_of : MasterData → ℕ → Option ℕ
 place_of d b = place_in d.config d.failed d.head.id (length d.head.taken) b
 
--- the new heads of a roll that is under way, the first head's too
+-- the head that a roll is opening, as a list of at most one; the master's own head if it isn't opened yet
 abbrev pub new_heads_in : HeadValue → List Start
 new_heads_in h =
     if is_opened h then option_map_or (λ (r : Roll). start_of r ∷ []) h.roll [] else (head_of h).start ∷ []
 
--- a failover that begins
+-- the failover that begins when backup b fails
 abbrev pub opened_failover : MasterData → ℕ → Failover
 opened_failover d b = record {
   part = part.Mends;
@@ -345,8 +351,8 @@ opened_failover d b = record {
   is_first = not (is_opened d.head);
 }
 
--- What a core becomes when a backup has failed and a failover begins: a roll that was under way is abandoned, and the
--- replicas on the backup are counted no more.
+-- What a core becomes when backup b has failed and a failover begins. The head of a roll that was under way is
+-- abandoned. The replicas on the backup are no longer counted.
 abbrev pub lost_data : MasterData → ℕ → MasterData
 lost_data d b = record d {
   failed = b ∷ d.failed;
@@ -360,14 +366,14 @@ lost_data d b = record d {
 
 -- ---- faults of a take
 
--- what a fault of a take on this backup answers
+-- what the step is refused as, if a take on backup b ends in this fault
 abbrev pub refusal_of : MasterData → ℕ → TakeFault → Refusal
 refusal_of d b take_fault.NoMemory = refusal.NoMemory
 refusal_of d b take_fault.Spent = refusal.Spent
 refusal_of d b take_fault.Wrong = refusal.Halted
 refusal_of d b take_fault.Fault = if may_lose d then refusal.Lost b else refusal.Halted
 
--- what it leaves
+-- what a core becomes when a take on backup b ends in this fault
 abbrev pub failed_data : MasterData → ℕ → TakeFault → MasterData
 failed_data d b take_fault.NoMemory = d
 failed_data d b take_fault.Spent = d

@@ -5,10 +5,11 @@ use Rattle.cleaner.specs.Passes.{next_seal as next_seal_of}
 use Rattle.master_state.specs.declared.waiting.Waiting.{Waiting}
 use Rattle.master_state.specs.Data.{MasterData}
 
--- the survivor of the open pass that is sealed next, and its replica; none while there is something to copy
+-- the survivor that is sealed next, and the number of its replica; None if no pass is open, the open pass has something
+-- to copy, or all is sealed
 abbrev pub next_seal : MasterData → Option (ℕ × ℕ)
 next_seal d = option_and_then (next_seal_of d.config.replicas d.closed) d.pass
 
--- the first segment that waits, and its replica that is freed next
+-- the waiting segment that is freed next, and the number of its replica; None if no segment waits
 abbrev pub next_free : MasterData → Option (ℕ × ℕ)
 next_free d = option_map (λ (w : Waiting). (w.segment, w.freed)) (slice_get d.waiting 0)

@@ -12,8 +12,8 @@ use crate::state::Core;
 use entry::MAX_SEGMENT_ID;
 
 impl Core {
-    /// How many seglets of memory are counted. A head that takes appends counts whole, and each other segment counts
-    /// its length.
+    /// How many seglets of memory are counted. The newest head and each survivor of the open pass count a whole
+    /// segment. Each other segment counts its length.
     pub fn used(&self) -> u64
         ensures used { result ≡ used_seglets self.now }
         ensures within { result ≤ self.now.config.seglets }
@@ -27,7 +27,7 @@ impl Core {
         head + self.closed.used()
     }
 
-    /// How many seglets of memory are left.
+    /// How many seglets of the configuration aren't counted.
     pub fn free(&self) -> u64
         ensures { result ≡ free_seglets self.now }
     {
@@ -42,7 +42,7 @@ impl Core {
         (self.head.image().bytes_len() as u64).div_ceil(self.config.seglet)
     }
 
-    /// Whether a pass is open that is ready for its commit.
+    /// Returns true if a pass is open and ready for its commit.
     pub fn is_ready(&self) -> bool
         ensures { result ≡ is_ready self.now }
     {
@@ -52,7 +52,7 @@ impl Core {
         }
     }
 
-    /// Whether a failover has the image of a head that a roll was opening.
+    /// Returns true if a failover is open that still has the image of an abandoned head.
     fn has_abandoned(&self) -> bool
         ensures { result ≡ has_abandoned self.now }
     {
@@ -62,7 +62,7 @@ impl Core {
         }
     }
 
-    /// Whether all replicas of the head are open, no roll is under way, and no failover is open.
+    /// Returns true if all replicas of the head are open, no roll is under way, and no failover is open.
     #[inline(always)]
     pub fn is_working(&self) -> bool
         ensures { result ≡ is_working self.now }
@@ -70,7 +70,8 @@ impl Core {
         self.head.is_open() && self.failover.is_none()
     }
 
-    /// How many segments an open pass has taken already.
+    /// How many of the segments that have to be free for a roll an open pass has taken already: 1, or 0 if no pass is
+    /// open.
     fn segments_taken(&self) -> u64
         ensures { result ≡ segments_taken self.now }
     {
@@ -80,7 +81,7 @@ impl Core {
         }
     }
 
-    /// How many segments the next commit takes out, at least.
+    /// How many segments the next commit takes out of the digest: the victims of the open pass, or 1 if none is open.
     fn segments_leaving(&self) -> u64
         ensures { result ≡ segments_leaving self.now }
     {
@@ -90,7 +91,8 @@ impl Core {
         }
     }
 
-    /// How many segments the next commit takes in beside the head, at least.
+    /// How many segments the next commit takes into the digest beside the head: the survivors of the open pass, or 1 if
+    /// none is open.
     fn segments_entering(&self) -> u64
         ensures entering { result ≡ segments_entering self.now }
         ensures few { result ≤ 4 }
@@ -101,7 +103,7 @@ impl Core {
         }
     }
 
-    /// How many survivors an open pass has.
+    /// How many survivors the open pass has; 0 if none is open.
     fn survivors(&self) -> u64
         ensures count { result ≡ length (survivors_of self.now.pass) }
         ensures few { result ≤ 4 }
@@ -121,8 +123,8 @@ impl Core {
         self.closed.len() as u64 + 1 - self.survivors()
     }
 
-    /// How many seglets have to be free when a roll begins, if so many whole segments are free then. An open pass has
-    /// one of these already.
+    /// How many seglets have to be free when a roll begins that has to have so many whole segments free. An open pass
+    /// has taken one of these already.
     fn needed(&self, free: u64) -> u64
         requires few { free ≤ 3 }
         ensures needed { result ≡ (free - segments_taken self.now) * whole_seglets self.now.config
@@ -132,9 +134,9 @@ impl Core {
         free.saturating_sub(self.segments_taken()) * whole + self.closing_seglets()
     }
 
-    /// The rule of a roll. The commit of a pass that is ready may begin, under format 2 if it has its places. Any other
-    /// roll needs one more place in the digest than there are now, but for the places that are kept for the next
-    /// commit, and its seglets free.
+    /// Returns true if a roll may begin that has to have `free` whole segments free. If a pass is ready, the roll is
+    /// its commit, and `may_commit` decides. Any other roll needs a place for one more id in the digest, beside the
+    /// places that are kept for the next commit. It also needs as many free seglets as `needed` returns.
     pub fn may_roll(&self, free: u64) -> bool
         requires open { is_open self.now.head ≡ true }
         requires few { free ≤ 3 }
@@ -150,7 +152,8 @@ impl Core {
         more <= most && more <= left && needed <= self.free()
     }
 
-    /// Whether the commit of a pass that is ready may begin.
+    /// Returns true if the commit of a pass that is ready may begin. Under format 1 it always may. Under format 2 the
+    /// digest needs places for its ids, and the old head's seglets have to be free.
     fn may_commit(&self) -> bool
         requires { is_open self.now.head ≡ true }
         ensures { result ≡ may_commit self.now }
@@ -168,8 +171,9 @@ impl Core {
         listed.saturating_sub(self.segments_leaving()) + self.segments_entering() + 1
     }
 
-    /// The rule of a failover's new head: an id is left, its digest has places, and no seglet is missing. It may use
-    /// what is kept for other rolls. If no head was open yet, the new one takes the place of the first.
+    /// Returns true if a failover may open its new head: an id is left, the digest has places for its ids, and the
+    /// needed seglets are free. The new head may use what is kept for other rolls. If no head was opened on all its
+    /// homes yet, the new head takes the place of the first head, and only the id is needed.
     pub fn may_turn(&self) -> bool
         requires { IfSome self.now.failover (λ f. f.part ≡ part.Mends) }
         ensures { result ≡ may_turn self.now }
@@ -185,7 +189,7 @@ impl Core {
             || self.turn_listed() <= self.config.segment / 32 && self.turn_need() <= self.free()
     }
 
-    /// How many ids that digest lists.
+    /// How many ids the digest of a failover's new head lists.
     fn turn_listed(&self) -> u64
         ensures { result ≡ turn_listed self.now }
     {
@@ -195,7 +199,8 @@ impl Core {
         self.closed.len() as u64 + 1 - self.survivors() + 1
     }
 
-    /// How many seglets have to be free for it.
+    /// How many seglets have to be free for a failover's new head: those of the old head, or 0 if the old head counts
+    /// its length already.
     fn turn_need(&self) -> u64
         ensures { result ≡ turn_need self.now }
     {

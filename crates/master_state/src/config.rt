@@ -1,4 +1,4 @@
-//! What a master is made with.
+//! The configuration that a master is made with: its limits, and the placement of replicas.
 
 ghost use Rattle.std.specs.Prelude.{◌≡◌, ◌<◌, ◌≤◌, ◌%◌, length, None, Some, IfSome};
 ghost use Rattle.std.specs.Result.{result_err};
@@ -13,29 +13,29 @@ use segment::MAX_SEGMENT_LEN;
 use std::error::Error;
 use std::fmt;
 
-/// What a master is made with. `check` says whether the numbers are within their limits.
+/// The configuration that a master is made with. `check` tells if the numbers are within their limits.
 #[derive(Drop)]
 pub struct Config {
     /// The master's number.
     pub master: u64,
-    /// How many backups there are, numbered from 0: 1 to 64.
+    /// How many backups there are: 1 to 64. They are numbered from 0.
     pub backups: u64,
     /// How many replicas each segment has: 1 to `backups`.
     pub replicas: u64,
-    /// How far apart the backups of consecutive segments lie: 1 to 64.
+    /// How far apart the first homes of consecutive segments lie: 1 to 64.
     pub step: u64,
     /// The bytes of a segment: 512 to 8,388,608, a multiple of `seglet`.
     pub segment: u64,
     /// The bytes of a seglet: 64 to 65,536.
     pub seglet: u64,
-    /// How many seglets of memory the master has: those of four segments to 2^32.
+    /// How many seglets of memory the master may count: at least those of four segments, at most 2^32.
     pub seglets: u64,
     /// The tablets that the master owns: at least one, sorted and disjoint.
     pub tablets: Tablets,
     /// The most records that the history takes: 1 to 1,048,576.
     pub history: u64,
-    /// How the index hashes keys. With a secret, whoever picks keys can't make many of them fall into one bucket. No
-    /// answer depends on it.
+    /// How the index hashes keys. With a secret, nobody who picks keys can make many of them fall into one bucket. No
+    /// answer depends on the hasher.
     pub hasher: KeyHasher,
     /// The format of the log, 1 or 2. Under format 2 the digest of each head lists the lengths of its segments.
     pub format: u64,
@@ -82,8 +82,8 @@ impl ConfigFault {
     }
 }
 
-/// The rest of a division. By a number that the compiler knows it takes a multiplication, and mostly there are few
-/// backups.
+/// The remainder of a division. The compiler turns a division by a constant into a multiplication, which is faster. So
+/// the small divisors, which are the usual numbers of backups, have cases of their own.
 #[inline(always)]
 fn rest(number: u64, divisor: u64) -> u64
     requires { 0 < divisor }
@@ -102,8 +102,8 @@ fn rest(number: u64, divisor: u64) -> u64
 }
 
 impl Config {
-    /// Whether the configuration is within its limits. The first thing that is wrong is named, in this order: backups,
-    /// step, seglet, segment, budget, tablets, history, format.
+    /// Returns Ok if the configuration is within its limits. Else the error names the first limit that is broken, in
+    /// this order: backups, step, seglet, segment, budget, tablets, history, format.
     pub fn check(&self) -> Result<(), ConfigFault>
         ensures { result_err result ≡ config_fault self.now }
     {
@@ -137,15 +137,16 @@ impl Config {
         Ok(())
     }
 
-    /// Whether there is at least one replica, on as many backups or more, and at most 64 of those.
+    /// Returns true if a segment has at least one replica, there are at least as many backups as replicas, and there
+    /// are at most 64 backups.
     fn has_backups(&self) -> bool
         ensures { result ≡ has_backups self.now }
     {
         self.replicas >= 1 && self.replicas <= self.backups && self.backups <= 64
     }
 
-    /// The home of a replica of a segment: of the backups that haven't failed, in the segment's order, the one at the
-    /// replica's place. Replicas of one segment lie on different backups.
+    /// The home of a replica of a segment. The replica with number j has the backup at place j among the backups that
+    /// haven't failed, in the segment's order. So replicas of one segment lie on different backups.
     #[inline(always)]
     pub fn home(&self, failed: &Failed, segment: u64, replica: usize) -> u64
         requires config { config_fault self.now ≡ None }
@@ -158,7 +159,7 @@ impl Config {
         self.working_home(failed, segment, replica)
     }
 
-    /// The backup at this place of a segment's order.
+    /// The backup at this place of a segment's order, which is a circle of all backups.
     #[inline(always)]
     fn backup_at(&self, segment: u64, place: u64) -> u64
         requires config { config_fault self.now ≡ None }
@@ -171,7 +172,7 @@ impl Config {
         )
     }
 
-    /// The home of a replica, if some backup failed.
+    /// The home of a replica of a segment, found by a walk along the segment's order past the backups that failed.
     fn working_home(&self, failed: &Failed, segment: u64, replica: usize) -> u64
         requires config { config_fault self.now ≡ None }
         requires replica { replica < length (working self.now failed.now segment) }
@@ -191,7 +192,7 @@ impl Config {
         unreachable!()
     }
 
-    /// Which of the first replicas of a segment, so many, is on this backup.
+    /// Which of the first `replicas` replicas of a segment is on this backup, if any is.
     pub fn place_in(
         &self,
         failed: &Failed,

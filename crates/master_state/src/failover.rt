@@ -1,4 +1,4 @@
-//! What a master keeps of backups that failed, and of the failover that a failure opens.
+//! What a master knows of the backups that failed, and of the failover that is open.
 
 ghost use Rattle.std.specs.Prelude.{◌≡◌, ◌<◌, ◌∷◌, [], length, true};
 ghost use Rattle.log_head.specs.log_model.Ids.{has};
@@ -7,16 +7,16 @@ use arrayvec::ArrayVec;
 use segment::Segment;
 use std::marker::Model;
 
-/// Which part of a failover is under way.
+/// The part of a failover that is under way. The parts come in this order.
 #[derive(Clone, Copy, PartialEq, Eq)]
 pub enum Part {
-    /// The replicas of the head that are left get all its units, and its lost one is replaced.
+    /// The replicas of the head that are left get all its units, and a lost replica of the head is replaced.
     Mends,
     /// The new head is opened, and then the registry is raised to it.
     Opens,
     /// The old head is closed.
     Closes,
-    /// Lost replicas of other segments are sealed anew.
+    /// Lost replicas of closed segments are sealed anew.
     Repairs,
 }
 
@@ -24,13 +24,14 @@ pub enum Part {
 #[derive(Drop)]
 pub struct Failover {
     pub part: Part,
-    /// How many of the first records were durable as it began.
+    /// How many of the first records were durable as the failover began.
     pub frozen: u64,
-    /// How many replicas of the old head are closed, by a roll that was under way.
+    /// How many replicas of the old head an earlier roll had closed as the failover began, without the lost one.
     pub closed: usize,
-    /// The image of the head that this roll was opening. It goes with the first Open of the new head.
+    /// The image of the abandoned head that this roll was opening. It is dropped once the new head's first Open was
+    /// taken.
     pub abandoned: Option<Segment>,
-    /// Whether no head was open on all its backups yet.
+    /// True if no head of the master was opened on all its homes before the failover.
     pub is_first: bool,
 }
 
@@ -45,12 +46,12 @@ impl Model for Failed {
 
     ghost Value = { List ℕ };
 
-    // the last that failed is the first
+    // the backup that failed last comes first
     ghost view = { λ f. reverse f.backups.items };
 }
 
 impl Failed {
-    /// None failed.
+    /// Makes the empty list: no backup failed.
     pub fn none() -> Failed
         ensures { result ≡ [] }
     {
@@ -59,7 +60,7 @@ impl Failed {
         }
     }
 
-    /// Whether this backup failed.
+    /// Returns true if this backup failed.
     #[inline(always)]
     pub fn has(&self, backup: u64) -> bool
         ensures { result ≡ has self.now backup }
@@ -67,7 +68,7 @@ impl Failed {
         self.backups.as_slice().contains(&backup)
     }
 
-    /// Whether no backup failed.
+    /// Returns true if no backup failed.
     #[inline(always)]
     pub fn is_empty(&self) -> bool
         ensures { result ≡ true → self.now ≡ [] }
@@ -75,14 +76,14 @@ impl Failed {
         self.backups.len() == 0
     }
 
-    /// How many failed.
+    /// How many backups failed.
     pub fn count(&self) -> usize
         ensures { result ≡ length self.now }
     {
         self.backups.len()
     }
 
-    /// One more failed.
+    /// Adds a backup that failed. At most 64 backups fit.
     pub fn add(&mut self, backup: u64)
         requires { length self.old < 64 }
         ensures { self.new ≡ backup ∷ self.old }

@@ -7,7 +7,7 @@ use images::Images;
 use log_head::Head;
 use segment::SegmentRef;
 
-/// The image of the segment of this number, without a copy.
+/// A view of the image of the segment with this id, or `None` if there is no such image. Nothing is copied.
 #[inline(always)]
 pub fn image_of<'a>(head: &'a Head, closed: &'a Images, id: u64) -> Option<SegmentRef<'a>>
     ensures { result ≡ image_among head.entry.now closed.entry.now.images id }

@@ -1,4 +1,4 @@
-//! What a master's backups answered, for contracts alone.
+//! What a master's backups answered. Only clauses of contracts read it, so it has no bytes when the program runs.
 
 ghost use Rattle.std.specs.Prelude.{◌≡◌, List, [], ◌∷◌};
 ghost use Rattle.std.specs.Borrow.{ftrue};
@@ -9,26 +9,26 @@ ghost use Rattle.master_state.specs.Steps.{new_heads_in};
 use log_head::Head;
 use std::marker::Model;
 
-/// What happened to a segment, or was answered for it.
+/// One event in the log of a master, such as an op that a backup took.
 #[derive(Clone, Copy)]
 pub enum Posting {
-    /// A new head has this id.
+    /// A roll began, or a failover began to open its new head: the id of the new head.
     Began(u64),
-    /// New survivors have the ids from this one on, so many.
+    /// A pass began: the first id of its survivors, and how many they are.
     Survivors(u64, u64),
-    /// An Open or a Seal of the segment was answered Ok by the backup.
+    /// A backup took an Open or a Seal of a segment: the segment, and the backup.
     Took(u64, u64),
-    /// The backup has so many units of the head, by takes that were answered Ok.
+    /// A backup took units of the head: the backup, and how many units of the head it has now.
     Has(u64, usize),
-    /// The head was closed on the backup.
+    /// The old head was closed on this backup.
     Shut(u64),
-    /// The new head is in force.
+    /// A roll ended, or a first head was opened: the new head is in force.
     Ended,
-    /// The history begins with what the head holds.
+    /// The loading ended: the history begins with the objects that were loaded.
     Settled,
 }
 
-/// All that was posted, the last first. It takes no bytes.
+/// All postings, the last one first. It has no bytes when the program runs.
 #[derive(Drop)]
 pub struct Ledger {
     pub ghost postings: { List PostingValue },
@@ -38,20 +38,20 @@ impl Model for Ledger {
     ghost also_owns = { λ _. ftrue };
 }
 
-// A struct with `also_owns` has neither by itself. This one owns nothing.
+// A struct with `also_owns` is neither Send nor Sync by itself. This one owns nothing, so it may be both.
 unsafe impl Send for Ledger {}
 
 unsafe impl Sync for Ledger {}
 
 impl Ledger {
-    /// Nothing was posted yet.
+    /// Makes a ledger without postings.
     pub fn empty() -> Ledger
         ensures { result.postings ≡ [] }
     {
         Ledger {}
     }
 
-    /// One posting more.
+    /// Makes the ledger with one posting more.
     #[inline(always)]
     pub fn with(_before: &Ledger, _posting: &Posting) -> Ledger
         ensures { result.postings ≡ _posting.now ∷ _before.now.postings }
@@ -60,7 +60,7 @@ impl Ledger {
     }
 }
 
-/// The heads that a roll was opening as a failover began. It takes no bytes.
+/// The heads that a roll was opening as a failover began. It has no bytes when the program runs.
 #[derive(Drop)]
 pub struct Abandoned {
     pub ghost heads: { List Start },
@@ -70,20 +70,20 @@ impl Model for Abandoned {
     ghost also_owns = { λ _. ftrue };
 }
 
-// As of `Ledger`.
+// This struct owns nothing either, so it may be both, as `Ledger` is.
 unsafe impl Send for Abandoned {}
 
 unsafe impl Sync for Abandoned {}
 
 impl Abandoned {
-    /// None.
+    /// Makes the list without heads.
     pub fn none() -> Abandoned
         ensures { result.heads ≡ [] }
     {
         Abandoned {}
     }
 
-    /// The head that a roll of this head is opening, or this one, if it isn't open yet.
+    /// The head that a roll is opening, or this head itself if not all its replicas were opened yet.
     pub fn of(_head: &Head) -> Abandoned
         ensures { result.heads ≡ new_heads_in _head.now }
     {

@@ -1,12 +1,12 @@
 //! What a master knows: its configuration, its log in memory, its index, its history, and how far it has cleaned.
 //!
-//! `Core` has it all in fields that the crates above read and change. What holds of every core is its invariant
-//! (`specs/Invariant.antt`), and each function that is lent a core is held to it at its end. `specs/Log.antt` says
-//! which log a master's data are, `specs/Causes.antt` why a step is refused, and `specs/Steps.antt` what an accepted
-//! one makes.
+//! `Core` has all of this in fields that the crates above read and change. Every core has the invariant of
+//! `specs/Invariant.antt`, and each function that borrows a core to change it has to leave a core that has the
+//! invariant. `specs/Log.antt` says which log a core has, `specs/Causes.antt` why a step is refused, and
+//! `specs/Steps.antt` what an accepted step makes of a core.
 //!
-//! The steps themselves are in three crates above, which don't know each other: `master_commands`, `master_rolls` and
-//! `master_space`. Here is what they share: how much memory is counted, and when a roll may begin.
+//! The steps themselves are in crates above: `master_commands`, `master_rolls`, `master_space` and `master_mending`.
+//! This crate has what they share: how much memory is counted, when a roll may begin, and what a fault leaves.
 #![tactic(auto)]
 
 mod budget;

@@ -1,4 +1,4 @@
-//! A list of objects that only clauses read.
+//! The objects that a master was loaded with. Only clauses of contracts read the list.
 
 ghost use Rattle.std.specs.Prelude.{◌≡◌, List, [], ◌∷◌};
 ghost use Rattle.std.specs.Borrow.{ftrue};
@@ -8,7 +8,7 @@ ghost use Rattle.entry.specs.View.{shown_object};
 use entry::ObjectRef;
 use std::marker::Model;
 
-/// The objects that were loaded, the last one first. It takes no bytes.
+/// The objects that were loaded, the last one first. The list has no bytes when the program runs.
 #[derive(Drop)]
 pub struct Loaded {
     pub ghost objects: { List Object },
@@ -18,20 +18,20 @@ impl Model for Loaded {
     ghost also_owns = { λ _. ftrue };
 }
 
-// A struct with `also_owns` has neither by itself. This one owns nothing.
+// A struct with `also_owns` is neither Send nor Sync by itself. This one owns nothing, so it may be both.
 unsafe impl Send for Loaded {}
 
 unsafe impl Sync for Loaded {}
 
 impl Loaded {
-    /// Nothing was loaded yet.
+    /// Makes the list without objects.
     pub fn nothing() -> Loaded
         ensures { result.objects ≡ [] }
     {
         Loaded {}
     }
 
-    /// One object more was loaded.
+    /// Makes the list with one object more.
     pub fn with(_before: &Loaded, _object: &ObjectRef<'_>) -> Loaded
         ensures { result.objects ≡ shown_object _object.now ∷ _before.now.objects }
     {

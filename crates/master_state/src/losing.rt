@@ -1,4 +1,4 @@
-//! What the failure of a backup leaves of a core.
+//! What a core becomes when a backup fails and a failover begins.
 
 ghost use Rattle.std.specs.Prelude.{◌≡◌, ◌+◌, ◌<◌, ◌≤◌, length, map, filter, true, false, None, Some, IfSome};
 ghost use Rattle.std.specs.List.{AllByRecursion};
@@ -18,8 +18,8 @@ use crate::waiting::Waiting;
 use images::Images;
 
 impl Core {
-    /// Whether a failure of a backup opens a failover: under format 2, if none is open, and as many backups as replicas
-    /// are left.
+    /// Returns true if a failure of a backup opens a failover: the format is 2, no failover is open, and at least as
+    /// many backups are left after the failure as a segment has replicas.
     pub fn may_lose(&self) -> bool
         ensures { result ≡ may_lose self.now }
     {
@@ -28,7 +28,8 @@ impl Core {
             && self.failed.count() as u64 + self.config.replicas < self.config.backups
     }
 
-    /// A backup has failed, and a failover begins. It takes no memory.
+    /// Counts this backup as failed and begins a failover. The head of a roll that was under way is abandoned. The call
+    /// takes no memory, so it can't fail.
     pub fn lose(&mut self, backup: u64)
         requires may { may_lose self.old ≡ true }
         requires there { backup < self.old.config.backups }
@@ -60,7 +61,7 @@ impl Core {
         });
     }
 
-    /// Which replica of the head is on this backup.
+    /// Which opened replica of the head is on this backup, if any is.
     fn place_of(&self, backup: u64) -> Option<usize>
         ensures place { result ≡ place_of self.now backup }
         ensures within { IfSome result (λ j. j < length self.now.head.taken) }
@@ -70,7 +71,7 @@ impl Core {
     }
 }
 
-/// One less, if a place below that many is gone.
+/// How many of the first `count` replicas are left if the one at this place is lost.
 fn less_by(count: usize, place: Option<usize>) -> usize
     ensures { result ≡ less_by count place }
 {
@@ -80,7 +81,7 @@ fn less_by(count: usize, place: Option<usize>) -> usize
     }
 }
 
-/// The replicas on the backup are no longer counted.
+/// Counts one replica less for each closed segment that has a replica on this backup.
 fn lose_replicas(closed: &mut Images, config: &Config, failed: &Failed, backup: u64)
     requires config { config_fault config.now ≡ None }
     requires left { length failed.now + config.now.replicas ≤ config.now.backups }
@@ -98,7 +99,8 @@ fn lose_replicas(closed: &mut Images, config: &Config, failed: &Failed, backup: 
     }
 }
 
-/// The same for the segments that wait. One that no backup holds any more doesn't wait either.
+/// Counts one replica less for each waiting segment that has or had a replica on this backup. A segment without a
+/// replica to free waits no more.
 fn lose_waiting(waiting: &mut Vec<Waiting>, config: &Config, failed: &Failed, backup: u64)
     requires config { config_fault config.now ≡ None }
     requires left { length failed.now + config.now.replicas ≤ config.now.backups }

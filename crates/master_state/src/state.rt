@@ -1,4 +1,4 @@
-//! What a master knows: how it begins, what it shows, and what a fault leaves.
+//! What a master knows: how a core begins, what it shows, and what a fault of a take makes of it.
 
 ghost use Rattle.std.specs.Prelude.{◌≡◌, ◌<◌, None, IfOk, OnErr, IsSome};
 ghost use Rattle.std.specs.Option.{option_map};
@@ -35,41 +35,41 @@ use replica::TakeFault;
 use std::alloc::Global;
 use std::marker::Model;
 
-/// What a master knows: its configuration, its images, where the live objects lie, the safe version, its history, and
-/// how far it has cleaned. The crates above read and change its fields, and what they leave is held to the invariant.
+/// What a master knows: its configuration, its images, its index, the safe version, its history, and how far it has
+/// cleaned. The crates above read and change the fields, and have to leave a core that has the invariant.
 #[derive(Drop)]
 pub struct Core {
-    /// Where its memory comes from.
+    /// The allocator that the core takes memory from.
     pub alloc: Global,
     pub config: Config,
     pub head: Head,
-    /// The images of the closed segments.
+    /// The images of the closed segments, and those of the survivors of the open pass.
     pub closed: Images,
-    /// The first number that no segment had yet.
+    /// The least id that no segment of this master has had.
     pub next_id: u64,
-    /// Where the live objects lie.
+    /// The index, which leads from keys to the places of the live objects.
     pub index: Index,
     /// The version that the next new key gets.
     pub safe: SafeVersion,
     /// The accepted commands, with their replies.
     pub history: History,
-    /// The open pass of cleaning.
+    /// The open pass, if there is one.
     pub pass: Option<Pass>,
-    /// Victims of earlier passes, in the order in which their replicas are freed.
+    /// The victims of earlier passes whose replicas are to be freed, in the order in which they are freed.
     pub waiting: Vec<Waiting>,
     /// The backups that failed.
     pub failed: Failed,
-    /// The failover that is open.
+    /// The open failover, if there is one.
     pub failover: Option<Failover>,
-    /// Whether it takes no further step.
+    /// True if the master takes no further step.
     pub is_halted: bool,
-    /// What it was loaded with before its history began.
+    /// The objects that the master was loaded with before its history began.
     pub loaded: Loaded,
-    /// The safe version that its history began with.
+    /// The safe version that the history began with.
     pub first_safe: SafeVersion,
-    /// What its backups answered.
+    /// What the master's backups answered.
     pub ledger: Ledger,
-    /// The heads that a roll was opening as the failover began.
+    /// The heads that a roll was opening as the last failover began. It is empty again once the new head is in force.
     pub abandoned: Abandoned,
 }
 
@@ -98,8 +98,8 @@ impl Model for Core {
       abandoned = m.abandoned.heads;
     } };
 
-    // while a roll is under way there is room for one more closed segment, and while a pass commits `waiting` has room
-    // for its victims
+    // While a roll is under way, `closed` has room for one more segment. While a pass commits, `waiting` has room for
+    // its victims.
     ghost invariant = { λ m. (IsSome m.head.roll → length m.closed.images < m.closed.room)
         × AreImagesOf m.config m.closed × IsCore (record {
           config = m.config;
@@ -123,7 +123,7 @@ impl Model for Core {
 }
 
 impl Core {
-    /// The core of a new master. Its head is in memory alone.
+    /// Makes the core of a new master. Its head is in memory alone: no backup has it yet.
     pub fn new(alloc: Global, config: Config) -> Result<Core, NoMemory>
         requires { config_fault config ≡ None }
         ensures made { IfOk result (λ core. core ≡ fresh_data config) }
@@ -132,8 +132,8 @@ impl Core {
         Core::restore(alloc, config, SafeVersion::first())
     }
 
-    /// The core of a new master that is to be loaded with objects of versions below `safe`. Its head is in memory
-    /// alone.
+    /// Makes the core of a new master that is to be loaded with objects of versions below `safe`. Its head is in
+    /// memory alone: no backup has it yet.
     pub fn restore(alloc: Global, config: Config, safe: SafeVersion) -> Result<Core, NoMemory>
         requires { config_fault config ≡ None }
         ensures made { IfOk result (λ core. core ≡ restored_data config safe) }
@@ -181,7 +181,7 @@ impl Core {
         Ok(core)
     }
 
-    /// What holds of every core.
+    /// Tells the caller's proof that this core has the invariant. The call does nothing when the program runs.
     pub fn show_valid(&self)
         ensures { IsCore self.now }
     {
@@ -202,7 +202,7 @@ impl Core {
         self.config.tablets.as_slice()
     }
 
-    /// Whether it takes no further step.
+    /// Returns true if the master takes no further step.
     pub fn is_halted(&self) -> bool
         ensures { result ≡ self.now.is_halted }
     {
@@ -217,14 +217,14 @@ impl Core {
         &self.head
     }
 
-    /// How many backups the configuration names. They are numbered from 0.
+    /// How many backups the configuration has. They are numbered from 0.
     pub fn backups(&self) -> u64
         ensures { result ≡ self.now.config.backups }
     {
         self.config.backups
     }
 
-    /// The home of a replica of a segment.
+    /// The home of a replica of a segment: the number of a backup that hasn't failed.
     #[inline(always)]
     pub fn home(&self, segment: u64, replica: usize) -> u64
         requires { replica < self.now.config.replicas }
@@ -241,7 +241,8 @@ impl Core {
         &self.history
     }
 
-    /// How many of the first records have units that every replica of the head took.
+    /// The durable count: how many of the first records have no unit that some replica of the head lacks. While a
+    /// failover is open, the count stays as it was when the failover began.
     pub fn durable(&self) -> u64
         ensures { result ≡ durable_now self.now }
     {
@@ -256,7 +257,7 @@ impl Core {
 
     // ---- the ledger
 
-    /// Posts what happened.
+    /// Adds a posting to the ledger.
     #[inline(always)]
     pub fn post(&mut self, posting: &Posting)
         ensures posted { self.new ≡ posted self.old posting.now }
@@ -265,7 +266,7 @@ impl Core {
         self.ledger = Ledger::with(&self.ledger, posting);
     }
 
-    /// Posts an op of a push that was taken, on this segment and backup.
+    /// Adds to the ledger that this backup took the op of a push, which is on this segment.
     #[inline(always)]
     pub fn post_push(&mut self, next: Next, segment: u64, backup: u64)
         requires few { replica_of next < 64 }
@@ -296,7 +297,7 @@ impl Core {
         }
     }
 
-    /// Posts the end of a roll, if this replica was the last.
+    /// Adds the end of a roll to the ledger if this replica is the last one.
     #[inline(always)]
     fn post_end(&mut self, replica: usize)
         requires { replica < 64 }
@@ -311,8 +312,9 @@ impl Core {
 
     // ---- a fault
 
-    /// What a fault of a take on this backup answers. Under format 2 the backup counts as failed from now on, and a
-    /// failover is open, if none was and as many backups as replicas are left. Else the master stays halted. No op of a
+    /// Treats a fault of a take on this backup, and returns the refusal of the step. After NoMemory and Spent the core
+    /// is as it was. After Fault the backup counts as failed and a failover begins, if the format is 2, no failover was
+    /// open, and at least as many backups are left as a segment has replicas; otherwise the master halts. No op of a
     /// master is Wrong.
     pub fn fail(&mut self, backup: u64, fault: TakeFault) -> Refusal
         requires right { fault ≡ TakeFault.Wrong → ⊥ }
@@ -338,7 +340,8 @@ impl Core {
         }
     }
 
-    /// What a fault of a raise answers. A failover is open then, so after a fault the master stays halted.
+    /// Treats a fault of the registry's raise in an open failover, and returns the refusal of the step. After NoMemory
+    /// and Spent the core is as it was. After Fault the master halts, because a failover is open.
     pub fn refuse_raise(&mut self, fault: TakeFault) -> Refusal
         requires right { fault ≡ TakeFault.Wrong → ⊥ }
         requires failing { IsSome self.old.failover }
@@ -358,7 +361,8 @@ impl Core {
         }
     }
 
-    /// The test that comes before all others of a step that is neither a command nor a push.
+    /// Makes the test that comes first for a compaction, a pass, a copy, a seal and a free. The test refuses them as
+    /// Halted if the master is halted, and as Rolling while a failover is open.
     pub fn admit(&self) -> Result<(), Refusal>
         ensures { result_err result ≡ step_refusal self.now }
     {
@@ -371,7 +375,7 @@ impl Core {
         Ok(())
     }
 
-    /// It takes no further step.
+    /// Halts the master: it takes no further step.
     pub fn halt(&mut self)
         ensures halted { self.new ≡ halted self.old }
         ensures valid { IsCore self.new }
@@ -381,14 +385,14 @@ impl Core {
 
     // ---- what is shown
 
-    /// The ids of the digest in force, in order. Nothing changes.
+    /// Returns the ids that the digest in force lists, in order.
     pub fn digest(&self) -> Result<Row<u64>, NoMemory>
         ensures { IfOk result (λ ids. ids ≡ digest_of self.now.head.image) }
     {
         Ok(Row::new(self.head.digest(self.alloc)?))
     }
 
-    /// The bytes of a segment's image; `None` if there is no such image. Nothing changes.
+    /// Returns a copy of the bytes of a segment's image, or `None` if there is no image with this id.
     pub fn bytes_of(&self, id: u64) -> Result<Option<Row<u8>>, NoMemory>
         ensures image { IfOk result (λ image. image ≡ option_map text_of (image_of self.now id)) }
         ensures refused { OnErr result (IsSome (image_of self.now id)) }

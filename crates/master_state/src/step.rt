@@ -11,21 +11,22 @@ use std::error::Error;
 use std::fmt;
 use versioned_map::{Command, Reply};
 
-/// A step of a master.
+/// A step of a master. Each step is accepted with a `StepAnswer`, or refused with a `Refusal`.
 #[derive(Drop)]
 pub enum Step {
-    /// One command of a seat. It takes nothing from the fleet.
+    /// One command of the seat of this number is applied. The step hands the fleet no op.
     Apply(u64, Command),
-    /// One op goes to one backup: all units that it lacks if a replica lags, and else the next Open or Close of a roll.
-    /// While a failover is open, its next op.
+    /// One op goes to one backup. If a replica of the head lags, the op extends it with all units that it lacks. Else
+    /// the op is the next Open or Close of a roll. While a failover is open, the step makes the failover's next push:
+    /// an op to one backup, or the raise of the registry.
     Push,
-    /// A roll to the next head begins. It takes nothing from the fleet.
+    /// A roll to the next head begins. The step hands the fleet no op.
     BeginRoll,
-    /// The image of a closed segment becomes its kept entries. It takes nothing from the fleet.
+    /// The image of the closed segment with this id is replaced by its kept entries. The step hands the fleet no op.
     Compact(u64),
-    /// A pass begins, with these segments as its victims. It takes nothing from the fleet.
+    /// A pass begins, with the segments of these ids as its victims. The step hands the fleet no op.
     BeginClean(Row<u64>),
-    /// The next entry of the open pass is moved, carried or dropped. It takes nothing from the fleet.
+    /// The next entry of the open pass is moved, carried or dropped. The step hands the fleet no op.
     Copy,
     /// One replica of the pass's survivors is sealed.
     Seal,
@@ -34,7 +35,7 @@ pub enum Step {
 }
 
 impl Step {
-    /// The same step, in memory of its own.
+    /// Returns a copy of the step, in memory of its own.
     pub fn copy(&self, alloc: Global) -> Result<Step, AllocError>
         ensures { IfOk result (λ copy. copy ≡ self.now) }
     {
@@ -51,7 +52,7 @@ impl Step {
     }
 }
 
-/// The same numbers, in memory of their own.
+/// Returns a copy of the numbers, in memory of their own.
 fn copy_of(alloc: Global, row: &Row<u64>) -> Result<Row<u64>, AllocError>
     ensures { IfOk result (λ copy. copy ≡ row.now) }
 {
@@ -61,64 +62,66 @@ fn copy_of(alloc: Global, row: &Row<u64>) -> Result<Row<u64>, AllocError>
 /// What an accepted step did.
 #[derive(Drop)]
 pub enum StepAnswer {
-    /// The place of the command's record in the history, from 0, and the reply.
+    /// The command was applied: the place of its record in the history, from 0, and the reply.
     Applied(u64, Reply),
-    /// The backup and the segment.
+    /// A replica of the head was extended: its backup and its segment.
     Extended(u64, u64),
-    /// The backup and the segment.
+    /// A replica of a head was opened: its backup and its segment.
     Opened(u64, u64),
-    /// The backup and the segment.
+    /// A replica of the old head was closed: its backup and its segment.
     Closed(u64, u64),
-    /// The number of the new head.
+    /// A roll began: the id of the new head.
     Rolling(u64),
-    /// The segment, and how many bytes its image has now.
+    /// A segment was compacted: its id, and how many bytes its image has now.
     Compacted(u64, u64),
-    /// The survivors of the pass.
+    /// A pass began: its survivors.
     Begun(Survivors),
-    /// A live object is in a survivor now, and the index names it there.
+    /// A live object was copied to a survivor, and the index names the copy.
     Moved,
-    /// A tombstone that is kept is in a survivor now.
+    /// A tombstone that is kept was copied to a survivor.
     Carried,
-    /// An entry that isn't kept was passed over.
+    /// The next entry isn't kept, so the pass didn't copy it.
     Dropped,
-    /// The backup.
+    /// A replica of a survivor was sealed: its backup.
     Sealed(u64),
-    /// The segment and the backup.
+    /// A replica was freed: its segment and its backup.
     Freed(u64, u64),
-    /// The registry lets no older head be used than this one.
+    /// The registry was raised to the head of this id: no recovery of this master may use an older head.
     Raised(u64),
-    /// The backup and the segment: a lost replica was sealed anew.
+    /// A lost replica was sealed anew: its new backup and its segment.
     Repaired(u64, u64),
 }
 
-/// Why a step was refused. The numbers are fixed.
+/// Why a step was refused. The numbers in the comments are fixed.
 #[derive(Clone, Copy, Debug, PartialEq, Eq)]
 pub enum Refusal {
     /// 1: the key and the value of a put are too big for a quarter of a segment.
     TooBig,
-    /// 2: the unit doesn't fit the head and no roll may begin, or a roll by itself or a pass may not begin.
+    /// 2: the unit doesn't fit the head and no roll may begin for it, or the roll or the pass that was asked for may
+    /// not begin.
     Full,
     /// 3: no version is left for the put.
     VersionsSpent,
-    /// 4: the history has as many records as it takes.
+    /// 4: the history has as many records as the configuration allows.
     HistoryFull,
     /// 5: memory ran out, and nothing changed.
     NoMemory,
     /// 6: a backup failed, in this step or an earlier one, and the master takes no further step.
     Halted,
-    /// 7: a roll is under way, or is due, or the first head is not open yet; or a failover is open.
+    /// 7: a roll is under way or has to come first, the first head is not open yet, or a failover is open.
     Rolling,
-    /// 8: nothing waits.
+    /// 8: there is nothing to push, copy, seal or free.
     Nothing,
-    /// 9: this segment can't be compacted, or no pass begins with these victims.
+    /// 9: this segment may not be compacted, or no pass may begin with these victims.
     Pass(PassFault),
-    /// 10: the fleet takes no more ops.
+    /// 10: the fleet is spent: it takes no more ops.
     Spent,
-    /// 11: no number is left for a segment.
+    /// 11: no id is left for a segment.
     SegmentsSpent,
-    /// 12: no tablet of the master has the key's place.
+    /// 12: no tablet of the master has the key.
     NoTablet,
-    /// 13: this backup failed in the step, and counts as failed from now on. A failover is open, which pushes end.
+    /// 13: this backup failed in the step, and counts as failed from now on. A failover is open now. Further pushes
+    /// bring it to its end.
     Lost(u64),
 }
 
