@@ -1,4 +1,4 @@
--- A core in a failover of which replicas took something, or whose failover goes on.
+-- A core stays valid when replicas of the head took units, or the open failover goes on with its next part.
 use Rattle.std.proofs.Common.{◌≡◌, ℕ, ◌≤◌, Bool, true, false, List, [], ◌∷◌, ◌++◌, ◌+◌, length, refl, sym, ap}
 use Rattle.std.proofs.Common.{subst, ◌∙◌, arith}
 use Rattle.std.specs.Prelude.{Option, Some, None, IfSome, is_some, not, nat_le, slice_set, sum_by, ◌||◌}

@@ -1,4 +1,4 @@
--- Counts of replicas one after the other.
+-- Lists element by element, and how many numbers of a list are below a bound.
 use Rattle.std.proofs.Common.{◌≡◌, ℕ, zero, suc, ◌+◌, ◌<◌, ◌≤◌, Bool, true, false, List, [], ◌∷◌, length, drop}
 use Rattle.std.proofs.Common.{add-one, refl}
 use Rattle.std.proofs.Common.{ap, arith}

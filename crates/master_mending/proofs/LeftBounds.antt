@@ -1,4 +1,4 @@
--- How many pushes an open failover still needs: at most so many, and none just if no failover is open.
+-- A bound on the pushes that an open failover still needs, and that none is needed just if no failover is open.
 use Rattle.std.proofs.Common.{◌≡◌, ℕ, suc, ◌+◌, ◌-◌, ◌*◌, ◌<◌, ◌≤◌, Bool, true, false, List, [], ◌∷◌, length, refl}
 use Rattle.std.proofs.Common.{sym, ap, subst, ◌∙◌, arith}
 use Rattle.std.specs.Prelude.{Option, Some, None, IfSome, IsSome, ◌↔◌, ◌==◌, nat_lt, if◌then◌else◌}

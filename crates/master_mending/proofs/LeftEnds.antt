@@ -1,4 +1,4 @@
--- The last Close of a failover: no more replicas are lost than before.
+-- The last Close of a failover doesn't raise the number of lost replicas.
 use Rattle.std.proofs.Common.{◌≡◌, inl, inr, ℕ, ◌-◌, ◌≤◌, Bool, true, false, List, refl}
 use Rattle.std.proofs.Common.{ap, subst, ◌∙◌, arith}
 use Rattle.std.specs.Prelude.{Option, Some, None, ◌==◌, if◌then◌else◌}

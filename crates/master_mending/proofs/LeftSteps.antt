@@ -1,4 +1,4 @@
--- Each push of an open failover lowers how many it still needs.
+-- Each push of an open failover lowers the number of pushes that the failover still needs.
 use Rattle.std.proofs.Common.{◌≡◌, ℕ, zero, suc, ◌+◌, ◌-◌, ◌<◌, ◌≤◌, Bool, true, false, List, [], ◌∷◌, ◌++◌, length}
 use Rattle.std.proofs.Common.{refl}
 use Rattle.std.proofs.Common.{sym, ap, subst, ◌∙◌, arith}

@@ -1,4 +1,4 @@
--- The segments of a digest one after the other: which lacks a replica first, and how many are lost.
+-- A walk over the segments of a digest finds the first that lacks a replica, and counts the lost replicas.
 use Rattle.std.proofs.Common.{◌≡◌, ℕ, zero, suc, ◌+◌, ◌-◌, ◌<◌, ◌≤◌, Bool, true, false, List, [], ◌∷◌, length, drop}
 use Rattle.std.proofs.Common.{add-one, refl}
 use Rattle.std.proofs.Common.{sym, ap, ◌∙◌, arith}

@@ -1,4 +1,4 @@
--- One more replica of the old head is closed in a failover, or the last one: what a core is then.
+-- A core stays valid when one more replica of the old head, or the last one, is closed in a failover.
 use Rattle.std.proofs.Common.{◌≡◌, ℕ, suc, Bool, true, false, List, [], ◌∷◌, refl, sym, ap, subst, ◌∙◌}
 use Rattle.std.specs.Prelude.{Option, Some, None, IfSome, is_none, ◌==◌, if◌then◌else◌}
 use Rattle.std.specs.Option.{option_map}

@@ -1,4 +1,4 @@
--- The registry is raised to the new head of a failover: what a core is then.
+-- A core stays valid when the registry was raised to the new head of a failover.
 use Rattle.std.proofs.Common.{◌≡◌, ℕ, Bool, true, false, [], ◌∷◌, length, refl, sym, ap, subst, ◌∙◌}
 use Rattle.std.specs.Prelude.{Option, Some, None, IsSome}
 use Rattle.std.specs.Option.{option_map, option_map_or}

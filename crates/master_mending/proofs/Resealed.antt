@@ -1,4 +1,4 @@
--- A core in a failover of which a lost replica was sealed anew.
+-- A core stays valid when a lost replica of a segment was sealed anew in a failover.
 use Rattle.std.proofs.Common.{◌≡◌, ℕ, ◌+◌, ◌<◌, ◌≤◌, Bool, true, false, List, [], ◌∷◌, ◌++◌}
 use Rattle.std.proofs.Common.{refl, sym, ap, subst, ◌∙◌, arith}
 use Rattle.std.specs.Prelude.{Option, Some, None, IfSome, IsSome, IsSomeAnd, is_some, is_none, ◌==◌, ◌||◌, unwrap_or}

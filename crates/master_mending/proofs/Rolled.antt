@@ -1,4 +1,4 @@
--- A core in a failover of whose roll one more replica is open or closed.
+-- A core stays valid when the roll of a failover has one more replica opened or closed.
 use Rattle.std.proofs.Common.{◌≡◌, ℕ, suc, true, false, [], refl, sym, ap, subst, ◌∙◌}
 use Rattle.std.specs.Prelude.{Option, Some, None, IfSome, is_some}
 use Rattle.std.specs.Option.{option_map_or}

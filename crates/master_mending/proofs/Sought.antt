@@ -1,4 +1,4 @@
--- A segment of the digest in force that lacks a replica: it has an image, and fewer replicas than it should.
+-- A segment that is found to lack a replica has an image, and fewer replicas than it should have.
 use Rattle.std.proofs.Common.{◌≡◌, inl, inr, ℕ, ◌<◌, Bool, true, false, List, [], ◌∷◌, refl, sym, ap, subst, ◌∙◌}
 use Rattle.std.proofs.Common.{arith}
 use Rattle.std.specs.Prelude.{Option, Some, None, IsSome, ◌==◌}

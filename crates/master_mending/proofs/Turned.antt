@@ -1,4 +1,4 @@
--- What the rule of a failover's new head leaves: its digest lists no more ids than it may, and no seglet is missing.
+-- If a failover's new head may be opened, its digest lists no more ids than it may, and no seglet is missing.
 use Rattle.std.proofs.Common.{◌≡◌, ◌+◌, ◌-◌, ◌<◌, ◌≤◌, Bool, true, false, length, sym, ap, ◌∙◌, arith}
 use Rattle.std.specs.Prelude.{if◌then◌else◌}
 use Rattle.std.specs.Prelude.{Option, Some, None, IfSome, ◌||◌, ◌&&◌, nat_le}

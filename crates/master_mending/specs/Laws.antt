@@ -1,4 +1,4 @@
--- What a failover still needs, push by push.
+-- Laws about how many pushes a failover still needs.
 use Rattle.std.specs.Prelude.{◌<◌, ◌≤◌}
 use Rattle.master_state.specs.Data.{MasterData}
 use Rattle.master_state.specs.Invariant.{IsCore}
@@ -7,10 +7,10 @@ use Rattle.master_mending.specs.declared.mending.Mend.TheVariants as mend
 use Rattle.master_mending.specs.Left.{left_now}
 use Rattle.master_mending.specs.Mending.{IsNextMend, turned_data, mended_data}
 
--- Each push that is taken lowers it.
+-- Each push that is taken lowers the number of pushes that the failover still needs.
 abbrev pub MendLowers : Type 0
 MendLowers = (d : MasterData) (m : Mend) → IsCore d → IsNextMend d m → left_now (mended_data d m) < left_now d
 
--- That the new head is put doesn't raise it, whether or not its first Open was taken.
+-- Putting the new head doesn't raise this number, even if its first Open isn't counted.
 abbrev pub TurnLowers : Type 0
 TurnLowers = (d : MasterData) → IsCore d → IsNextMend d mend.Turn → left_now (turned_data d) ≤ left_now d

@@ -31,18 +31,19 @@ use Rattle.master_mending.specs.declared.turning.NewHead.TheVariants as new_head
 
 -- ---- which comes next
 
--- a failover is open, in this part
+-- a failover is open, and this part of it is under way
 abbrev pub IsInPart : MasterData → Part → Type 0
 IsInPart d p = (f : Failover) × (d.failover ≡ Some f) × (f.part ≡ p)
 
--- no head was open on all its backups as it began
+-- a failover is open, and no head was open on all its backups when it began
 abbrev pub was_headless : MasterData → Bool
 was_headless d = option_map_or (λ (f : Failover). f.is_first) d.failover false
 
--- how many replicas of the new head are open, and which number it has: it is that of the roll, or the first head
+-- how many replicas of the new head are open; the new head is that of the roll, or else the first head
 abbrev pub opened_now : MasterData → ℕ
 opened_now d = option_map_or (λ (r : Roll). r.opened) d.head.roll (length d.head.taken)
 
+-- the number of the new head
 abbrev pub new_id : MasterData → ℕ
 new_id d = option_map_or (λ (r : Roll). r.id) d.head.roll d.head.id
 
@@ -50,9 +51,11 @@ new_id d = option_map_or (λ (r : Roll). r.id) d.head.roll d.head.id
 abbrev pub first_lost : MasterData → Option (ℕ × ℕ)
 first_lost d = first_lacking d.config.replicas d.closed (head_of d.head).start.others
 
--- The order of a failover's pushes: the replicas of the head that are left get all its units, the one that lags most
--- first; its lost replica is replaced; the new head is made and opened, replica by replica; the registry is raised to
--- it; the old head is closed, replica by replica; then each other lost replica is sealed anew, by segment.
+-- The push is the next one of the failover. The pushes come in this order: The head's replicas that are left get all
+-- its units, the one with the fewest units first. The head's lost replica is replaced. The new head is made, and opened
+-- replica by replica. The registry is raised to the new head. The old head is closed, replica by replica. Each other
+-- lost replica is sealed anew, segment by segment. If no head was open when the failover began, the Turn is its first
+-- push, and the raise its last.
 abbrev pub IsNextMend : MasterData → Mend → Type 0
 IsNextMend d (mend.Extend j) = IsInPart d part.Mends × (was_headless d ≡ false)
     × IsLagging (length d.head.units) d.head.taken (Some j)
@@ -66,7 +69,7 @@ IsNextMend d (mend.Close j) = IsInPart d part.Closes
     × (r : Roll) × (d.head.roll ≡ Some r) × (j ≡ r.closed)
 IsNextMend d (mend.Repair s j) = IsInPart d part.Repairs × (first_lost d ≡ Some (s, j))
 
--- it is no Turn
+-- the push is no Turn
 abbrev pub IsLater : Mend → Type 0
 IsLater (mend.Extend j) = Unit {0}
 IsLater (mend.Replace j) = Unit {0}
@@ -76,7 +79,7 @@ IsLater (mend.Raise id) = Unit {0}
 IsLater (mend.Close j) = Unit {0}
 IsLater (mend.Repair s j) = Unit {0}
 
--- and no raise, so that its op is known without more
+-- the push is neither a Turn nor a raise
 abbrev pub IsOnReplica : Mend → Type 0
 IsOnReplica (mend.Extend j) = Unit {0}
 IsOnReplica (mend.Replace j) = Unit {0}
@@ -88,50 +91,53 @@ IsOnReplica (mend.Repair s j) = Unit {0}
 
 -- ---- the new head
 
--- what it begins with: it lists the log, or what a commit leaves of it, and if no head was open yet, itself alone
+-- what the new head begins with: its digest lists the log, or what a commit leaves of the log. If no head was open when
+-- the failover began, the digest lists the new head alone.
 abbrev pub turn_start : MasterData → Start
 turn_start d = if was_headless d then lone_start d.next d.config.format d.safe else start_now d
 
--- how many replicas of the old head are closed, by the roll that was under way as the failover began
+-- how many replicas of the old head are left that were closed by the roll that was under way when the failover began
 abbrev pub closed_before : MasterData → ℕ
 closed_before d = option_map_or (λ (f : Failover). f.closed) d.failover 0
 
--- the roll to it, which goes on with the old head as an earlier one left it
+-- the roll to the new head; replicas of the old head that an earlier roll closed stay closed
 abbrev pub turn_roll : MasterData → Roll
 turn_roll d = record (fresh_roll d.config.master (start_now d)) { closed = closed_before d }
 
--- the image of its opening
+-- the new head's image, which is its opening
 abbrev pub new_text : NewHead → List Entry
 new_text (new_head.First h) = h.image
 new_text (new_head.Next r) = r.image
 
--- it is that of the core's next push
+-- this is the new head that the core's Turn makes
 abbrev pub IsNewHead : MasterData → NewHead → Type 0
 IsNewHead d (new_head.First h) = (was_headless d ≡ true)
     × (h ≡ fresh_head d.config.master d.config.replicas (lone_start d.next d.config.format d.safe))
 IsNewHead d (new_head.Next r) = (was_headless d ≡ false) × (r ≡ turn_roll d)
 
--- The head once the new one is put: it takes the place of the first, or a roll to it begins.
+-- The core's head once the new head is put: the new head takes the place of the first one, or a roll to it begins.
 abbrev pub put_data : NewHead → HeadValue → HeadValue
 put_data (new_head.First h) old = h
 put_data (new_head.Next r) old = record old { roll = Some r }
 
--- a roll begins only if none is under way
+-- the new head may be put: a roll to it begins only if no roll is under way
 abbrev pub MayPut : HeadValue → NewHead → Type 0
 MayPut old (new_head.First h) = Unit {0}
 MayPut old (new_head.Next r) = (old.roll ≡ None) × IsRollValue old.replicas (length old.taken) r
 
--- ---- what it makes of a core
+-- ---- what a push makes of a core
 
+-- the failover goes on with this part
 abbrev pub with_part : MasterData → Part → MasterData
 with_part d p = record d { failover = option_map (λ (f : Failover). record f { part = p }) d.failover }
 
--- the new head is opened, and the image of an abandoned one goes
+-- the failover goes on with the Opens of the new head, and the image of an abandoned head is dropped
 abbrev pub opening : Failover → Failover
 opening f = record f { part = part.Opens; abandoned = None }
 
--- The next head is made. If no head was open yet it takes the place of the first one; else it is that of a roll, a
--- commit where a pass is ready, with so many replicas of the old head closed as an earlier roll has closed.
+-- The new head is put, and none of its replicas is open. If no head was open when the failover began, the new head
+-- takes the place of the first one. Otherwise a roll to it begins, which is a commit if a pass is ready. Replicas of
+-- the old head that an earlier roll closed stay closed.
 abbrev pub turned_data : MasterData → MasterData
 turned_data d =
     if was_headless d then record d {
@@ -155,7 +161,7 @@ opened_more d j = record d {
   ledger = posting.Took (new_id d) (home d.config d.failed (new_id d) j) ∷ d.ledger;
 }
 
--- the registry is raised; a first head is in force then
+-- the registry was raised to the new head; a first head is then in force, and the failover has ended
 abbrev pub raised_data : MasterData → MasterData
 raised_data d =
     if was_headless d then record d {
@@ -164,11 +170,12 @@ raised_data d =
       ledger = posting.Ended ∷ d.ledger;
     } else with_part d part.Closes
 
--- with no lost replica left the failover has ended
+-- the failover has ended if no replica is lost any more
 abbrev pub repaired_data : MasterData → MasterData
 repaired_data d = if is_none (first_lost d) then record d { failover = None } else d
 
--- one more replica of the old head is closed; with the last one the new head is in force
+-- One more replica of the old head is closed. With the last Close the new head is in force, and the failover goes on
+-- with its Seals, or has ended if no replica is lost.
 abbrev pub closed_more : MasterData → ℕ → Roll → MasterData
 closed_more d j r =
     let e = closed_data (record d { ledger = posting.Shut (home d.config d.failed d.head.id j) ∷ d.ledger }) r in
@@ -183,7 +190,7 @@ sealed_anew d s j = repaired_data (record d {
   ledger = posting.Took s (home d.config d.failed s j) ∷ d.ledger;
 })
 
--- what a core becomes when the op of a failover's push was taken
+-- what a core becomes when a push of a failover was taken
 abbrev pub mended_data : MasterData → Mend → MasterData
 mended_data d (mend.Extend j) = pushed_data d (next.Extend j)
 mended_data d (mend.Replace j) = pushed_data d (next.OpenWhole j)
@@ -193,9 +200,9 @@ mended_data d (mend.Raise id) = raised_data d
 mended_data d (mend.Close j) = option_map_or (closed_more d j) d.head.roll d
 mended_data d (mend.Repair s j) = sealed_anew d s j
 
--- ---- its op
+-- ---- the op of a push
 
--- the segment and the replica that it is for
+-- the segment that the push is for
 abbrev pub segment_for : MasterData → Mend → ℕ
 segment_for d (mend.Extend j) = d.head.id
 segment_for d (mend.Replace j) = d.head.id
@@ -205,6 +212,7 @@ segment_for d (mend.Raise id) = id
 segment_for d (mend.Close j) = d.head.id
 segment_for d (mend.Repair s j) = s
 
+-- the number of the replica that the push is for
 abbrev pub replica_for : Mend → ℕ
 replica_for (mend.Extend j) = j
 replica_for (mend.Replace j) = j
@@ -214,7 +222,7 @@ replica_for (mend.Raise id) = 0
 replica_for (mend.Close j) = j
 replica_for (mend.Repair s j) = j
 
--- the backup that it is for
+-- the backup that the push is for
 abbrev pub backup_for : MasterData → Mend → ℕ
 backup_for d m = home d.config d.failed (segment_for d m) (replica_for m)
 
@@ -224,7 +232,7 @@ open_op d j =
     option_map_or (λ (r : Roll). op_of d.config.master d.head (next.OpenNew j)) d.head.roll
     (op_of d.config.master d.head (next.OpenFirst j))
 
--- what it hands to its backup; a raise hands over nothing
+-- the op that the push hands to a backup; a raise has none
 abbrev pub op_now : MasterData → Mend → Option OpValue
 op_now d (mend.Extend j) = Some (op_of d.config.master d.head (next.Extend j))
 op_now d (mend.Replace j) = Some (op_of d.config.master d.head (next.OpenWhole j))

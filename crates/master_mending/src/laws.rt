@@ -2,7 +2,8 @@
 
 ghost use Rattle.master_mending.specs.Laws.{MendLowers, TurnLowers};
 
-/// Each push of a failover lowers what it still needs, and a new head that is put doesn't raise it.
+/// Each push of a failover lowers the number of pushes that the failover still needs. Putting the new head doesn't
+/// raise this number.
 pub fn pushes_lower()
     ensures mends { MendLowers }
     ensures turns { TurnLowers }

@@ -10,7 +10,7 @@ use crate::lost::lost_of;
 use log_head::Head;
 use master_state::{Core, Part};
 
-/// How many pushes the failover that is open still needs, at most. 0 just if none is open.
+/// Returns how many pushes the open failover still needs, at most. 0 means that no failover is open.
 pub fn left(core: &Core) -> u64
     ensures { result ≡ left_now core.now }
 {
@@ -27,7 +27,7 @@ pub fn left(core: &Core) -> u64
     }
 }
 
-/// The lost replicas of the newest digest's segments.
+/// Counts the lost replicas of the segments that the newest digest lists. Neither head counts.
 fn lost_now(core: &Core) -> u64
     ensures lost { result ≡ lost_now core.now }
     ensures small { result ≤ 16777216 }
@@ -40,7 +40,8 @@ fn lost_now(core: &Core) -> u64
     }
 }
 
-/// The replicas of the head that lack some unit, and those that are lost.
+/// Counts the head's replicas that lack some unit, and its lost replicas. If no head was open on all its backups when
+/// the failover began, the count is the number of replicas that a segment has.
 fn unmended(core: &Core, is_first: bool) -> u64
     requires { is_first ≡ was_headless core.now }
     ensures unmended { result ≡ unmended core.now }
@@ -53,7 +54,7 @@ fn unmended(core: &Core, is_first: bool) -> u64
     (lagging(&core.head) + (core.config.replicas as usize - opened)) as u64
 }
 
-/// How many replicas lack some unit.
+/// Counts the head's replicas that lack some unit.
 fn lagging(head: &Head) -> usize
     ensures lagging { result ≡ count_below (length head.now.units) head.now.taken }
     ensures few { result ≤ length head.now.taken }
@@ -68,7 +69,7 @@ fn lagging(head: &Head) -> usize
     lagging
 }
 
-/// How many replicas of the new head are not open yet.
+/// Counts the new head's replicas that aren't open yet.
 fn unopened(head: &Head, replicas: u64) -> u64
     ensures { result ≡ replicas - option_map_or (λ (r : RollValue). r.opened) head.now.roll (length head.now.taken) }
 {
@@ -79,7 +80,7 @@ fn unopened(head: &Head, replicas: u64) -> u64
     replicas.saturating_sub(opened as u64)
 }
 
-/// How many replicas of the old head are to be closed.
+/// Counts the old head's replicas that aren't closed yet.
 fn to_close(head: &Head, replicas: u64) -> u64
     ensures { result ≡ option_map_or (λ (r : RollValue). replicas - r.closed) head.now.roll 0 }
 {

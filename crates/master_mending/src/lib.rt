@@ -1,10 +1,11 @@
-//! The pushes of an open failover, as far as they take nothing from the fleet.
+//! The pushes of an open failover: which comes next, its op, and its count. The functions of this crate hand no op to
+//! the fleet.
 //!
-//! After the failure of a backup a core makes a new head on other backups, and then its lost replicas anew. `next_mend`
-//! says which push comes next, `mend_op` what it hands to a backup, and `mended` counts it once it was taken. A Turn
-//! has functions of its own: `new_head` makes the new head, whose image its first Open hands over, and once a backup
-//! may have taken that it is put (`NewHead::put`). `specs/Mending.antt` has the order of these pushes and what each
-//! makes of a core.
+//! After the failure of a backup a core makes a new head on the backups that are left, and then makes its lost replicas
+//! anew. `next_mend` says which push comes next, `mend_op` makes its op, and `mended` counts the push once it was
+//! taken. The push Turn has functions of its own. `new_head` makes the new head, and its first Open hands the head's
+//! image to a backup. Once the backup took this Open, or may have taken it, `NewHead::put` puts the new head into the
+//! core. `specs/Mending.antt` says in which order the pushes come, and what each makes of a core.
 #![tactic(auto)]
 
 mod laws;

@@ -1,4 +1,4 @@
-//! Which replicas of a digest's segments are lost.
+//! Which of the segments that a digest lists lost replicas, and how many.
 
 ghost use Rattle.std.specs.Prelude.{◌≡◌, ◌≤◌, length};
 ghost use Rattle.master_state.specs.cleaner.Seals.{first_lacking};
@@ -9,7 +9,8 @@ ghost use Rattle.master_mending.specs.Left.{lost_of};
 use images::Images;
 use segment::Segment;
 
-/// The first segment of a head's digest beside the head that lacks a replica, and how many it has.
+/// Returns the first segment that lacks a replica, and how many replicas it has. The search goes through the segments
+/// that the head's digest lists, without the head itself.
 pub fn first_lost(image: &Segment, closed: &Images, replicas: usize) -> Option<(u64, usize)>
     ensures { result ≡ first_lacking replicas closed.now.images (but_last (digest_of image.now)) }
 {
@@ -27,8 +28,8 @@ pub fn first_lost(image: &Segment, closed: &Images, replicas: usize) -> Option<(
     None
 }
 
-/// How many replicas of the segments of a head's digest beside the head are lost. One of them, whose replicas aren't
-/// counted in `closed`, has all of its own.
+/// Counts the lost replicas of the segments that the head's digest lists, without the head itself. The segment `whole`
+/// counts as one that has all its replicas, since `closed` doesn't count them.
 pub fn lost_of(image: &Segment, whole: u64, closed: &Images, replicas: usize) -> u64
     requires few { replicas ≤ 64 }
     requires listed { length (digest_of image.now) ≤ 262144 }

@@ -1,4 +1,4 @@
-//! Which push comes next, its op, and what it makes of a core.
+//! Which push of an open failover comes next, its op, and what it makes of a core.
 
 ghost use Rattle.std.specs.Prelude.{◌≡◌, ◌<◌, ◌≤◌, ◌+◌, ◌*◌, ◌↔◌, ℕ, Some, None, IsSome, IfSome, if◌then◌else◌};
 ghost use Rattle.std.specs.Option.{option_map};
@@ -22,27 +22,27 @@ use master_rolls::end_pass;
 use master_state::{Abandoned, Core, Failover, Ledger, Part, Posting, image_of};
 use replica::{Act, Op};
 
-/// One push of an open failover, with the number of the replica that it is for.
+/// One push of an open failover. The `usize` is the number of the replica that the push is for.
 #[derive(Clone, Copy)]
 pub enum Mend {
-    /// A replica of the head gets all units that it lacks.
+    /// The push hands to a replica of the head all units that it lacks.
     Extend(usize),
-    /// The head is opened whole at the replacement of its lost replica.
+    /// The push opens the replacement of the head's lost replica, with all that the head holds.
     Replace(usize),
-    /// The new head is made, and opened on its first backup.
+    /// The push makes the new head, and opens it on its first backup.
     Turn,
-    /// The new head is opened on its next backup.
+    /// The push opens the new head on its next backup.
     Open(usize),
-    /// The registry is raised to the new head, which has this number.
+    /// The push raises the master's least head in the registry to the new head, which has this number.
     Raise(u64),
-    /// The old head is closed on a backup.
+    /// The push closes a replica of the old head.
     Close(usize),
-    /// A lost replica of this segment is sealed anew.
+    /// The push seals a lost replica of this segment anew, at a new home.
     Repair(u64, usize),
 }
 
 impl Mend {
-    /// The number of the replica.
+    /// Returns the number of the replica that the push is for. A Turn and a raise answer 0.
     pub fn replica(&self) -> usize
         ensures { result ≡ replica_for self.now }
     {
@@ -62,33 +62,33 @@ impl Mend {
 pub trait Mends {
     /// A failover is open.
     ghost is_failing: { Self → Type 0 };
-    /// This push is the next one.
+    /// The push is the next one.
     ghost is_next: { Self → MendValue → Type 0 };
-    /// Its op goes to a replica, and is not that of a Turn.
+    /// The push is neither a Turn nor a raise.
     ghost is_on_replica: { MendValue → Type 0 };
-    /// It is no Turn.
+    /// The push is no Turn.
     ghost is_later: { MendValue → Type 0 };
 
-    /// Which push comes next.
+    /// Returns the push that comes next.
     fn next_mend(&self) -> Mend
         requires { is_failing self.now };
 
-    /// The segment that a push is for.
+    /// Returns the segment that the push is for.
     fn mend_segment(&self, mend: Mend) -> u64
         requires { is_next self.now mend };
 
-    /// The op of a push that is neither a Turn nor a raise.
+    /// Returns the op of a push that is neither a Turn nor a raise.
     fn mend_op(&self, mend: Mend) -> Op<'_>
         requires next { is_next self.now mend }
         requires other { is_on_replica mend };
 
-    /// Counts the op of a push that was taken. That of a Turn is counted as `Open(0)`, once the new head is put.
+    /// Counts a push that was taken. The push Turn is counted as `Open(0)`, once the new head is put.
     fn mended(&mut self, mend: Mend)
         requires next { is_next self.old mend }
         requires other { is_later mend };
 
-    /// How many pushes the failover that is open still needs, at most. 0 just if none is open. For R replicas and logs
-    /// of up to L segments it is never above R * (L + 2) + 1.
+    /// Returns how many pushes the open failover still needs, at most. 0 means that no failover is open. For R replicas
+    /// and logs of up to L segments the answer is never above R * (L + 2) + 1.
     fn failover_left(&self) -> u64;
 }
 
@@ -185,7 +185,7 @@ impl Mends for Core {
 
 // ---- which comes next
 
-/// The next push while the head is mended.
+/// Returns the next push while the replicas of the head are mended.
 fn next_of_head(core: &Core, is_first: bool) -> Mend
     requires part { IsInPart core.now part.Mends }
     requires first { is_first ≡ was_headless core.now }
@@ -204,7 +204,7 @@ fn next_of_head(core: &Core, is_first: bool) -> Mend
     Mend::Turn
 }
 
-/// The next push while the new head is opened.
+/// Returns the next push while the new head is opened.
 fn next_of_opening(core: &Core) -> Mend
     requires { IsInPart core.now part.Opens }
     ensures { IsNextMend core.now result }
@@ -217,7 +217,7 @@ fn next_of_opening(core: &Core) -> Mend
     Mend::Raise(new_id(core))
 }
 
-/// How many replicas of the new head are open.
+/// Returns how many replicas of the new head are open.
 fn opened_now(core: &Core) -> usize
     ensures { result ≡ opened_now core.now }
 {
@@ -227,7 +227,7 @@ fn opened_now(core: &Core) -> usize
     }
 }
 
-/// The number of the new head.
+/// Returns the number of the new head.
 fn new_id(core: &Core) -> u64
     ensures { result ≡ new_id core.now }
 {
@@ -237,7 +237,7 @@ fn new_id(core: &Core) -> u64
     }
 }
 
-/// The next push while the old head is closed.
+/// Returns the next push while the old head is closed.
 fn next_of_closing(core: &Core) -> Mend
     requires { IsInPart core.now part.Closes }
     ensures { IsNextMend core.now result }
@@ -248,7 +248,7 @@ fn next_of_closing(core: &Core) -> Mend
     Mend::Close(roll.closed)
 }
 
-/// The next push while lost replicas are sealed anew.
+/// Returns the next push while lost replicas are sealed anew.
 fn next_repair(core: &Core) -> Mend
     requires { IsInPart core.now part.Repairs }
     ensures { IsNextMend core.now result }
@@ -260,7 +260,7 @@ fn next_repair(core: &Core) -> Mend
     Mend::Repair(segment, replica)
 }
 
-/// The first segment of the digest in force that lacks a replica, and how many it has.
+/// Returns the first segment of the digest in force that lacks a replica, and how many replicas it has.
 fn lost_first(core: &Core) -> Option<(u64, usize)>
     ensures { result ≡ first_lost core.now }
 {
@@ -273,7 +273,7 @@ fn lost_first(core: &Core) -> Option<(u64, usize)>
 
 // ---- its op
 
-/// The Open of one more replica of the new head.
+/// Returns the Open of one more replica of the new head.
 fn open_op(core: &Core, replica: usize) -> Op<'_>
     ensures { shown_op result ≡ open_op core.entry.now replica }
 {
@@ -285,7 +285,7 @@ fn open_op(core: &Core, replica: usize) -> Op<'_>
 
 // ---- what it makes of a core
 
-/// A replica of the head has all units.
+/// Counts and posts that a replica of the head took all units that it lacked.
 fn extend(core: &mut Core, replica: usize)
     requires { IsNextMend core.old (mend.Extend replica) }
     ensures extended { core.new ≡ mended_data core.old (mend.Extend replica) }
@@ -297,7 +297,7 @@ fn extend(core: &mut Core, replica: usize)
     core.head.extend(replica);
 }
 
-/// A lost replica of the head is replaced.
+/// Counts and posts that the replacement of the head's lost replica is open.
 fn replace(core: &mut Core, replica: usize)
     requires { IsNextMend core.old (mend.Replace replica) }
     ensures replaced { core.new ≡ mended_data core.old (mend.Replace replica) }
@@ -309,7 +309,7 @@ fn replace(core: &mut Core, replica: usize)
     core.head.open_whole();
 }
 
-/// One more replica of the new head is open.
+/// Counts and posts that one more replica of the new head is open.
 fn open(core: &mut Core, replica: usize)
     requires { IsNextMend core.old (mend.Open replica) }
     ensures opened { core.new ≡ opened_more core.old replica }
@@ -325,7 +325,8 @@ fn open(core: &mut Core, replica: usize)
     }
 }
 
-/// The registry is raised to the new head. The first head is in force then.
+/// Counts that the registry was raised to the new head. If there is an old head, the failover goes on with its Closes.
+/// Otherwise the new head is in force, and the failover has ended.
 fn raised(core: &mut Core)
     requires { (id : ℕ) × IsNextMend core.old (mend.Raise id) }
     ensures raised { core.new ≡ raised_data core.old }
@@ -340,7 +341,7 @@ fn raised(core: &mut Core)
     core.abandoned = Abandoned::none();
 }
 
-/// A failover goes on with this part.
+/// Lets an open failover go on with this part.
 fn go_on(failover: &mut Option<Failover>, part: Part)
     ensures { failover.new ≡ option_map (λ (f : FailoverValue). record f { part = part }) failover.old }
 {
@@ -349,7 +350,7 @@ fn go_on(failover: &mut Option<Failover>, part: Part)
     }
 }
 
-/// A failover has ended, if nothing is lost any more.
+/// Ends an open failover if no replica is lost any more.
 fn end_if(failover: &mut Option<Failover>, is_whole: bool)
     ensures { failover.new ≡ (if is_whole then None else failover.old) }
 {
@@ -358,7 +359,8 @@ fn end_if(failover: &mut Option<Failover>, is_whole: bool)
     }
 }
 
-/// One more replica of the old head is closed. The last one puts the new head in force.
+/// Counts and posts that one more replica of the old head is closed. The last Close puts the new head in force. The
+/// failover goes on with its Seals then, or has ended if no replica is lost.
 fn close(core: &mut Core, replica: usize)
     requires { IsNextMend core.old (mend.Close replica) }
     ensures closed { IfSome core.old.head.roll (λ (r : RollValue). core.new ≡ closed_more core.old replica r) }
@@ -380,7 +382,7 @@ fn close(core: &mut Core, replica: usize)
     end_if(&mut core.failover, is_whole);
 }
 
-/// A lost replica was sealed anew. With the last one the failover has ended.
+/// Counts and posts that a lost replica was sealed anew. The last of these Seals ends the failover.
 fn repair(core: &mut Core, segment: u64, replica: usize)
     requires { IsNextMend core.old (mend.Repair segment replica) }
     ensures repaired { core.new ≡ sealed_anew core.old segment replica }

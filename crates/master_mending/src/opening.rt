@@ -1,4 +1,4 @@
-//! How the new head of a failover is made, and what changes as it is put.
+//! How the new head of a failover is made, and what else changes in a core when the head is put.
 
 ghost use Rattle.std.specs.Prelude.{◌≡◌, ◌∷◌, [], length, true, IfOk, if◌then◌else◌};
 ghost use Rattle.std.specs.Option.{option_map};
@@ -13,7 +13,9 @@ use log_head::{Head, Leaving};
 use master_rolls::{entering, leaving_victims};
 use master_state::{Core, Failover, Ledger, Part, Posting};
 
-/// The new head. Its digest lists the log, or what the commit of a pass that is ready leaves of it. Nothing changes.
+/// Makes the new head of a failover, and changes nothing in the core. If a pass is ready, the new head commits it: its
+/// digest lists the survivors in place of the victims. Otherwise its digest lists the log. If no head was open on all
+/// its backups when the failover began, the digest lists the new head alone.
 pub fn new_head(core: &Core) -> Result<NewHead, NoMemory>
     requires next { IsNextMend core.now mend.Turn }
     requires may { may_turn core.now ≡ true }
@@ -54,7 +56,7 @@ pub fn new_head(core: &Core) -> Result<NewHead, NoMemory>
     Ok(NewHead::Next(roll))
 }
 
-/// How many victims wait to be freed once the roll to the new head has ended: those of a pass that is ready.
+/// Returns how many victims the roll to the new head takes out of the log: those of a pass that is ready, else 0.
 pub fn victims_of_commit(core: &Core) -> usize
     ensures { result ≡ (if is_ready core.now then length (victims_of core.now.pass) else 0) }
 {
@@ -64,7 +66,7 @@ pub fn victims_of_commit(core: &Core) -> usize
     }
 }
 
-/// The new head is being opened. The image of an abandoned one goes.
+/// Lets the failover go on with the Opens of the new head, and drops the image of a head that was abandoned.
 pub fn begin_opening(failover: &mut Option<Failover>)
     ensures { failover.new ≡ option_map opening failover.old }
 {
@@ -74,7 +76,7 @@ pub fn begin_opening(failover: &mut Option<Failover>)
     }
 }
 
-/// Posts that the new head has this id.
+/// Returns the ledger with one more posting: a head with this id was begun.
 pub fn ledger_of_turn(before: &Ledger, id: u64) -> Ledger
     ensures { result.postings ≡ PostingValue.Began id ∷ before.now.postings }
 {

@@ -1,4 +1,4 @@
-//! The new head of a failover before it is put.
+//! The new head of a failover, before it is put into a core.
 
 ghost use Rattle.std.specs.Prelude.{◌≡◌, ◌<◌, ◌≤◌};
 ghost use Rattle.entry.specs.Text.{text_of};
@@ -7,17 +7,17 @@ ghost use Rattle.master_mending.specs.Mending.{new_text, put_data, MayPut};
 
 use log_head::{Head, Roll};
 
-/// The new head of a failover before it is put.
+/// The new head of a failover, before it is put into a core.
 #[derive(Drop)]
 pub enum NewHead {
-    /// No head was open yet: it takes the place of the first one.
+    /// No head was open on all its backups yet. The new head takes the place of the first one.
     First(Head),
-    /// It is that of a roll.
+    /// The new head is that of a roll, which closes the old head.
     Next(Roll),
 }
 
 impl NewHead {
-    /// The bytes of its opening.
+    /// Returns the bytes of the new head's image, which is its opening.
     pub fn bytes(&self) -> &[u8]
         ensures { result.now ≡ text_of (new_text self.entry.now) }
     {
@@ -27,8 +27,9 @@ impl NewHead {
         }
     }
 
-    /// Puts it in the place of the first head, or begins the roll to it. The old image gives back the room that it has
-    /// above its seglets of this many bytes. No replica of it counts as open.
+    /// Puts the new head in the place of the first head, or begins the roll to it. No replica of the new head counts as
+    /// open yet. If a roll begins, the old head's image gives back the memory beyond the seglets that it fills. Each
+    /// seglet has `seglet` bytes.
     pub fn put(self, head: &mut Head, seglet: usize)
         requires seglet { (0 < seglet) × (seglet ≤ 65536) }
         requires may { MayPut head.old self }

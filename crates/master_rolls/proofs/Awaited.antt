@@ -1,4 +1,4 @@
--- Whether a record is durable, by the first unit that some replica lacks.
+-- A record is durable just if the first unit that some replica lacks is of a later record.
 use Rattle.std.proofs.Common.{◌≡◌, ◌⊎◌, ℕ, ◌<◌, ◌≤◌, true, false, not, Some, None, inl, inr, length, refl, sym, ap}
 use Rattle.std.proofs.Common.{◌∙◌, arith}
 use Rattle.std.specs.Prelude.{Option, is_none, is_some, nat_le, nat_lt, slice_get}

@@ -1,4 +1,4 @@
--- What a core counts, and what is left.
+-- How many seglets a core counts, and how many are left.
 use Rattle.std.proofs.Common.{ℕ, ◌+◌, ◌-◌, ◌≤◌, arith}
 use Rattle.std.specs.Prelude.{Option, Some, None, IsSome, is_some, ◌||◌, sum_by, if◌then◌else◌}
 use Rattle.images.specs.Image.{Image}
@@ -25,7 +25,7 @@ closing_fits d core some = go d.head.roll some core.budget where
   go None is le = absurd (cc)
   go (Some r) is le = omega arith
 
--- images that are counted by the configuration's sizes
+-- an image that fits the seglets that the configuration leaves also fits the free seglets of the images
 pub free_again : (c : Config) (v : ImagesValue) (x : Image) → AreImagesOf c v
     → count_of c.segment c.seglet x ≤ c.seglets - sum_by (count_of c.segment c.seglet) v.images
     → count_of v.segment v.seglet x ≤ free_seglets v

@@ -1,4 +1,4 @@
--- A replica of the old head was closed: what the call gave, and what a core is then.
+-- What a core becomes when a replica of the old head was closed.
 use Rattle.std.proofs.Common.{◌≡◌, ℕ, suc, Bool, true, false, List, [], refl, sym, ap, subst, ◌∙◌}
 use Rattle.std.specs.Prelude.{Option, Some, None, IfSome, IsSome, ◌==◌, is_none, if◌then◌else◌}
 use Rattle.std.specs.Option.{option_map_or}

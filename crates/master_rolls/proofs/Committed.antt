@@ -1,4 +1,4 @@
--- The roll of a commit ends, and its pass with it: what a core keeps.
+-- A core stays valid when the roll of a commit ends, and the pass with it.
 use Rattle.std.proofs.Common.{◌≡◌, ℕ, ◌<◌, ◌≤◌, Bool, true, false, List, [], ◌∷◌, length, refl, sym, ap, subst, ◌∙◌}
 use Rattle.std.proofs.Common.{◌⊎◌, ◌+◌, inl, inr, arith}
 use Rattle.std.specs.Prelude.{Option, Some, None, ◌==◌, sum_by, unwrap_or, if◌then◌else◌}

@@ -1,4 +1,4 @@
--- Victims that leave lists of ids and of images.
+-- How many ids and images are left when the victims are removed, and which of them are found.
 use Rattle.std.proofs.Common.{◌≡◌, ℕ, ◌+◌, ◌<◌, ◌≤◌, Bool, true, false, List, [], ◌∷◌, length, refl, sym, ap, subst}
 use Rattle.std.proofs.Common.{◌∙◌, arith}
 use Rattle.std.specs.Prelude.{◌==◌, filter, nat_lt, sum_by, None}

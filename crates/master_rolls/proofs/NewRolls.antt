@@ -1,4 +1,4 @@
--- A roll to a new head, an ordinary one or a failover's: what a core keeps of it, whatever the new head's digest lists.
+-- A core stays valid when a roll or a failover begins to open a new head, whatever the new head's digest lists.
 use Rattle.std.proofs.Common.{◌≡◌, inl, inr, ℕ, ◌+◌, ◌<◌, ◌≤◌, Bool, true, false, List, [], ◌∷◌, ◌++◌, length, refl}
 use Rattle.std.proofs.Common.{sym, ap, subst, ◌∙◌, arith}
 use Rattle.std.specs.Prelude.{Option, Some, None, IfSome, ◌==◌, ◌^◌, ◌||◌}

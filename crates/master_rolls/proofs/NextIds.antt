@@ -1,5 +1,5 @@
--- What the next head begins with, of a roll or of a failover: it lists the log, or what the commit of a pass leaves of
--- it. Its ids rise.
+-- The digest of the next head, of a roll or of a failover: it lists the log, or what the commit of a pass leaves of the
+-- log. Its ids rise.
 use Rattle.std.proofs.Common.{◌≡◌, ℕ, ◌+◌, ◌<◌, ◌≤◌, Bool, true, false, List, [], ◌∷◌, ◌++◌, length, refl, sym}
 use Rattle.std.proofs.Common.{ap, subst, ◌∙◌, arith}
 use Rattle.std.specs.Prelude.{if◌then◌else◌}

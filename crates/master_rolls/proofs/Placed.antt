@@ -1,4 +1,4 @@
--- What stands at the places that a pass has before it, and what of it is kept.
+-- Which entries lie at the places that a pass has still to treat, and which of them are kept.
 use Rattle.std.proofs.Common.{◌≡◌, ◌⊎◌, inl, inr, ℕ, ◌+◌, ◌<◌, Bool, true, false, List, [], ◌∷◌, ◌++◌, length}
 use Rattle.std.proofs.Common.{drop, refl, sym, ap, subst, ◌∙◌, append_assoc}
 use Rattle.std.specs.Prelude.{Some, filter, nat_le, ◌==◌}

@@ -1,4 +1,4 @@
--- A roll goes on, and ends: what a core keeps of it.
+-- A core stays valid while a roll goes on, and when the roll ends.
 use Rattle.std.proofs.Common.{◌≡◌, ℕ, ◌+◌, ◌<◌, ◌≤◌, Bool, true, false, List, [], ◌∷◌, ◌++◌, length, refl, sym, ap}
 use Rattle.std.proofs.Common.{subst, ◌∙◌, ◌⊎◌, inl, inr, append_assoc, arith}
 use Rattle.std.specs.Prelude.{Option, Some, None, IfSome, IsSome, IsSomeAnd, ◌==◌, ◌||◌, unwrap_or, sum_by, nat_lt}

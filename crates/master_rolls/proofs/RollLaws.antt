@@ -1,4 +1,4 @@
--- What a roll that begins is to the log.
+-- The start of a roll in a core is the start of a roll in the model of the log.
 use Rattle.std.proofs.Common.{◌≡◌, ℕ, suc, ◌+◌, ◌≤◌, Bool, true, false, List, [], length, refl, sym, ap, subst}
 use Rattle.std.proofs.Common.{◌∙◌, add-one, arith, inl, inr}
 use Rattle.std.specs.Prelude.{Option, Some, None, unwrap_or, ◌==◌, if◌then◌else◌}

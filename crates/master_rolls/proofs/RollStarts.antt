@@ -1,4 +1,4 @@
--- A roll begins: an ordinary one, or the commit of a pass that is ready.
+-- A core stays valid when a roll begins: an ordinary roll, or the commit of a pass that is ready.
 use Rattle.std.proofs.Common.{◌≡◌, ◌⊎◌, inl, inr, ℕ, zero, suc, ◌+◌, ◌-◌, ◌<◌, ◌≤◌, Bool, true, false, List, [], ◌∷◌}
 use Rattle.std.proofs.Common.{length, refl, sym, ap, subst, ◌∙◌, arith}
 use Rattle.std.specs.Prelude.{if◌then◌else◌}

@@ -1,4 +1,4 @@
--- The op of a push was taken: what a core keeps, and which images it has then.
+-- A core stays valid when the op of a push was taken, and which images the core has then.
 use Rattle.std.proofs.Common.{◌≡◌, ◌⊎◌, inl, inr, ℕ, suc, Bool, true, false, List, [], ◌∷◌, ◌++◌, refl, sym, ap, subst}
 use Rattle.std.proofs.Common.{◌∙◌, length, arith}
 use Rattle.std.specs.Prelude.{Option, Some, None, ◌==◌, slice_set, if◌then◌else◌}

@@ -1,4 +1,4 @@
-//! How a pass ends with the roll that commits it.
+//! How a pass ends at the end of the roll that commits it.
 
 ghost use Rattle.std.specs.Prelude.{◌≡◌, ◌+◌, ◌≤◌, ◌++◌, ◌&&◌, IfSome, true, length, nat_lt, vec_capacity};
 ghost use Rattle.images.specs.Sorted.{AreRising};
@@ -11,8 +11,9 @@ use cleaner::{Pass, Survivors};
 use images::{Image, Images};
 use master_state::Waiting;
 
-/// What the end of a roll leaves of a pass. If the roll was its commit, the pass ends: the images of its victims are
-/// dropped, what backups hold of them waits to be freed, and each survivor's image counts its length from then on. It takes no memory.
+/// Ends the open pass at the end of a roll, if the roll was its commit. The images of the victims are dropped, and the
+/// victims' replicas wait to be freed. From then on each survivor's image counts its length instead of a whole segment.
+/// After another roll the pass stays open. The call allocates no memory.
 pub fn end_pass(pass: &mut Option<Pass>, closed: &mut Images, waiting: &mut Vec<Waiting>)
     requires numbers { IfSome pass.old (λ p. AreIds p.survivors) }
     requires room { IfSome pass.old (λ p. p.is_committing ≡ true
@@ -31,7 +32,7 @@ pub fn end_pass(pass: &mut Option<Pass>, closed: &mut Images, waiting: &mut Vec<
     *pass = None;
 }
 
-/// Ends a pass that is committed.
+/// Drops the victims of a committed pass, lets their replicas wait, and trims the survivors' images.
 fn commit(pass: &Pass, closed: &mut Images, waiting: &mut Vec<Waiting>)
     requires numbers { AreIds pass.now.survivors }
     requires room { length waiting.old.items + length pass.now.victims ≤ vec_capacity waiting.old }
@@ -44,7 +45,7 @@ fn commit(pass: &Pass, closed: &mut Images, waiting: &mut Vec<Waiting>)
     trim(pass.survivors, closed);
 }
 
-/// Adds the images that are victims and that some backup holds.
+/// Adds to `waiting` each victim that some backup holds.
 fn add_leaving(victims: &[u64], images: &[Image], waiting: &mut Vec<Waiting>)
     requires rising { AreRising images.now }
     requires room { length waiting.old.items + length victims.now ≤ vec_capacity waiting.old }
@@ -57,14 +58,14 @@ fn add_leaving(victims: &[u64], images: &[Image], waiting: &mut Vec<Waiting>)
     }
 }
 
-/// Whether this is the image of a victim that some backup holds.
+/// Returns true if the image is that of a victim, and some backup holds a replica of this victim.
 fn leaves(victims: &[u64], image: &Image) -> bool
     ensures { result ≡ (has victims.now image.now.id && nat_lt 0 image.now.replicas) }
 {
     is_victim(victims, image.id()) && image.replicas() > 0
 }
 
-/// The segment of the image as it begins to wait.
+/// Returns the segment of the image as a segment that waits, with no replica freed yet.
 fn waiting_for(image: &Image) -> Waiting
     ensures { result ≡ waiting_for image.now }
 {
@@ -75,7 +76,7 @@ fn waiting_for(image: &Image) -> Waiting
     }
 }
 
-/// Whether the id is among the victims.
+/// Returns true if the id is among the victims.
 fn is_victim(victims: &[u64], id: u64) -> bool
     ensures { result ≡ has victims.now id }
 {
@@ -91,7 +92,7 @@ fn drop_victims(victims: &[u64], closed: &mut Images)
     }
 }
 
-/// Has the images of survivors count their length.
+/// Makes the image of each survivor count its length, and gives back the rest of its memory.
 fn trim(survivors: Survivors, closed: &mut Images)
     requires { AreIds survivors }
     ensures { closed.new ≡ record closed.old { images = all_trimmed (survivor_ids survivors) closed.old.images } }

@@ -1,9 +1,10 @@
-//! How what a master knows rolls to the next head, and what the end of a roll leaves of a pass. It takes nothing from
-//! the fleet.
+//! How a core rolls to the next head, and what the end of a roll leaves of a pass. The functions of this crate hand no
+//! op to the fleet.
 //!
-//! `Rolls` begins a roll, says what is pushed next, and counts what was taken. A roll that begins when a pass is ready
-//! commits the pass, and `end_pass` ends it with the last push of that roll (`specs/Ends.antt`). A failover makes a new
-//! head too. So its crate also asks here what the next digest leaves out and takes in (`leaving_victims`, `entering`).
+//! `Rolls` begins a roll, says which push comes next, and counts the pushes that were taken. A roll that begins when a
+//! pass is ready is the commit of this pass. With the last push of that roll `end_pass` ends the pass
+//! (`specs/Ends.antt`). A failover makes a new head too. So its crate also asks here which segments the next digest
+//! leaves out (`leaving_victims`) and takes in (`entering`).
 #![tactic(auto)]
 
 mod ending;

@@ -1,4 +1,4 @@
-//! How a core rolls to the next head, and what it pushes next.
+//! How a core rolls to the next head, and which push comes next.
 
 ghost use Rattle.std.specs.Prelude.{◌⊎◌, ◌≡◌, ◌<◌, ℕ, [], length, None, Some, IfSome, IfOk, IfErr, OnOk};
 ghost use Rattle.std.specs.Prelude.{OnErr, if◌then◌else◌, is_none, nat_lt};
@@ -23,27 +23,29 @@ use log_head::{Leaving, Next, RollMemory};
 use master_state::{Core, Posting, Refusal, StepAnswer};
 use std::alloc::Global;
 
-/// What a core pushes next, and how it rolls to the next head.
+/// How a core rolls to the next head, and which push comes next.
 pub trait Rolls {
-    /// This push is the next one, and no failover is open.
+    /// The push is the next one, and no failover is open.
     ghost may_take: { Self → NextValue → Type 0 };
 
     /// The history has a record at this place.
     ghost has_record: { Self → ℕ → Type 0 };
 
     /// Begins a roll. If a pass is ready, the roll is its commit: the next head's digest lists the survivors in place
-    /// of the victims. It takes the memory of the next head's image whole, and all that the end of the roll takes.
-    /// Nothing is appended until the roll has ended. A refusal changes nothing.
+    /// of the victims. The call reserves the memory of a whole segment for the next head's image, and all memory that
+    /// the end of the roll needs. Nothing is appended until the roll has ended. A refusal changes nothing.
     fn begin_roll(&mut self) -> Result<StepAnswer, Refusal>;
 
-    /// What the next push does, if no failover is open. `None` if nothing waits.
+    /// Returns what the next push does, if no failover is open. `None` means that nothing is left to push.
     fn next_push(&self) -> Option<Next>;
 
-    /// The same, unless the record at this place is durable. `None` if it is.
+    /// Returns what the next push does, if no failover is open and the record at this place isn't durable. `None` means
+    /// that the record is durable.
     fn next_push_for(&self, place: u64) -> Option<Next>
         requires { has_record self.now place };
 
-    /// Counts the op of a push that was taken. With the last Close of a commit its pass ends. It takes no memory.
+    /// Counts the op of a push that a backup took. The last Close of a commit ends the pass. The call allocates no
+    /// memory.
     fn took(&mut self, next: Next)
         requires { may_take self.old next };
 }
@@ -132,7 +134,8 @@ impl Rolls for Core {
     }
 }
 
-/// The tests of a roll by itself.
+/// Refuses a roll if the master is halted, if its head isn't open or a failover is under way, if no segment id is left,
+/// or if memory or the digest has no room for the roll.
 fn admit_roll(core: &Core) -> Result<(), Refusal>
     ensures { result_err result ≡ roll_refusal core.now }
 {
@@ -151,7 +154,7 @@ fn admit_roll(core: &Core) -> Result<(), Refusal>
     Ok(())
 }
 
-/// The ids that the next head's digest leaves out: the victims, if the roll is a commit.
+/// Returns the ids that the next head's digest leaves out: the victims, if the roll is a commit.
 pub fn leaving_victims(pass: &Option<Pass>, is_commit: bool) -> &[u64]
     ensures { result.now ≡ (if is_commit then victims_of pass.entry.now else []) }
 {
@@ -161,8 +164,8 @@ pub fn leaving_victims(pass: &Option<Pass>, is_commit: bool) -> &[u64]
     }
 }
 
-/// The segments that the next head's digest takes in, with their bytes as they were sealed: the survivors, if the roll
-/// is a commit.
+/// Returns the segments that the next head's digest takes in, with the lengths of their images in bytes: the survivors,
+/// if the roll is a commit.
 pub fn entering(
     alloc: Global,
     pass: &Option<Pass>,
@@ -179,7 +182,7 @@ pub fn entering(
     }
 }
 
-/// The survivors with their bytes.
+/// Lists the survivors with the lengths of their images in bytes.
 fn list_survivors(
     alloc: Global,
     survivors: Survivors,
@@ -199,7 +202,7 @@ fn list_survivors(
     Ok(segments)
 }
 
-/// How many bytes the image of a segment has.
+/// Returns the length of a closed segment's image in bytes, 0 if there is no image.
 fn len_of(closed: &Images, id: u64) -> u64
     ensures { result ≡ length (text_of (images_in closed.now.images id)) }
 {
@@ -209,7 +212,7 @@ fn len_of(closed: &Images, id: u64) -> u64
     }
 }
 
-/// Marks an open pass as one whose commit is under way, or not.
+/// Notes in an open pass whether its commit is under way.
 pub fn mark(pass: &mut Option<Pass>, is_commit: bool)
     ensures { pass.new ≡ option_map (λ (p : OpenPass). record p { is_committing = is_commit }) pass.old }
 {

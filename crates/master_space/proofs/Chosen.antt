@@ -1,4 +1,4 @@
--- Which segments may be chosen, by a walk over the closed ones.
+-- A walk over the closed segments finds just the candidates, and the best of them.
 use Rattle.std.proofs.Common.{◌≡◌, ℕ, ◌+◌, ◌-◌, ◌<◌, ◌≤◌, Bool, true, false, cond, List, [], ◌∷◌, ◌++◌, map, length}
 use Rattle.std.proofs.Common.{take, drop, get_or, refl, sym, ap, subst, ◌∙◌, inl, inr, add-one, drop-cons, arith}
 use Rattle.std.specs.Prelude.{Option, Some, None, IfSome, unwrap_or, filter, not, nat_lt, ◌==◌, ◌||◌, if◌then◌else◌}

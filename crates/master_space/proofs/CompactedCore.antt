@@ -1,4 +1,4 @@
--- A segment that is compacted: its image, what is counted, and what the index leads to.
+-- What a core becomes when a segment is compacted: the images, the seglets, and what the index leads to.
 use Rattle.std.proofs.Common.{◌≡◌, ℕ, ◌+◌, ◌≤◌, ◌<◌, Bool, true, false, List, [], ◌∷◌, length, refl, sym, ap, subst}
 use Rattle.std.proofs.Common.{◌∙◌, inl, inr, arith}
 use Rattle.std.specs.Prelude.{Option, Some, None, IfSome, IsSome, is_some, unwrap_or, not, ◌==◌, ◌||◌, if◌then◌else◌}

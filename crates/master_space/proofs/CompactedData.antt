@@ -1,4 +1,4 @@
--- What a core becomes by the values that a compaction has at hand.
+-- The values that the code of a compaction computes make the core that the definitions say.
 use Rattle.std.proofs.Common.{◌≡◌, ◌↔◌, ℕ, ◌+◌, ◌<◌, ◌≤◌, List, length, refl, sym, ap, subst, ◌∙◌}
 use Rattle.std.specs.Prelude.{Option, Some, None, Result, Ok, Err, IsErr}
 use Rattle.std.specs.Int.{div_ceil}

@@ -1,4 +1,4 @@
--- An open pass when a segment is compacted that is no part of it.
+-- An open pass stays valid when a segment is compacted that is neither its victim nor its survivor.
 use Rattle.std.proofs.Common.{◌≡◌, inl, inr, ℕ, ◌≤◌, ◌<◌, Bool, true, false, ◌==◌, ◌||◌, List, [], ◌∷◌, ◌++◌, refl, sym}
 use Rattle.std.proofs.Common.{ap, subst, ◌∙◌, arith}
 use Rattle.std.specs.Prelude.{Option, Some, None, IfSome, IsSome, IsSomeAnd, unwrap_or}

@@ -1,4 +1,4 @@
--- A core of whose pass one entry was treated.
+-- A core stays valid when its open pass has treated one more entry.
 use Rattle.std.proofs.Common.{◌≡◌, ℕ, ◌<◌, Bool, true, false, List, [], ◌∷◌, ◌++◌, length, refl, sym, ap, subst, ◌∙◌}
 use Rattle.std.proofs.Common.{◌+◌, ◌≤◌, inl, inr, append_assoc, arith}
 use Rattle.std.specs.Prelude.{Option, Some, None, IfSome, unwrap_or, ◌==◌, ◌||◌, if◌then◌else◌}

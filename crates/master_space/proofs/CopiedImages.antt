@@ -1,4 +1,4 @@
--- Images of which one has a copied entry more, or none.
+-- What stays true of the images when a survivor's image gets one more entry, or none.
 use Rattle.std.proofs.Common.{◌≡◌, ℕ, ◌+◌, ◌<◌, ◌≤◌, Bool, true, false, cond, List, [], ◌∷◌, ◌++◌, map, length, refl}
 use Rattle.std.proofs.Common.{sym, ap, ◌∙◌, arith}
 use Rattle.std.specs.Prelude.{Some, IsSomeAnd, sum_by, ◌==◌}

@@ -1,4 +1,4 @@
--- An index of which one object moves to its copy.
+-- What the index leads to when one object moves to its copy.
 use Rattle.std.proofs.Common.{◌≡◌, ℕ, true, List, refl, sym, ap, subst, ◌∙◌, inl, inr}
 use Rattle.std.specs.Prelude.{Option, Some}
 use Rattle.std.specs.List.{AllByRecursion}

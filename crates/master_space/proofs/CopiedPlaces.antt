@@ -1,4 +1,4 @@
--- What the index finds once one entry of a victim is treated.
+-- What the index finds after a pass has treated one entry of a victim.
 use Rattle.std.proofs.Common.{◌≡◌, ℕ, Bool, true, false, List, refl, sym, ap, subst, ◌∙◌}
 use Rattle.std.specs.Prelude.{Option, Some, if◌then◌else◌}
 use Rattle.std.specs.List.{AllByRecursion}

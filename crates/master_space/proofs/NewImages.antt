@@ -1,4 +1,4 @@
--- Images of new survivors, behind those of other segments.
+-- What is found and counted when the images of new survivors follow those of other segments.
 use Rattle.std.proofs.Common.{◌≡◌, ℕ, ◌+◌, ◌*◌, inl, inr, Bool, true, false, List, [], ◌∷◌, ◌++◌, map}
 use Rattle.std.proofs.Common.{length, refl, ap, arith}
 use Rattle.std.specs.Prelude.{Some, None, ◌==◌, sum_by}

@@ -1,4 +1,4 @@
--- Candidates in order.
+-- Sorted candidates: the place of one more, the first 32, and those that fit.
 use Rattle.std.proofs.Common.{◌≡◌, ℕ, zero, suc, ◌+◌, ◌<◌, ◌≤◌, Bool, true, false, cond, List, [], ◌∷◌, ◌++◌, length}
 use Rattle.std.proofs.Common.{take, drop, get_or, refl, sym, ap, subst, ◌∙◌, inl, inr, append_assoc, add-one, drop-cons}
 use Rattle.std.proofs.Common.{arith}

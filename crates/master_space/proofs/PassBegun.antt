@@ -1,4 +1,4 @@
--- A pass that begins leaves a core.
+-- The parts of a core that stay valid when a pass begins.
 use Rattle.std.proofs.Common.{◌≡◌, ℕ, ◌+◌, ◌<◌, ◌≤◌, Bool, true, false, List, [], ◌∷◌, ◌++◌, map, drop, length, refl}
 use Rattle.std.proofs.Common.{sym, ap, subst, ◌∙◌, arith, inl, inr}
 use Rattle.std.specs.Prelude.{Option, Some, None, IsSome, IsSomeAnd, unwrap_or, ◌==◌, ◌||◌, ◌⊎◌, if◌then◌else◌}

@@ -1,4 +1,4 @@
--- The places of a pass, and what lies there.
+-- The places that a pass treats, and the entries that lie there.
 use Rattle.std.proofs.Common.{◌≡◌, ℕ, ◌+◌, Bool, true, false, cond, List, [], ◌∷◌, ◌++◌, length, refl, sym, ap, subst}
 use Rattle.std.proofs.Common.{◌∙◌, inl, inr, arith}
 use Rattle.std.specs.Prelude.{◌⊎◌, ◌||◌, ◌==◌}

@@ -1,4 +1,4 @@
--- One of some closed segments is replaced.
+-- What stays true of the closed segments when the image of one is replaced by a shorter one.
 use Rattle.std.proofs.Common.{◌≡◌, ℕ, ◌+◌, ◌*◌, ◌%◌, ◌≤◌, ◌<◌, Bool, true, false, List, [], ◌∷◌, length, refl, sym, ap}
 use Rattle.std.proofs.Common.{subst, ◌∙◌, arith}
 use Rattle.std.proofs.Math.Nat.{lt_of_mul-lt-mul_right}

@@ -1,4 +1,4 @@
--- A core of whose survivors one more replica is sealed.
+-- A core stays valid when one more replica of a survivor was sealed.
 use Rattle.std.proofs.Common.{◌≡◌, ℕ, suc, ◌<◌, ◌≤◌, Bool, true, false, List, [], ◌∷◌, ◌++◌, refl, sym, ap}
 use Rattle.std.proofs.Common.{subst, ◌∙◌, arith}
 use Rattle.std.specs.Prelude.{Option, Some, None, IfSome, IsSome, IsSomeAnd, is_none, unwrap_or, ◌==◌}

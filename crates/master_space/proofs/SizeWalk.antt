@@ -1,4 +1,4 @@
--- What the walk knows that lists the sizes of live objects.
+-- What the loop knows that lists the sizes of a segment's live objects.
 use Rattle.std.proofs.Common.{◌≡◌, ℕ, ◌+◌, ◌≤◌, List, [], ◌∷◌, ◌++◌, length, map, refl, sym, ap, ◌∙◌, append_assoc}
 use Rattle.std.specs.Prelude.{Option, Some, None}
 use Rattle.std.specs.Option.{option_map, option_to_list}

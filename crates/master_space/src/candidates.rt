@@ -1,4 +1,4 @@
-//! Segments that may be victims, in the order in which a pass takes them.
+//! The segments that may be victims of a pass, sorted by how few bytes they keep.
 
 ghost use Rattle.std.specs.Prelude.{◌≡◌, ◌<◌, ◌≤◌, length, insert, take, vec_len, vec_capacity};
 ghost use Rattle.master_space.specs.Choosing.{is_before, placed};
@@ -9,18 +9,18 @@ use cleaner::MAX_VICTIMS;
 #[derive(Clone, Copy)]
 pub struct Candidate {
     pub id: u64,
-    /// The bytes of the objects and tombstones that it keeps.
+    /// How many bytes of its objects and tombstones are kept.
     pub kept: usize,
 }
 
-/// Whether a pass takes the first candidate before the other.
+/// Returns true if a pass takes `candidate` before `other`: if it keeps fewer bytes, or as many and has the lower id.
 fn is_before(candidate: &Candidate, other: &Candidate) -> bool
     ensures { result ≡ is_before candidate.now other.now }
 {
     candidate.kept < other.kept || (candidate.kept == other.kept && candidate.id < other.id)
 }
 
-/// Where a candidate belongs among others that are in order.
+/// Returns the place at which `candidate` goes into `candidates`, which are sorted.
 fn place_for(candidates: &[Candidate], candidate: &Candidate) -> usize
     ensures within { result ≤ length candidates.now }
     ensures place { insert candidates.now result candidate.now ≡ placed candidate.now candidates.now }
@@ -33,7 +33,7 @@ fn place_for(candidates: &[Candidate], candidate: &Candidate) -> usize
     candidates.len()
 }
 
-/// Puts a candidate at its place among the best, of which the first 32 stay. It takes no memory.
+/// Puts a candidate at its place among the sorted `best`, and keeps the first 32 of them. The call allocates no memory.
 pub fn rank(best: &mut Vec<Candidate>, candidate: Candidate)
     requires few { vec_len best.old ≤ 32 }
     requires room { 32 < vec_capacity best.old }

@@ -1,4 +1,4 @@
-//! Which segments a core's next pass takes, and what it does next.
+//! Which victims the next pass of a core takes, and which step a cleaner takes next.
 
 ghost use Rattle.std.specs.Prelude.{◌≡◌, ◌≤◌, ◌<◌, ◌^◌, ◌&&◌, suc, nat_lt, take, vec_len, vec_capacity, IfOk, OnErr};
 ghost use Rattle.std.specs.Prelude.{None, Some};
@@ -17,15 +17,17 @@ use compactor::{LogSet, kept_bytes};
 use entry::{NoMemory, Row};
 use master_state::{Core, Step};
 
-/// Which segments a pass takes next, and what a cleaner does next.
+/// Which victims the next pass takes, and which step a cleaner takes next.
 pub trait Chooses {
-    /// The segments that keep least, at most 32, as many as fill four survivors or as there is memory for. They are of
-    /// the digest in force, and no heads. Nothing changes.
+    /// Chooses the victims of the next pass, and changes nothing. Candidates are the segments of the digest in force
+    /// that are no heads. Those that keep the fewest bytes come first. The choice takes at most 32 of them. It ends
+    /// before a candidate whose kept entries would need a fifth survivor, or a survivor for which no memory is free.
     fn choose(&self) -> Result<Vec<u64>, NoMemory>;
 
-    /// What a cleaner does next: an open failover goes on, then an open pass, then what waits is freed, and then the
-    /// next pass begins, if it may and there is a victim. `None` if nothing is to be done. Nothing changes. Only a
-    /// choice of victims takes memory.
+    /// Returns the step that a cleaner takes next, and changes nothing. An open failover goes on first, then an open
+    /// pass. Without these, pushes come until the head is open. Then the replicas that wait are freed. Then the next
+    /// pass begins, if it may and has a victim. `None` means that nothing is to be done. Only the choice of victims
+    /// allocates memory.
     fn next_step(&self) -> Result<Option<Step>, NoMemory>;
 }
 
@@ -51,15 +53,15 @@ impl Chooses for Core {
     }
 }
 
-/// The next pass.
+/// The victims of the next pass, and how many survivors it has.
 #[derive(Drop)]
 struct NextPass {
     victims: Vec<u64>,
-    /// How many survivors what they keep fills.
+    /// How many survivors the kept entries of the victims fill.
     survivors: usize,
 }
 
-/// Which segments a pass takes next.
+/// Chooses the victims of the next pass.
 fn choice(core: &Core) -> Result<NextPass, NoMemory>
     ensures victims { IfOk result (λ choice. choice.victims.items ≡ chosen core.now) }
     ensures survivors { IfOk result (λ choice. choice.survivors ≡ survivors_for core.now (chosen core.now)) }
@@ -69,7 +71,8 @@ fn choice(core: &Core) -> Result<NextPass, NoMemory>
     fitting(core, best.as_slice())
 }
 
-/// The first candidates, as many as fill no more survivors than a pass may have, and than there is memory for.
+/// Takes the first candidates as victims. The choice ends before the first candidate whose kept entries would need more
+/// survivors than a pass may have, or than there is memory for.
 fn fitting(core: &Core, candidates: &[Candidate]) -> Result<NextPass, NoMemory>
     ensures victims { IfOk result (λ choice. choice.victims.items ≡ fitting core.now first_level candidates.now) }
     ensures survivors { IfOk result (λ choice. choice.survivors ≡ survivors_for core.now choice.victims.items) }
@@ -94,14 +97,15 @@ fn fitting(core: &Core, candidates: &[Candidate]) -> Result<NextPass, NoMemory>
     })
 }
 
-/// Whether a pass may fill its survivors so far: they are at most four, and there is memory for them.
+/// Returns true if a pass may fill its survivors up to `level`: they are at most four, and there is memory for them and
+/// one more segment.
 fn may_fill(core: &Core, level: Level) -> bool
     ensures { result ≡ (nat_lt level.survivor 4 && has_memory_for core.now (suc level.survivor)) }
 {
     level.survivor < MAX_SURVIVORS && has_memory_for(core, level.survivor + 1)
 }
 
-/// How far survivors are filled once they have what a segment keeps.
+/// Returns how far the survivors are filled after the kept entries of one more segment.
 fn filled_by(core: &Core, id: u64, level: Level) -> Level
     requires few { level.survivor < 4 }
     requires limit { level.len ≤ 2 ^ 24 }
@@ -126,7 +130,7 @@ fn filled_by(core: &Core, id: u64, level: Level) -> Level
     }
 }
 
-/// The first 32 of the segments that may be victims, by what they keep.
+/// Returns the 32 candidates that keep the fewest bytes, sorted; all of them if they are fewer.
 fn best(core: &Core) -> Result<Vec<Candidate>, NoMemory>
     ensures { IfOk result (λ best. best.items ≡ take 32 (sorted (candidates core.now))) }
 {
@@ -148,7 +152,8 @@ fn best(core: &Core) -> Result<Vec<Candidate>, NoMemory>
     Ok(best)
 }
 
-/// What an open pass does next.
+/// Returns the next step of an open pass: a copy or a seal, as long as one is left, and then a push or the roll of its
+/// commit.
 pub(crate) fn pass_step(core: &Core, pass: &Pass) -> Step
     requires { AreIds pass.now.survivors }
     ensures { result ≡ pass_step core.now pass.now }
@@ -168,7 +173,7 @@ pub(crate) fn pass_step(core: &Core, pass: &Pass) -> Step
     Step::Push
 }
 
-/// What a cleaner does next without a pass.
+/// Returns the step that a cleaner takes next if no failover and no pass is open.
 fn step_without(core: &Core) -> Result<Option<Step>, NoMemory>
     requires none { core.now.pass ≡ None }
     requires calm { core.now.failover ≡ None }

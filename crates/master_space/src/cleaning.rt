@@ -1,4 +1,5 @@
-//! A pass of a core: it begins, copies entry by entry, and its survivors are sealed. What it leaves is freed.
+//! The steps of a core's pass: it begins, it copies entry by entry, its survivors are sealed, and after its commit the
+//! replicas of its victims are freed.
 
 ghost use Rattle.std.specs.Prelude.{◌⊎◌, ◌≡◌, ◌<◌, ◌≤◌, ◌==◌, ◌∷◌, ◌++◌, ◌*◌, ◌+◌, [], ℕ, None, Some, length};
 ghost use Rattle.std.specs.Prelude.{IfOk, IfErr, IfSome, OnOk, OnErr, IsSome, is_none, if◌then◌else◌};
@@ -28,39 +29,41 @@ use master_state::{Config, Core, Posting, Refusal, StepAnswer, Waiting, image_of
 use replica::{Act, Op};
 use std::alloc::Global;
 
-/// The steps of a pass: it begins, it copies entry by entry, its survivors are sealed, and what it leaves is freed.
+/// The steps of a pass: it begins, it copies entry by entry, its survivors are sealed, and after its commit the
+/// replicas of its victims are freed.
 pub trait Cleans {
-    /// A survivor of the open pass has this number.
+    /// The open pass has a survivor with this number.
     ghost has_survivor: { Self → ℕ → Type 0 };
-    /// A replica of a survivor is to be sealed.
+    /// Some replica of a survivor is still to be sealed.
     ghost may_seal: { Self → Type 0 };
-    /// A replica of a segment is to be freed.
+    /// Some replica of a former victim is still to be freed.
     ghost may_free: { Self → Type 0 };
 
-    /// Begins a pass over these victims. Its survivors are as many as what the victims keep fills. They get the next
-    /// numbers, and each the memory of a whole segment. Or it is refused, and nothing changes.
+    /// Begins a pass over these victims. The pass gets as many survivors as the victims' kept entries fill. The
+    /// survivors get the next numbers, and each gets the memory of a whole segment. A refusal changes nothing.
     fn begin_clean(&mut self, victims: Row<u64>) -> Result<StepAnswer, Refusal>;
 
-    /// Copies the next entry of the open pass, if it is kept, and passes it over otherwise. Or it is refused, and
-    /// nothing changes. It takes no memory.
+    /// Treats the next entry of the open pass: copies it to a survivor if it is kept, and drops it otherwise. A refusal
+    /// changes nothing. The call allocates no memory.
     fn copy(&mut self) -> Result<StepAnswer, Refusal>;
 
-    /// The survivor that is sealed next, and its replica. `None` if no pass is open, if it has entries to copy, or if
-    /// all replicas are sealed.
+    /// Returns the survivor that is sealed next, and the number of the replica. `None` means that no pass is open, that
+    /// the open pass has entries left to copy, or that all replicas of its survivors are sealed.
     fn to_seal(&self) -> Option<(u64, usize)>;
 
-    /// The op that seals a replica of this survivor: its image, whole.
+    /// Returns the op that seals a replica of this survivor, with the whole text of its image.
     fn seal_op(&self, survivor: u64) -> Op<'_>
         requires { has_survivor self.now survivor };
 
-    /// Counts a seal that was taken.
+    /// Counts the next Seal, which a backup took.
     fn sealed(&mut self)
         requires { may_seal self.old };
 
-    /// The segment that waits first, and its replica that is freed next. `None` if nothing waits.
+    /// Returns the first segment that waits, and the number of its replica that is freed next. `None` means that no
+    /// replica waits to be freed.
     fn to_free(&self) -> Option<(u64, usize)>;
 
-    /// Counts a free that was taken. With its last replica a segment waits no more.
+    /// Counts the next Free, which a backup took. A segment stops waiting when its last replica was freed.
     fn freed(&mut self)
         requires { may_free self.old };
 }
@@ -179,7 +182,7 @@ impl Cleans for Core {
     }
 }
 
-/// Counts a free of the first segment that waits. With its last replica it waits no more.
+/// Counts a Free of the first segment that waits. The segment stops waiting when its last replica was freed.
 fn free_one(waiting: &mut Vec<Waiting>)
     requires some { 0 < length waiting.old.items }
     requires valid { AllByRecursion (λ one. one.freed < one.replicas) waiting.old.items }
@@ -194,8 +197,8 @@ fn free_one(waiting: &mut Vec<Waiting>)
     waiting[0].freed = first.freed + 1;
 }
 
-/// Adds the images of new survivors, whose numbers are above all others, with the memory of whole segments. On an error
-/// none is added.
+/// Adds the images of new survivors, each with the memory of a whole segment. The survivors' numbers are above all
+/// others. An error adds no image.
 fn add_survivors(
     closed: &mut Images,
     alloc: Global,
@@ -227,7 +230,7 @@ fn add_survivors(
     Ok(())
 }
 
-/// What a copy answers.
+/// Returns the answer of the step `copy`, by what became of the entry.
 fn copy_answer(copied: Copied) -> StepAnswer
     ensures { result ≡ copy_answer copied }
 {

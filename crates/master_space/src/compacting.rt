@@ -17,8 +17,8 @@ use master_state::{Core, Refusal, StepAnswer};
 
 /// How a core compacts a segment.
 pub trait Compacts {
-    /// Compacts a closed segment: its image becomes its kept entries, and the index follows. The replicas stay as they
-    /// are. Or it is refused, and nothing changes.
+    /// Compacts a closed segment: its image becomes its kept entries, and the index then leads to their new places. The
+    /// replicas stay as they are. A refusal changes nothing.
     fn compact(&mut self, id: u64) -> Result<StepAnswer, Refusal>;
 }
 
@@ -49,7 +49,7 @@ impl Compacts for Core {
     }
 }
 
-/// The number of the head that a roll is opening.
+/// Returns the number of the head that a roll is opening, or `None` without a roll.
 pub(crate) fn opening_id(head: &Head) -> Option<u64>
     ensures { result ≡ option_map (λ (r : Roll). r.id) head.now.roll }
 {
@@ -59,7 +59,7 @@ pub(crate) fn opening_id(head: &Head) -> Option<u64>
     }
 }
 
-/// Whether this is the number of the head, or of the head that a roll is opening.
+/// Returns true if this is the number of the head, or of the head that a roll is opening.
 pub(crate) fn is_head(core: &Core, id: u64) -> bool
     ensures { result ≡ is_head core.now.head id }
 {
@@ -72,7 +72,7 @@ pub(crate) fn is_head(core: &Core, id: u64) -> bool
     }
 }
 
-/// Whether this is the number of a survivor of the open pass.
+/// Returns true if this is the number of a survivor of the open pass.
 pub(crate) fn is_survivor(core: &Core, id: u64) -> bool
     ensures { result ≡ has_id (survivors_of core.now.pass) id }
 {
@@ -82,7 +82,7 @@ pub(crate) fn is_survivor(core: &Core, id: u64) -> bool
     }
 }
 
-/// Whether this is the number of a victim of the open pass.
+/// Returns true if this is the number of a victim of the open pass.
 fn is_victim(core: &Core, id: u64) -> bool
     ensures { result ≡ has_id (victims_of core.now.pass) id }
 {
@@ -92,7 +92,8 @@ fn is_victim(core: &Core, id: u64) -> bool
     }
 }
 
-/// The tests of a compaction.
+/// Refuses a compaction if the master is halted or a failover is open, if the segment is a head or isn't in the digest
+/// in force, or if it is a victim of the open pass.
 fn admit_compaction(core: &Core, id: u64) -> Result<(), Refusal>
     ensures { result_err result ≡ compact_refusal core.now id }
 {

@@ -1,9 +1,9 @@
-//! How what a master knows gets and gives back room. It takes nothing from the fleet.
+//! How a core gets memory back from its log. The functions of this crate hand no op to the fleet.
 //!
-//! `Compacts` replaces the image of a closed segment by its kept entries. `Cleans` has the steps of a pass, which moves
-//! what is kept of some segments into new ones, its survivors: the roll that begins when it is ready commits it
-//! (`master_rolls`). `Chooses` says which segments a pass takes, and what a cleaner does next (`specs/Choosing.antt`).
-//! `Measures` has the sizes of the live objects.
+//! `Compacts` replaces the image of a closed segment by its kept entries. `Cleans` has the steps of a pass. A pass
+//! copies the kept entries of some segments, its victims, into new segments, its survivors. The roll that begins when
+//! the pass is ready commits it (`master_rolls`). `Chooses` says which victims the next pass takes, and which step a
+//! cleaner takes next (`specs/Choosing.antt`). `Measures` lists the sizes of the live objects.
 #![tactic(auto)]
 
 mod candidates;

@@ -1,4 +1,4 @@
-//! What is under way, and goes on before anything else begins.
+//! The next step of what is under way in a core.
 
 ghost use Rattle.std.specs.Prelude.{◌≡◌, None};
 ghost use Rattle.master_space.specs.Choosing.{pending_step, pending_without};
@@ -6,8 +6,9 @@ ghost use Rattle.master_space.specs.Choosing.{pending_step, pending_without};
 use crate::choosing::pass_step;
 use master_state::{Core, Step};
 
-/// What goes on: an open failover, then an open pass, then a roll, and then what waits is freed. `None` if nothing is
-/// under way. It takes no memory.
+/// Returns the next step of what is under way. An open failover goes on first, then an open pass. Without these, pushes
+/// come until the head is open, and then the replicas that wait are freed. `None` means that nothing is under way. The
+/// call allocates no memory.
 pub fn pending_step(core: &Core) -> Option<Step>
     ensures { result ≡ pending_step core.now }
 {
@@ -20,7 +21,7 @@ pub fn pending_step(core: &Core) -> Option<Step>
     }
 }
 
-/// What goes on without a failover and a pass.
+/// Returns the next step of what is under way if no failover and no pass is open.
 fn pending_without(core: &Core) -> Option<Step>
     ensures { result ≡ pending_without core.now }
 {

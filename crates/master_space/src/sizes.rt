@@ -15,8 +15,8 @@ use segment::SegmentRef;
 
 /// The sizes of the live objects.
 pub trait Measures {
-    /// The sizes of the live objects, by table, then by place. Each is the length of the object's entry. Nothing
-    /// changes.
+    /// Lists the sizes of the live objects, sorted by table, then by place, and changes nothing. A size has the table
+    /// and the place of the object's key, and the length of the object's entry in bytes.
     fn sizes(&self) -> Result<Vec<Size>, NoMemory>;
 }
 
@@ -31,7 +31,7 @@ impl Measures for Core {
     }
 }
 
-/// The sizes of the live objects, as they lie in the images.
+/// Lists the sizes of the live objects, in the order in which the objects lie in the images.
 fn live_sizes(core: &Core) -> Result<Vec<Size>, NoMemory>
     ensures { IfOk result (λ sizes. sizes.items ≡ map size_of (live_objects core.now)) }
 {
@@ -44,7 +44,8 @@ fn live_sizes(core: &Core) -> Result<Vec<Size>, NoMemory>
     Ok(sizes)
 }
 
-/// The size of the object at this place; `None` if the entry is no object, or if the index doesn't hold its place.
+/// Returns the size of the object at this place. `None` means that the entry is no object, or that the index doesn't
+/// hold the place under the hash of its key.
 fn live_size(entry: &EntryRef<'_>, place: Place, index: &Index) -> Option<Size>
     ensures { result ≡ option_map size_of (live_at index.now.held place (shown entry.now)) }
 {
@@ -64,7 +65,7 @@ fn live_size(entry: &EntryRef<'_>, place: Place, index: &Index) -> Option<Size>
     }
 }
 
-/// Adds the sizes of the live objects of a segment.
+/// Adds the sizes of a segment's live objects to `sizes`.
 fn add_sizes(
     id: u64,
     segment: &SegmentRef<'_>,

@@ -1,4 +1,4 @@
-//! Whether a core's pass may begin, and over which segments.
+//! The tests that a core makes before a pass begins.
 
 ghost use Rattle.std.specs.Prelude.{◌≡◌, ◌≤◌, ◌∷◌, [], None, IfOk};
 ghost use Rattle.std.specs.Result.{result_err};
@@ -10,7 +10,8 @@ use cleaner::{MAX_VICTIMS, PassFault, PassSize, fit};
 use entry::MAX_SEGMENT_ID;
 use master_state::{Core, Refusal};
 
-/// The tests of a pass. The answer is how many survivors it has, and how many of the first victims are near.
+/// Tests whether a pass over these victims may begin. Returns how many survivors the pass has, and how many of the
+/// first victims may still be in cache.
 pub(crate) fn admit_pass(core: &Core, victims: &[u64]) -> Result<PassSize, Refusal>
     ensures refused { result_err result ≡ clean_refusal core.now victims.now }
     ensures survivors { IfOk result (λ size. size.survivors ≡ survivors_for core.now victims.now) }
@@ -22,7 +23,8 @@ pub(crate) fn admit_pass(core: &Core, victims: &[u64]) -> Result<PassSize, Refus
     admit_space(core, victims)
 }
 
-/// Why the segments may not be the victims of a pass, their bytes apart.
+/// Tests whether these segments may be the victims of a pass, apart from the room that the pass needs. The error is the
+/// first reason why they may not.
 fn check_victims(core: &Core, victims: &[u64]) -> Result<(), PassFault>
     ensures { result_err result ≡ victims_fault core.now victims.now }
 {
@@ -41,7 +43,7 @@ fn check_victims(core: &Core, victims: &[u64]) -> Result<(), PassFault>
     Ok(())
 }
 
-/// Why a segment may not be a victim beside these.
+/// Tests whether a segment may be a victim after the victims `before`. The error is the reason why it may not.
 fn check_victim(core: &Core, before: &[u64], id: u64) -> Result<(), PassFault>
     requires { core.now.pass ≡ None }
     ensures { result_err result ≡ victim_fault core.now before.now (id ∷ []) }
@@ -58,7 +60,8 @@ fn check_victim(core: &Core, before: &[u64], id: u64) -> Result<(), PassFault>
     Ok(())
 }
 
-/// The tests of a pass over segments that may be its victims, and what `admit_pass` answers.
+/// Tests whether there is room for a pass over these victims: its survivors are at most four, there is memory for them,
+/// the digest has places, and numbers are left. Returns what `admit_pass` returns.
 fn admit_space(core: &Core, victims: &[u64]) -> Result<PassSize, Refusal>
     requires { victims_fault core.now victims.now ≡ None }
     ensures refused { result_err result ≡ space_refusal core.now victims.now }
@@ -85,7 +88,7 @@ fn admit_space(core: &Core, victims: &[u64]) -> Result<PassSize, Refusal>
     Ok(size)
 }
 
-/// The rule of a pass with so many victims and survivors.
+/// Returns true if memory and the digest have room for a pass with so many victims and survivors.
 fn may_clean(core: &Core, victims: usize, survivors: usize) -> bool
     requires none { core.now.pass ≡ None }
     requires few { survivors ≤ 4 }
@@ -94,7 +97,7 @@ fn may_clean(core: &Core, victims: usize, survivors: usize) -> bool
     has_memory_for(core, survivors) && has_places_for(core, victims, survivors)
 }
 
-/// Whether a whole segment is free for each of so many survivors, and one more.
+/// Returns true if the memory of a whole segment is free for each of so many survivors, and for one segment more.
 pub(crate) fn has_memory_for(core: &Core, survivors: usize) -> bool
     requires few { survivors ≤ 4 }
     ensures { result ≡ has_memory_for core.now survivors }
@@ -102,7 +105,7 @@ pub(crate) fn has_memory_for(core: &Core, survivors: usize) -> bool
     (survivors as u64 + 1) * (core.config.segment / core.config.seglet) <= core.free()
 }
 
-/// Whether the log may have so many survivors and the head of the commit, in place of so many victims.
+/// Returns true if a digest has places for so many survivors and the head of the commit, once so many victims left it.
 pub(crate) fn has_places_for(core: &Core, victims: usize, survivors: usize) -> bool
     requires none { core.now.pass ≡ None }
     requires few { survivors ≤ 4 }
