@@ -44,6 +44,16 @@ safe_of_change safe (change.Create version) = version + 1
 safe_of_change safe (change.Replace dead version) = safe
 safe_of_change safe (change.Delete dead) = max safe (dead + 1)
 
+-- what the bytes of the live objects are after a change of a key whose object had this many
+abbrev pub live_of_change : ℕ → ℕ → Command → Change → ℕ
+live_of_change live had command change.Nothing = live
+live_of_change live had (Put k value when) (change.Create version) =
+    with_bytes (live - had) (object_bytes k value)
+live_of_change live had (Put k value when) (change.Replace dead version) =
+    with_bytes (live - had) (object_bytes k value)
+live_of_change live had (Put k value when) (change.Delete dead) = live - had
+live_of_change live had command change = live - had
+
 -- ---- the change that a command makes
 
 -- the version of what a key has, if any
@@ -74,6 +84,7 @@ pub record IsChangeOf (safe : ℕ) (x : Option Versioned) (command : Command) (c
   -- the change is Nothing exactly if the command appends nothing
   pub nothing : (segment : ℕ) → is_nothing change ≡ is_empty (unit_given safe segment x command)
   pub not_spent : is_spent safe x command ≡ false
+  pub live : (live : ℕ) → live_of_change live (bytes_of (command_key command) x) command change ≡ live_after live x command
 
 -- the change is that of a put under this condition, for each absent key and each value
 abbrev pub Creates : ℕ → If → Change → Type 0

@@ -23,11 +23,12 @@ use Rattle.log_head.specs.declared.head.Roll.{Roll}
 use Rattle.log_head.specs.Head.{HeadValue, is_open, digest_of}
 use Rattle.master_state.specs.declared.step.Refusal.{Refusal}
 use Rattle.master_state.specs.declared.step.Refusal.TheVariants.{Halted, TooBig, NoTablet, HistoryFull, VersionsSpent}
-use Rattle.master_state.specs.declared.step.Refusal.TheVariants.{Full, Rolling, Nothing}
+use Rattle.master_state.specs.declared.step.Refusal.TheVariants.{Full, Rolling, Nothing, Overcommit}
 use Rattle.master_state.specs.declared.step.Refusal.TheVariants.{SegmentsSpent, Pass}
 use Rattle.master_state.specs.Budget.{is_working, segments_for, may_roll, may_clean, victims_of}
 use Rattle.master_state.specs.Data.{MasterData}
 use Rattle.master_state.specs.Index.{segment_at}
+use Rattle.master_state.specs.Live.{object_bytes, live_after}
 use Rattle.master_state.specs.Log.{state_now, find, log_set_ids}
 use Rattle.master_state.specs.Waits.{next_seal}
 
@@ -39,11 +40,17 @@ is_too_big (Get k) segment = false
 is_too_big (Put k value when) segment = nat_lt (segment / 4) (50 + 2 * length k.bytes + length value)
 is_too_big (Delete k) segment = false
 
+-- a put whose object is longer than the configuration allows
+abbrev pub is_longer : Command → ℕ → Bool
+is_longer (Get k) largest = false
+is_longer (Put k value when) largest = nat_lt largest (object_bytes k value)
+is_longer (Delete k) largest = false
+
 -- the first test that refuses the command before its key is looked up
 abbrev pub early_refusal : MasterData → Command → Option Refusal
 early_refusal d command =
     if d.is_halted then Some Halted
-    else if is_too_big command d.config.segment then Some TooBig
+    else if is_too_big command d.config.segment || is_longer command d.config.largest then Some TooBig
     else if not (have_key d.config.tablets (command_key command)) then Some NoTablet
     else if nat_le d.config.history (length d.history) then Some HistoryFull
     else None
@@ -73,10 +80,19 @@ dead_segment d command = segment_at (find d (command_key command))
 abbrev pub unit_now : MasterData → Command → List Entry
 unit_now d command = unit_of (state_now d) (dead_segment d command) command
 
+-- the bytes of the live objects once the command is done
+abbrev pub live_now : MasterData → Command → ℕ
+live_now d command = live_after d.live ((state_now d).contents (command_key command)) command
+
+-- so many bytes of live objects are more than the limit, and more than there are
+abbrev pub is_overcommitted : MasterData → ℕ → Bool
+is_overcommitted d live = nat_lt d.config.most_live live && nat_lt d.live live
+
 -- the test that refuses a command once its key was looked up
 abbrev pub late_refusal : MasterData → Command → Option Refusal
 late_refusal d command =
     if is_spent (state_now d).safe ((state_now d).contents (command_key command)) command then Some VersionsSpent
+    else if is_overcommitted d (live_now d command) then Some Overcommit
     else unit_refusal d command (unit_now d command)
 
 -- the first test that refuses the command, want of memory apart; None if the command passes all tests

@@ -1,11 +1,14 @@
 -- The limits of a configuration, and the first limit that a configuration breaks.
-use Rattle.std.specs.Prelude.{◌*◌, ◌/◌, ◌%◌, ◌^◌, ◌==◌, ◌&&◌, Bool, not, nat_le, Option, Some, None, if◌then◌else◌}
+use Rattle.std.specs.Prelude.{◌*◌, ◌/◌, ◌%◌, ◌^◌, ◌==◌, ◌&&◌, ◌||◌, Bool, not, nat_le, Option, Some, None, if◌then◌else◌}
 use Rattle.entry.specs.Format.{is_within}
 use Rattle.entry.specs.Tablet.{are_tablets}
+use Rattle.packing.specs.declared.sizes.Sizes.{Sizes}
+use Rattle.packing.specs.Limits.{is_limit, unlimited}
 use Rattle.master_state.specs.declared.config.Config.{Config}
 use Rattle.master_state.specs.declared.config.ConfigFault.{ConfigFault}
 use Rattle.master_state.specs.declared.config.ConfigFault.TheVariants.{BadBackups, BadStep, BadSegment, BadSeglet}
 use Rattle.master_state.specs.declared.config.ConfigFault.TheVariants.{BadBudget, BadTablets, BadHistory, BadFormat}
+use Rattle.master_state.specs.declared.config.ConfigFault.TheVariants.{BadLive}
 
 -- a segment has at least one replica, there are at least as many backups as replicas, and at most 64 backups
 abbrev pub has_backups : Config → Bool
@@ -33,6 +36,15 @@ has_history c = is_within 1 1048576 c.history
 abbrev pub has_format : Config → Bool
 has_format c = is_within 1 2 c.format
 
+-- the sizes of a log of this configuration
+abbrev pub sizes_of : Config → Sizes
+sizes_of c = record { segment = c.segment; seglet = c.seglet; seglets = c.seglets; format = c.format }
+
+-- The live objects have no limit, or one that leaves room: a new master of this configuration can load any table within
+-- it, and then has two whole segments free.
+abbrev pub has_live : Config → Bool
+has_live c = (c.most_live == unlimited) || is_limit (sizes_of c) c.largest c.most_live
+
 -- what is wrong with a configuration: the first test that fails
 abbrev pub config_fault : Config → Option ConfigFault
 config_fault c =
@@ -44,4 +56,5 @@ config_fault c =
     else if not (has_tablets c) then Some BadTablets
     else if not (has_history c) then Some BadHistory
     else if not (has_format c) then Some BadFormat
+    else if not (has_live c) then Some BadLive
     else None

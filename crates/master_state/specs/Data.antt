@@ -52,6 +52,8 @@ pub record MasterData : Type 0 where
   pub ledger : List Posting
   -- the heads that a roll was opening as the last failover began; empty again once that failover's new head is in force
   pub abandoned : List Start
+  -- the bytes of the live objects
+  pub live : ℕ
 
 -- the data of a new master
 abbrev pub fresh_data : Config → MasterData
@@ -71,4 +73,5 @@ fresh_data config = record {
   origin = no_origin;
   ledger = [];
   abandoned = [];
+  live = 0;
 }

@@ -1,6 +1,7 @@
 pub mod Config
 pub mod Images
 pub mod Data
+pub mod Live
 pub mod Ledger
 pub mod Log
 pub mod Budget

@@ -22,6 +22,7 @@ use Rattle.master_state.specs.Budget.{is_working, may_roll}
 use Rattle.master_state.specs.Causes.{has_room, is_done, is_too_big}
 use Rattle.master_state.specs.Data.{Origin, MasterData, fresh_data}
 use Rattle.master_state.specs.Invariant.{IsCore}
+use Rattle.master_state.specs.Live.{object_bytes, with_bytes}
 use Rattle.master_state.specs.Log.{opening_of, log_of, find}
 use Rattle.master_state.specs.declared.ledger.Posting.TheVariants as posting
 use Rattle.master_state.specs.Steps.{rolling_data, pushed_data, halted, Fits}
@@ -79,11 +80,13 @@ pub record Loads (d : MasterData) (o : Object) (e : MasterData) : Type 0 where
   pub log : log_of e ≡ with_object (log_of d) o
   -- each place that the index finds it found before, or the place is in the head
   pub found : (k : Key) (p : Place) → find e k ≡ Some p → (find d k ≡ Some p) ⊎ (p.segment ≡ d.head.id)
-  -- the head has the object; apart from the head only the index and the origin changed
+  -- the head has the object; apart from the head only the index, the origin and the bytes of the
+  -- live objects changed
   pub rest : e ≡ record d {
     head = with_unit_end d.head 0 (loaded_unit o);
     index = e.index;
     origin = origin_with d.origin o;
+    live = with_bytes d.live (object_bytes o.key o.value);
   }
 
 -- the laws of the log let the object be loaded, and its unit fits the head

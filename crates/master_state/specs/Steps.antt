@@ -47,7 +47,7 @@ use Rattle.master_state.specs.declared.step.StepAnswer.TheVariants.{Applied, Rol
 use Rattle.master_state.specs.declared.step.StepAnswer.TheVariants.{Moved, Carried, Dropped}
 use Rattle.master_state.specs.Budget.{victims_of, survivors_of, is_ready}
 use Rattle.master_state.specs.Causes.{command_refusal, roll_refusal, compact_refusal, clean_refusal, copy_refusal}
-use Rattle.master_state.specs.Causes.{dead_segment, unit_now, survivors_for}
+use Rattle.master_state.specs.Causes.{dead_segment, live_now, unit_now, survivors_for}
 use Rattle.master_state.specs.declared.config.Config.{Config}
 use Rattle.master_state.specs.declared.failover.Failover.{Failover}
 use Rattle.master_state.specs.declared.failover.Part.TheVariants as part
@@ -89,12 +89,14 @@ pub record Applies (d : MasterData) (seat : ℕ) (command : Command) (answer : S
   pub log : log_of e ≡ applied (log_of d) (dead_segment d command) (record_now d seat command)
   -- each place that the index finds it found before, or the place is in the head
   pub found : (k : Key) (p : Place) → find e k ≡ Some p → (find d k ≡ Some p) ⊎ (p.segment ≡ d.head.id)
-  -- the head has the unit; apart from the head only the index, the safe version and the history changed
+  -- the head has the unit; apart from the head only the index, the safe version, the history
+  -- and the bytes of the live objects changed
   pub rest : e ≡ record d {
     head = appended d.head (length d.history) (unit_now d command);
     index = e.index;
     safe = e.safe;
     history = e.history;
+    live = live_now d command;
   }
 
 -- The command of a record is applied, and the answer has the record's place and reply.

@@ -2,13 +2,14 @@
 
 ghost use Rattle.std.specs.Prelude.{◌≡◌, ◌<◌, ◌≤◌, ◌%◌, length, None, Some, IfSome};
 ghost use Rattle.std.specs.Result.{result_err};
-ghost use Rattle.master_state.specs.Config.{config_fault, has_backups};
+ghost use Rattle.master_state.specs.Config.{config_fault, has_backups, sizes_of};
 ghost use Rattle.master_state.specs.Log.{backup_at, home, working, place_in};
 ghost use Rattle.master_state.specs.Names.{config_fault_name};
 
 use crate::failover::Failed;
 use entry::Tablets;
 use hash_index::KeyHasher;
+use packing::{Sizes, is_limit};
 use segment::MAX_SEGMENT_LEN;
 use std::error::Error;
 use std::fmt;
@@ -39,6 +40,12 @@ pub struct Config {
     pub hasher: KeyHasher,
     /// The format of the log, 1 or 2. Under format 2 the digest of each head lists the lengths of its segments.
     pub format: u64,
+    /// The most bytes of one object: 23 and those of its key and its value. A put of a longer one is TooBig. `u64::MAX`
+    /// sets no limit beside the quarter of a segment.
+    pub largest: u64,
+    /// The most bytes that puts make of all live objects together, each counted as above. `u64::MAX` sets no limit. Any
+    /// other number has to be one up to which a new master of the same sizes can load every table.
+    pub most_live: u64,
 }
 
 /// What is wrong with a configuration.
@@ -52,6 +59,7 @@ pub enum ConfigFault {
     BadTablets,
     BadHistory,
     BadFormat,
+    BadLive,
 }
 
 impl Error for ConfigFault {}
@@ -78,6 +86,7 @@ impl ConfigFault {
             ConfigFault::BadTablets => "BadTablets",
             ConfigFault::BadHistory => "BadHistory",
             ConfigFault::BadFormat => "BadFormat",
+            ConfigFault::BadLive => "BadLive",
         }
     }
 }
@@ -103,7 +112,7 @@ fn rest(number: u64, divisor: u64) -> u64
 
 impl Config {
     /// Returns Ok if the configuration is within its limits. Else the error names the first limit that is broken, in
-    /// this order: backups, step, seglet, segment, budget, tablets, history, format.
+    /// this order: backups, step, seglet, segment, budget, tablets, history, format, live bytes.
     pub fn check(&self) -> Result<(), ConfigFault>
         ensures { result_err result ≡ config_fault self.now }
     {
@@ -134,7 +143,22 @@ impl Config {
         if self.format < 1 || self.format > 2 {
             return Err(ConfigFault::BadFormat);
         }
+        if self.most_live != u64::MAX && !is_limit(&self.sizes(), self.largest, self.most_live) {
+            return Err(ConfigFault::BadLive);
+        }
         Ok(())
+    }
+
+    /// The sizes that decide how a log of this configuration is laid out.
+    pub fn sizes(&self) -> Sizes
+        ensures { result ≡ sizes_of self.now }
+    {
+        Sizes {
+            segment: self.segment,
+            seglet: self.seglet,
+            seglets: self.seglets,
+            format: self.format,
+        }
     }
 
     /// Returns true if a segment has at least one replica, there are at least as many backups as replicas, and there

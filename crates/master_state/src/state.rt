@@ -71,6 +71,8 @@ pub struct Core {
     pub ledger: Ledger,
     /// The heads that a roll was opening as the last failover began. It is empty again once the new head is in force.
     pub abandoned: Abandoned,
+    /// The bytes of the live objects. `u64::MAX` stands for as many or more.
+    pub live: u64,
 }
 
 impl Model for Core {
@@ -96,6 +98,7 @@ impl Model for Core {
       origin = record { objects = m.loaded.objects; safe = m.first_safe };
       ledger = m.ledger.postings;
       abandoned = m.abandoned.heads;
+      live = m.live;
     } };
 
     // While a roll is under way, `closed` has room for one more segment. While a pass commits, `waiting` has room for
@@ -117,6 +120,7 @@ impl Model for Core {
           origin = record { objects = m.loaded.objects; safe = m.first_safe };
           ledger = m.ledger.postings;
           abandoned = m.abandoned.heads;
+          live = m.live;
         })
         × IfSome m.pass (λ p. p.is_committing ≡ true
         → length m.waiting.items + length p.victims ≤ vec_capacity m.waiting) };
@@ -176,6 +180,7 @@ impl Core {
             first_safe: safe,
             ledger: Ledger::empty(),
             abandoned: Abandoned::none(),
+            live: 0,
         };
         core.show_valid();
         Ok(core)

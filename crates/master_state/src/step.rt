@@ -123,6 +123,8 @@ pub enum Refusal {
     /// 13: this backup failed in the step, and counts as failed from now on. A failover is open now. Further pushes
     /// bring it to its end.
     Lost(u64),
+    /// 14: the put would make the live objects more than their limit, and more than they are.
+    Overcommit,
 }
 
 impl Error for Refusal {}
@@ -145,6 +147,7 @@ impl fmt::Display for Refusal {
             Refusal::SegmentsSpent => write!(f, "SegmentsSpent"),
             Refusal::NoTablet => write!(f, "NoTablet"),
             Refusal::Lost(backup) => write!(f, "Lost {backup}"),
+            Refusal::Overcommit => write!(f, "Overcommit"),
         }
     }
 }
