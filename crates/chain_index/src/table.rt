@@ -35,7 +35,8 @@ impl Model for ChainTable {
     ghost invariant = { λ t. AreInParts (chain_of (length t.chains.items)) 0 t.chains.items };
 }
 
-/// Returns to which of `count` chains a hash belongs. If `count` is a power of two, every chain has some hashes.
+/// Returns the number of the chain to which a hash belongs, of `count` chains. If `count` is a power of two, then some
+/// hashes belong to each chain.
 #[inline]
 fn chain_at(count: usize, hash: u64) -> usize
     requires { 0 < count }
