@@ -1,4 +1,4 @@
--- A change of one place in front.
+-- A change of one place in the front of a chain.
 use Rattle.std.proofs.Common.{◌≡◌, ℕ, List, length, ap, ◌∙◌, arith}
 use Rattle.std.specs.Prelude.{slice_set}
 use Rattle.std.specs.List.{refill}

@@ -1,4 +1,4 @@
-//! A chain of places.
+//! Chains: the lists of places of which a table consists.
 
 ghost use Rattle.std.specs.Prelude.{◌≡◌, ℕ, ◌∷◌, ◌++◌, [], Option, true, OnOk, OnErr};
 ghost use Rattle.entry.specs.declared.key.Key.{Key};
@@ -14,8 +14,8 @@ use places::{Held, Place, Resolve};
 use std::alloc::Global;
 use std::marker::Model;
 
-/// The places of some hashes: the first few lie in the table itself, and the others in memory of their own. If one of
-/// the first is taken out, the next place that is pushed takes its room.
+/// A chain: the places whose hashes belong to it. The first three places lie in the table itself, and the others in
+/// memory of their own. If one of the first three is removed, the next place that is pushed takes its room.
 #[derive(Drop)]
 pub(crate) struct Chain {
     front: Front,
@@ -32,7 +32,7 @@ impl Model for Chain {
 }
 
 impl Chain {
-    /// A chain of no places. It takes no memory.
+    /// Makes a chain without places. This call allocates no memory.
     pub(crate) fn new(alloc: Global) -> Chain
         ensures { result ≡ [] }
     {
@@ -42,7 +42,7 @@ impl Chain {
         }
     }
 
-    /// The first places, and the others.
+    /// Returns the places that lie in the table itself, and the others.
     #[inline]
     pub(crate) fn parts(&self) -> (&[Held], &[Held])
         ensures { result.0.now ++ result.1.now ≡ self.now }
@@ -50,7 +50,7 @@ impl Chain {
         (self.front.as_slice(), self.more.as_slice())
     }
 
-    /// The place of a key of this hash.
+    /// Returns the place of the key, whose hash is `hash`, or None if the chain has no place for it.
     #[inline]
     pub(crate) fn get<R: Resolve>(&self, hash: u64, resolver: &R, key: &KeyRef<'_>) -> Option<Place>
         ensures { (hash_of : Key → ℕ) → hash ≡ hash_of (shown_key key.now)
@@ -63,7 +63,7 @@ impl Chain {
         }
     }
 
-    /// The first place that is held with a hash.
+    /// Returns the first place that the chain holds under this hash, or None if it holds none.
     #[inline]
     pub(crate) fn candidate(&self, hash: u64) -> Option<Place>
         ensures { (hash_of : Key → ℕ) (keys : PlaceValue → Option Key) (k : Key) → hash ≡ hash_of k
@@ -75,7 +75,7 @@ impl Chain {
         }
     }
 
-    /// Whether it holds this place under this hash.
+    /// Returns true if the chain holds this place under this hash.
     #[inline]
     pub(crate) fn holds(&self, held: Held) -> bool
         ensures { result ≡ holds_in self.now held }
@@ -83,7 +83,7 @@ impl Chain {
         self.front.holds(held) || self.more.holds(held)
     }
 
-    /// Whether its first place is this one under this hash.
+    /// Returns true if the first place of the chain is this place under this hash.
     #[inline]
     pub(crate) fn holds_first(&self, held: Held) -> bool
         ensures { result ≡ true → holds_in self.now held ≡ true }
@@ -91,14 +91,14 @@ impl Chain {
         self.front.holds_first(held)
     }
 
-    /// Prefetches the first place. The result is meaningless; it only keeps the compiler from removing the
+    /// Prefetches the first place of the chain. The result has no meaning; it keeps the compiler from removing the
     /// load.
     #[inline(always)]
     pub(crate) fn touch(&self) -> u64 {
         self.front.touch()
     }
 
-    /// A place that it holds under this hash becomes another place. Whether it was there.
+    /// Moves `held` to the place `to`, under the same hash. Returns true if the chain held it.
     pub(crate) fn relocate(&mut self, held: Held, to: Place) -> bool
         ensures had { result ≡ holds_in self.old held }
         ensures moved { self.new ≡ relocated_in held to self.old }
@@ -106,7 +106,7 @@ impl Chain {
         self.front.relocate(held, to) || self.more.put(held, to)
     }
 
-    /// A place that it holds under this hash is taken out. Whether it was there.
+    /// Removes `held` from the chain. Returns true if the chain held it.
     pub(crate) fn take_out(&mut self, held: Held) -> bool
         ensures had { result ≡ holds_in self.old held }
         ensures taken { self.new ≡ without held self.old }
@@ -114,7 +114,8 @@ impl Chain {
         self.front.take_out(held) || self.more.leave_out(held)
     }
 
-    /// One more place: in the table if the chain has room there, or else in memory for just as many.
+    /// Adds a place: in the table itself if the chain has room there, or else in memory that grows by one place. If
+    /// memory runs out, nothing changed.
     #[inline]
     pub(crate) fn push(&mut self, held: Held) -> Result<(), NoMemory>
         ensures ok { OnOk result (IsShuffled (self.old ++ held ∷ []) self.new) }

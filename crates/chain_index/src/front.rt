@@ -12,10 +12,10 @@ use place_index::{first_slot, is_same_held, slot_at, slot_of};
 use places::{Held, Place, Resolve};
 use std::marker::Model;
 
-/// How many places of a chain lie in the table itself.
+/// The most places of a chain that lie in the table itself.
 const IN_FRONT: usize = 3;
 
-/// A few places, in no memory of their own. A contract sees them as a list.
+/// Up to three places, which need no allocated memory. A contract sees them as a list.
 #[derive(Drop)]
 pub(crate) struct Front {
     held: ArrayVec<Held, IN_FRONT>,
@@ -31,7 +31,7 @@ impl Model for Front {
 }
 
 impl Front {
-    /// No place.
+    /// Makes a front without places.
     pub(crate) fn new() -> Front
         ensures { result ≡ [] }
     {
@@ -40,7 +40,7 @@ impl Front {
         }
     }
 
-    /// The places that it holds.
+    /// Returns the places that the front holds.
     #[inline]
     pub(crate) fn as_slice(&self) -> &[Held]
         ensures { result.now ≡ self.now }
@@ -48,7 +48,7 @@ impl Front {
         self.held.as_slice()
     }
 
-    /// The place of a key of this hash.
+    /// Returns the place of the key, whose hash is `hash`, or None if the front has no place for it.
     #[inline]
     pub(crate) fn get<R: Resolve>(&self, hash: u64, resolver: &R, key: &KeyRef<'_>) -> Option<Place>
         ensures { (hash_of : Key → ℕ) → hash ≡ hash_of (shown_key key.now)
@@ -59,7 +59,7 @@ impl Front {
         Some(self.held[slot].place)
     }
 
-    /// The first place that is held with this hash.
+    /// Returns the first place that the front holds under this hash, or None if it holds none.
     #[inline]
     pub(crate) fn candidate(&self, hash: u64) -> Option<Place>
         ensures { (hash_of : Key → ℕ) (keys : PlaceValue → Option Key) (k : Key) → hash ≡ hash_of k
@@ -69,7 +69,7 @@ impl Front {
         Some(self.held[slot].place)
     }
 
-    /// Whether it holds this place under this hash.
+    /// Returns true if the front holds this place under this hash.
     #[inline]
     pub(crate) fn holds(&self, held: Held) -> bool
         ensures { result ≡ holds_in self.now held }
@@ -77,7 +77,7 @@ impl Front {
         slot_at(&self.held, held).is_some()
     }
 
-    /// Whether its first place is this one under this hash.
+    /// Returns true if the first place of the front is this place under this hash.
     #[inline]
     pub(crate) fn holds_first(&self, held: Held) -> bool
         ensures { result ≡ true → holds_in self.now held ≡ true }
@@ -88,7 +88,7 @@ impl Front {
         }
     }
 
-    /// Prefetches the first place. The result is meaningless; it only keeps the compiler from removing the
+    /// Prefetches the first place of the front. The result has no meaning; it keeps the compiler from removing the
     /// load.
     #[inline(always)]
     pub(crate) fn touch(&self) -> u64 {
@@ -98,7 +98,7 @@ impl Front {
         }
     }
 
-    /// A place that it holds under this hash becomes another place. Whether it was there.
+    /// Moves `held` to the place `to`, under the same hash. Returns true if the front held it.
     #[inline]
     pub(crate) fn relocate(&mut self, held: Held, to: Place) -> bool
         ensures had { result ≡ holds_in self.old held }
@@ -113,7 +113,7 @@ impl Front {
         }
     }
 
-    /// A place that it holds under this hash is taken out. Whether it was there.
+    /// Removes `held` from the front. Returns true if the front held it.
     #[inline]
     pub(crate) fn take_out(&mut self, held: Held) -> bool
         ensures had { result ≡ holds_in self.old held }
@@ -128,7 +128,7 @@ impl Front {
         }
     }
 
-    /// Takes one more place in, if it has room. Whether it did.
+    /// Adds a place if there is room for it. Returns true if there was.
     #[inline]
     pub(crate) fn fill(&mut self, held: Held) -> bool
         ensures filled { result ≡ true → self.new ≡ self.old ++ held ∷ [] }

@@ -1,9 +1,10 @@
 //! An index of chains: the second form of the index of a log.
 //!
-//! Its table is of chains of places. The first three places of a chain lie in the table itself, the others in memory
-//! of their own. A look-up walks one chain, of three places on average at most. `grow` makes twice as many chains or
-//! more once there are more than three keys for each, and puts each place anew by the hash that is held, so that no key
-//! is read. While it grows, both tables are there.
+//! Its table consists of chains of places. The first three places of a chain lie in the table itself, and the others
+//! in memory of their own. A look-up walks one chain, which has on average at most three places if memory sufficed to
+//! grow. Once there are more than three keys for each chain, `grow` at least doubles the number of chains. It puts
+//! each place into its new chain by the hash that is held with it, and reads no key. While a table grows, the old
+//! table and the new one both take memory.
 #![tactic(auto)]
 
 mod chain;

@@ -1,4 +1,4 @@
-//! The table: chains of places, by their hash.
+//! The table of chains. The hash of a place says in which chain it is.
 
 ghost use Rattle.std.specs.Prelude.{◌≡◌, ◌<◌, ◌++◌, [], IfOk, OnOk};
 ghost use Rattle.place_index.specs.Steps.{IsShuffled};
@@ -11,10 +11,11 @@ use places::{Held, Place, Resolve};
 use std::alloc::{AllocError, Global};
 use std::marker::Model;
 
-/// How many keys there may be for each chain before the table grows.
+/// The most keys for each chain, on average, before the table grows.
 const KEYS_PER_CHAIN: usize = 3;
 
-/// Places as chains: a place is in the chain of its hash. A contract sees the chains' places one after another.
+/// A table of chains. A place is in the chain to which its hash belongs. A contract sees the places of all chains, one
+/// chain after another.
 #[derive(Drop)]
 pub struct ChainTable {
     alloc: Global,
@@ -34,7 +35,8 @@ impl Model for ChainTable {
     ghost invariant = { λ t. AreInParts (chain_of (length t.chains.items)) 0 t.chains.items };
 }
 
-/// Which of this many chains has the places of a hash. A power of two of chains are all used.
+/// Returns the number of the chain to which a hash belongs, of `count` chains. If `count` is a power of two, then some
+/// hashes belong to each chain.
 #[inline]
 fn chain_at(count: usize, hash: u64) -> usize
     requires { 0 < count }
@@ -45,7 +47,7 @@ fn chain_at(count: usize, hash: u64) -> usize
 }
 
 impl ChainTable {
-    /// A table of this many empty chains.
+    /// Makes a table of this many chains without places.
     fn with_chains(alloc: Global, count: usize) -> Result<ChainTable, NoMemory>
         ensures { IfOk result (λ table. table ≡ []) }
     {
@@ -56,7 +58,7 @@ impl ChainTable {
         Ok(ChainTable { alloc, chains })
     }
 
-    /// Pushes each of these.
+    /// Adds each place of a list. If memory runs out, some of them may have been added.
     fn push_all(&mut self, places: &[Held]) -> Result<(), NoMemory>
         ensures { OnOk result (IsShuffled (self.old ++ places.now) self.new) }
     {
@@ -66,7 +68,7 @@ impl ChainTable {
         Ok(())
     }
 
-    /// Pushes each place of a chain.
+    /// Adds each place of a chain. If memory runs out, some of them may have been added.
     fn push_chain(&mut self, chain: &Chain) -> Result<(), NoMemory>
         ensures { OnOk result (IsShuffled (self.old ++ chain.now) self.new) }
     {
@@ -75,7 +77,7 @@ impl ChainTable {
         self.push_all(more)
     }
 
-    /// Pushes each place of another table.
+    /// Adds each place of another table. If memory runs out, some of them may have been added.
     fn push_table(&mut self, other: &ChainTable) -> Result<(), NoMemory>
         ensures { OnOk result (IsShuffled (self.old ++ other.now) self.new) }
     {
@@ -85,7 +87,7 @@ impl ChainTable {
         Ok(())
     }
 
-    /// A table of this many chains, with the places of this one.
+    /// Makes a table of this many chains that has the same places as this table.
     fn grown(&self, count: usize) -> Result<ChainTable, NoMemory>
         ensures { IfOk result (λ grown. IsShuffled self.now grown) }
     {
@@ -172,7 +174,7 @@ impl Table for ChainTable {
         chain.take_out(held)
     }
 
-    /// One more place, at the end of its chain. A table of no chains has no memory for any.
+    /// Adds a place to the chain of its hash. The call fails if memory runs out, or if the table has no chains yet.
     fn push(&mut self, held: Held) -> Result<(), NoMemory> {
         if self.chains.is_empty() {
             return Err(AllocError);

@@ -1,4 +1,4 @@
--- Bags: the elements of a list, without their order and number.
+-- Bags: the elements of a list, whatever their order and however often each occurs.
 use Rattle.std.specs.Prelude.{◌≡◌, ◌⊎◌, List, [], ◌∷◌}
 
 abbrev pub IsAmong : {X : Type 0} → X → List X → Type 0

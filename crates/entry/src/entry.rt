@@ -55,7 +55,7 @@ pub struct Object {
     pub value: Value,
 }
 
-/// An entry that ends an object: the object of this key and this version, which lies in this segment.
+/// An entry that ends an object: the object of `key` with version `version`, which lay in segment `segment`.
 #[derive(Clone, Drop)]
 pub struct Tombstone {
     pub key: Key,

@@ -62,8 +62,8 @@ pub struct Key {
 }
 
 impl Key {
-    /// Makes the key of this table and these bytes. The call refuses no bytes, and more than 1,024 bytes. It allocates
-    /// memory only if there are more than 15 bytes, and it also fails if memory runs out.
+    /// Makes the key of this table and these bytes. The call fails if `bytes` is empty or longer than 1,024 bytes, or
+    /// if memory runs out. It allocates memory only if there are more than 15 bytes.
     pub fn new(alloc: Global, table: u64, bytes: &[u8]) -> Result<Key, KeyFault>
         ensures ok { IfOk result (λ key. (key.table ≡ table) × (key.bytes ≡ bytes.now)) }
         ensures empty { IsErrOf result KeyFault.Empty ↔ (length bytes.now ≡ 0) }

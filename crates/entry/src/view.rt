@@ -33,7 +33,7 @@ pub struct ObjectRef<'a> {
 pub struct TombstoneRef<'a> {
     pub key: KeyRef<'a>,
     pub version: Version,
-    /// The segment that held the dead object.
+    /// The segment where the ended object lay.
     pub segment: u64,
 }
 

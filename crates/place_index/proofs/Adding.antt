@@ -1,4 +1,4 @@
--- A place more, wherever it goes, or one less.
+-- Lists of places with one place more, wherever it stands, or with one less.
 use Rattle.std.proofs.Common.{◌≡◌, List, [], ◌∷◌, ◌++◌, subst, ◌∙◌, ℕ}
 use Rattle.std.specs.Prelude.{Option, Some, None}
 use Rattle.entry.specs.declared.key.Key.{Key}

@@ -1,4 +1,4 @@
--- Two lists of places as one: what is found, and what a change of the one does.
+-- Two lists of places as one list: where a key is found, and what a change of one of the two lists does.
 use Rattle.std.proofs.Common.{◌≡◌, ℕ, suc, ◌+◌, ◌<◌, Bool, true, false, List, [], ◌∷◌, ◌++◌, length, get_or, take, drop}
 use Rattle.std.proofs.Common.{length-append, append_assoc, refl, sym, ap, subst, ◌∙◌, arith, if◌then◌else◌}
 use Rattle.std.specs.Prelude.{Option, Some, None}

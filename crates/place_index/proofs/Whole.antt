@@ -1,4 +1,4 @@
--- The table and the places that wait as one map.
+-- The table and the waiting places as one map.
 use Rattle.std.proofs.Common.{◌≡◌, true, false, List, ◌++◌, ap, ◌∙◌}
 use Rattle.std.specs.Prelude.{Option, Some, None, Result, Ok, Err, OnOk, OnErr, is_ok, is_err}
 use Rattle.std.specs.Option.{option_or}

@@ -1,4 +1,4 @@
-//! The calls of a map, and their answers.
+//! The calls of an index as values, and their answers.
 
 use entry::Key;
 use places::Place;
@@ -8,21 +8,21 @@ use places::Place;
 pub enum MapCall {
     /// Asks for the key's place.
     Get(Key),
-    /// The key's place becomes this one, whether or not the key had one.
+    /// Makes this the place of the key, whether or not the key had one.
     Set(Key, Place),
-    /// The key has no place any more. Asks for the place that it had.
+    /// Removes the key, and asks for the place that it had.
     Remove(Key),
-    /// The key's place becomes this one if the key has one.
+    /// Makes this the place of the key if the key has one.
     MoveTo(Key, Place),
 }
 
-/// What a call of a map answers.
+/// The answer to a call of a map.
 #[derive(Clone, Copy)]
 pub enum MapAnswer {
-    /// To `Get` and `Remove`: the place that the key had before the call.
+    /// The answer to `Get` and `Remove`: the place that the key had before the call.
     Found(Option<Place>),
-    /// To `Set`.
+    /// The answer to `Set`.
     Set,
-    /// To `MoveTo`: whether the key had a place.
+    /// The answer to `MoveTo`: true if the key had a place.
     Moved(bool),
 }

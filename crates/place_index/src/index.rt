@@ -1,4 +1,4 @@
-//! The index.
+//! The index: a map from keys to places of the log.
 
 ghost use Rattle.std.specs.Prelude.{◌≡◌, ◌+◌, ◌<◌, ◌≤◌, ◌∷◌, ◌++◌, [], Option, Some, None, true, false, length, OnOk};
 ghost use Rattle.std.specs.Prelude.{OnErr};
@@ -17,22 +17,21 @@ use places::{Held, KeyHash, KeyHasher, Place, Resolve, piece};
 use std::alloc::{AllocError, Global};
 use std::marker::Model;
 
-/// A map from keys to places of a log, over a hash and a table. It holds no keys: whoever owns the log tells which key
-/// stands at a place (`Resolve`).
+/// A map from keys to places of a log, over a hasher and a table. It holds no keys: the owner of the log gives the key
+/// at a place (`Resolve`).
 ///
-/// `get`, `set`, `remove` and `move_to` are the map's calls by key. Each hashes its key, and reads the keys at the
-/// places that are held under the same hash, mostly one. Whoever has looked a key up knows its hash and its place:
-/// `insert`, `relocate` and `take_out` take these two, hash nothing and read no key.
+/// `get`, `set`, `remove` and `move_to` are the calls by key. Each of them hashes its key, and reads the keys at the
+/// places that are held under the same hash, mostly one. A caller that has looked a key up knows its hash and its
+/// place. `insert`, `relocate` and `take_out` take these two; they hash nothing and read no key.
 ///
-/// - What holds: of each key that stands at a place that is held, it has that place (*found*). This needs a
-///   resolver that tells a key at each place held, and each key once (*AreKept*).
-/// - Refusals: `reserve` is refused if memory runs out. After `reserve(k)` the next k new keys can't fail; no other
-///   call can.
+/// - Promise: each key that stands at a held place is found at that place (*found*). This needs a resolver for which a
+///   key stands at each held place, and no key stands at two (*AreKept*).
+/// - Failure: only `reserve` can fail, if memory runs out. After `reserve(k)` there is room for the next k new keys.
 /// - Cost: a look-up hashes a key, and asks the table and the few places that wait for memory.
 ///
 /// ```text
 /// index.reserve(1)?;
-/// index.set(&images, &key, Place { segment: 3, at: 32 });     // `images` tells that this key stands there
+/// index.set(&images, &key, Place { segment: 3, at: 32 });     // `images` gives this key at this place
 /// assert!(index.get(&images, &key) == Some(Place { segment: 3, at: 32 }));
 /// let hash = index.hash(&key);
 /// index.relocate(Held { hash, place: Place { segment: 3, at: 32 } }, Place { segment: 5, at: 18 });
@@ -41,7 +40,7 @@ use std::marker::Model;
 pub struct PlaceIndex<H: KeyHash, T: Table> {
     hasher: H,
     table: T,
-    /// The places for which the table got no memory.
+    /// The places that wait: those for which the table got no memory.
     waiting: PlaceList,
     len: usize,
     room: usize,
@@ -63,7 +62,7 @@ impl<H: KeyHash, T: Table> Model for PlaceIndex<H, T> {
 }
 
 impl<T: Table> PlaceIndex<KeyHasher, T> {
-    /// An index of no keys, with the fast hash, which needs no secret and keeps none. It takes no memory.
+    /// Makes an index without keys, with the fast hasher, which has no secret. This call allocates no memory.
     pub fn new(alloc: Global) -> PlaceIndex<KeyHasher, T>
         ensures { result ≡ record { held = no_places []; room = 0 } }
     {
@@ -72,7 +71,7 @@ impl<T: Table> PlaceIndex<KeyHasher, T> {
 }
 
 impl<H: KeyHash, T: Table> PlaceIndex<H, T> {
-    /// An index of no keys, which hashes keys with this hasher. It takes no memory.
+    /// Makes an index without keys, with this hasher. This call allocates no memory.
     pub fn with_hasher(alloc: Global, hasher: H) -> PlaceIndex<H, T>
         ensures { result ≡ record { held = no_places (H.seed hasher); room = 0 } }
     {
@@ -85,14 +84,14 @@ impl<H: KeyHash, T: Table> PlaceIndex<H, T> {
         }
     }
 
-    /// How many keys it has.
+    /// Returns the number of keys in the index.
     pub fn len(&self) -> usize
         ensures { result ≡ length self.now.held.list }
     {
         self.len
     }
 
-    /// The hash under which it holds a key's place.
+    /// Returns the piece of the key's hash, under which the index holds the key's place.
     #[inline]
     pub fn hash(&self, key: &KeyRef<'_>) -> u64
         ensures { result ≡ pieces H.hash_of self.now.held.seed (shown_key key.now) }
@@ -100,7 +99,7 @@ impl<H: KeyHash, T: Table> PlaceIndex<H, T> {
         piece(self.hasher.hash(key))
     }
 
-    /// The place of a key of this hash.
+    /// Returns the place of the key, or None if it has none. The caller gives the hash that the index has for the key.
     #[inline(always)]
     pub fn get_hashed<R: Resolve>(&self, hash: u64, resolver: &R, key: &KeyRef<'_>) -> Option<Place>
         requires { hash ≡ pieces H.hash_of self.now.held.seed (shown_key key.now) }
@@ -113,8 +112,8 @@ impl<H: KeyHash, T: Table> PlaceIndex<H, T> {
         }
     }
 
-    /// The one place that a key of this hash may have, without a look at a key: the first held with the hash. It is the
-    /// key's if the key stands there. If another key does, only `get` can tell.
+    /// Returns the first place that is held under this hash, or None if there is none. No key is read. If the sought
+    /// key stands at this place, it is the key's place. If another key stands there, only `get` can tell.
     #[inline(always)]
     pub fn candidate(&self, hash: u64) -> Option<Place>
         ensures { (keys : PlaceValue → Option Key) (k : Key) → hash ≡ pieces H.hash_of self.now.held.seed k
@@ -126,8 +125,8 @@ impl<H: KeyHash, T: Table> PlaceIndex<H, T> {
         }
     }
 
-    /// Takes memory for `more` further keys, so that as many calls of `set` can't fail. It takes none if there is room for
-    /// them. The places stay as they are. On `Err` nothing changed.
+    /// Reserves memory for `more` further keys, which `set` or `insert` can then add without failing. The call
+    /// allocates nothing if there is room for them. If it fails, nothing changed.
     pub fn reserve(&mut self, more: usize) -> Result<(), NoMemory>
         ensures room { OnOk result (more ≤ self.new.room) }
         ensures same { self.new.held ≡ self.old.held }
@@ -145,8 +144,8 @@ impl<H: KeyHash, T: Table> PlaceIndex<H, T> {
         Ok(())
     }
 
-    /// A key that has no place gets this one, under its hash. It never fails: if the table gets no memory for the
-    /// place, it waits in a list. No key is read.
+    /// Adds the place of a key that has none, under the key's hash. The call never fails: if the table gets no memory
+    /// for the place, the place waits in a list. No key is read.
     pub fn insert(&mut self, held: Held)
         requires room { 0 < self.old.room }
         ensures set { (keys : PlaceValue → Option Key) (k : Key) → AreKeptBy H.hash_of keys self.old.held
@@ -163,8 +162,8 @@ impl<H: KeyHash, T: Table> PlaceIndex<H, T> {
         }
     }
 
-    /// Makes the table of an index of no keys as large as it is to be for so many, as far as memory is given: until
-    /// there are more, `grow` has nothing to do. An index that has a key stays as it is.
+    /// Tells an index without keys how many keys will come. Its table may grow for them at once, as far as there is
+    /// memory, so that `grow` has nothing to do until there are more. The call does nothing if the index has a key.
     pub fn presize(&mut self, keys: usize)
         ensures { self.new ≡ self.old }
     {
@@ -173,8 +172,8 @@ impl<H: KeyHash, T: Table> PlaceIndex<H, T> {
         }
     }
 
-    /// Grows the table before it is crowded, and puts the places that wait into it. The map stays. It never fails:
-    /// places for which no memory is given wait on in a list.
+    /// Grows the table if it is too small for its keys, and moves the places that wait into it. Each key keeps its
+    /// place. The call never fails: places for which there is no memory go on waiting.
     pub fn grow(&mut self)
         ensures same { (keys : PlaceValue → Option Key) → AreKeptBy H.hash_of keys self.old.held
             → IsSameMapBy H.hash_of keys self.old.held self.new.held }
@@ -185,7 +184,7 @@ impl<H: KeyHash, T: Table> PlaceIndex<H, T> {
         take_in(&mut self.table, &mut self.waiting);
     }
 
-    /// Whether it holds this place under this hash. No key is read.
+    /// Returns true if the index holds this place under this hash. No key is read.
     #[inline(always)]
     pub fn holds(&self, held: Held) -> bool
         ensures { result ≡ holds self.now.held held }
@@ -193,8 +192,8 @@ impl<H: KeyHash, T: Table> PlaceIndex<H, T> {
         self.table.holds(held) || self.waiting.holds(held)
     }
 
-    /// Whether the table holds it nearest to its hash. If not, `holds` tells. Of several such questions, one after
-    /// another, none waits for the memory that another one reads.
+    /// Returns true if the table finds this place under this hash where it looks first. If the result is false, the
+    /// index may still hold the place; `holds` tells. The memory reads of several such calls in a row overlap.
     #[inline]
     pub fn holds_first(&self, held: Held) -> bool
         ensures { result ≡ true → holds self.now.held held ≡ true }
@@ -202,15 +201,15 @@ impl<H: KeyHash, T: Table> PlaceIndex<H, T> {
         self.table.holds_first(held)
     }
 
-    /// Prefetches what the table holds nearest to the hash. The result is meaningless; it only keeps the compiler from
-    /// removing the load. Several prefetches in a row overlap.
+    /// Prefetches the memory in which the table looks first for this hash. The result has no meaning; it keeps the
+    /// compiler from removing the load. Several prefetches in a row overlap.
     #[inline(always)]
     pub fn touch(&self, hash: u64) -> u64 {
         self.table.touch(hash)
     }
 
-    /// A place that it holds under this hash becomes another place. Whether it was there. It takes no memory, and no
-    /// key is read.
+    /// Moves `held` to the place `to`, under the same hash. Returns true if the index held it. The call allocates no
+    /// memory, and no key is read.
     #[inline(always)]
     pub fn relocate(&mut self, held: Held, to: Place) -> bool
         requires { to.at < 8388608 }
@@ -221,8 +220,8 @@ impl<H: KeyHash, T: Table> PlaceIndex<H, T> {
         self.table.relocate(held, to) || self.waiting.put(held, to)
     }
 
-    /// The key that is found at this place, and has this hash, has no place any more. Whether the place was there. No
-    /// key is read.
+    /// Removes `held`, so that the key that was found there has no place. Returns true if the index held it. No key is
+    /// read.
     pub fn take_out(&mut self, held: Held) -> bool
         ensures had { result ≡ holds self.old.held held }
         ensures taken { (keys : PlaceValue → Option Key) (k : Key) → AreKeptBy H.hash_of keys self.old.held
@@ -244,7 +243,7 @@ impl<H: KeyHash, T: Table> PlaceIndex<H, T> {
     }
 }
 
-/// A table takes in each place that waits, if it gets memory for it. A place for which it gets none waits on.
+/// Moves each waiting place into the table, if the table gets memory for it. The other places go on waiting.
 fn take_in<T: Table>(table: &mut T, waiting: &mut PlaceList)
     ensures places { IsShuffled (T.places table.old ++ waiting.old.held) (T.places table.new ++ waiting.new.held) }
     ensures room { waiting.old.room ≤ waiting.new.room }

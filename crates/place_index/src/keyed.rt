@@ -1,4 +1,4 @@
-//! The map's calls by key.
+//! The calls of an index by key.
 
 ghost use Rattle.std.specs.Prelude.{◌≡◌, ◌+◌, ◌<◌, ◌≤◌, Some, None, is_some, if◌then◌else◌};
 ghost use Rattle.entry.specs.View.{shown_key};
@@ -10,7 +10,7 @@ use entry::KeyRef;
 use places::{Held, KeyHash, Place, Resolve};
 
 impl<H: KeyHash, T: Table> PlaceIndex<H, T> {
-    /// The place of a key.
+    /// Returns the place of the key, or None if it has none.
     pub fn get<R: Resolve>(&self, resolver: &R, key: &KeyRef<'_>) -> Option<Place>
         ensures { AreKeptBy H.hash_of (R.keys resolver.now) self.now.held
             → result ≡ found (R.keys resolver.now) (shown_key key.now) self.now.held }
@@ -18,7 +18,8 @@ impl<H: KeyHash, T: Table> PlaceIndex<H, T> {
         self.get_hashed(self.hash(key), resolver, key)
     }
 
-    /// The key's place becomes this one, whether or not the key had one. It takes no memory that isn't reserved.
+    /// Makes this the place of the key, whether or not the key had one. The call never fails, since there is room for
+    /// one more key.
     pub fn set<R: Resolve>(&mut self, resolver: &R, key: &KeyRef<'_>, place: Place)
         requires room { 0 < self.old.room }
         requires offset { place.at < 8388608 }
@@ -36,7 +37,7 @@ impl<H: KeyHash, T: Table> PlaceIndex<H, T> {
         }
     }
 
-    /// The key has no place any more. The place that it had.
+    /// Removes the key from the index. Returns the place that it had, or None if it had none.
     pub fn remove<R: Resolve>(&mut self, resolver: &R, key: &KeyRef<'_>) -> Option<Place>
         ensures had { AreKeptBy H.hash_of (R.keys resolver.now) self.old.held
             → result ≡ found (R.keys resolver.now) (shown_key key.now) self.old.held }
@@ -54,7 +55,7 @@ impl<H: KeyHash, T: Table> PlaceIndex<H, T> {
         }
     }
 
-    /// The place of a key that has one becomes this one. Whether it has one.
+    /// Makes this the place of the key, if the key has a place. Returns true if it has one.
     pub fn move_to<R: Resolve>(&mut self, resolver: &R, key: &KeyRef<'_>, place: Place) -> bool
         requires { place.at < 8388608 }
         ensures had { let keys = R.keys resolver.now in AreKeptBy H.hash_of keys self.old.held

@@ -1,10 +1,10 @@
 //! An index over any table of places.
 //!
 //! `PlaceIndex` is a map from keys to places of a log. It hashes keys by a `KeyHash`, and keeps the places in a
-//! `Table`, which knows places and hashes and no keys. What a table has no memory for waits in a list, so that a change
-//! can't fail. `run` carries out a list of a map's calls, over an index of any table.
+//! `Table`, which knows places and hashes and no keys. A place for which the table gets no memory waits in a list, so
+//! that a change can't fail. `run` carries out a list of calls, over an index with any table.
 //!
-//! `PlaceList` is the plain table: a list that is walked.
+//! `PlaceList` is the plainest table: a list, which each look-up walks.
 #![tactic(auto)]
 
 mod call;

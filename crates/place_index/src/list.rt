@@ -1,4 +1,4 @@
-//! Places as a list that is walked.
+//! A list of places, which each look-up walks.
 
 ghost use Rattle.std.specs.Prelude.{◌≡◌, ℕ, ◌+◌, ◌<◌, ◌≤◌, ◌∷◌, ◌++◌, [], Option, true, false, length, OnOk, OnErr};
 ghost use Rattle.std.specs.List.{position, remove};
@@ -16,7 +16,7 @@ use places::{Held, Place, Resolve};
 use std::alloc::Global;
 use std::marker::Model;
 
-/// Places as a list: the plain table. Each call but `len`, `reserve` and the pushes walks it.
+/// A list of places: the plainest table. A look-up, a move and a removal walk the list.
 #[derive(Drop)]
 pub struct PlaceList {
     held: Vec<Held>,
@@ -32,21 +32,22 @@ impl Model for PlaceList {
 }
 
 impl PlaceList {
-    /// How many places it has.
+    /// Returns the number of places in the list.
     pub fn len(&self) -> usize
         ensures { result ≡ length self.now.held }
     {
         self.held.len()
     }
 
-    /// The places that it holds.
+    /// Returns the places in the list.
     pub fn as_slice(&self) -> &[Held]
         ensures { result.now ≡ self.now.held }
     {
         self.held.as_slice()
     }
 
-    /// Which of the places is the key's. It is out of line, so that whoever rarely asks has a short path for all else.
+    /// Returns the slot of the key's place. The call is out of line, which keeps the code of `get_rarely` short where
+    /// it is inlined.
     #[cold]
     fn seek<R: Resolve>(&self, hash: u64, resolver: &R, key: &KeyRef<'_>) -> Option<usize>
         ensures { result ≡ position (is_of (R.keys resolver.now) (shown_key key.now) hash) self.now.held }
@@ -54,7 +55,7 @@ impl PlaceList {
         slot_of(&self.held, hash, resolver, key)
     }
 
-    /// What `get` finds, for whoever mostly finds keys elsewhere.
+    /// Returns the same as `get`. It is fast if the list is empty, for a caller that mostly finds keys elsewhere.
     #[inline(always)]
     pub fn get_rarely<R: Resolve>(&self, hash: u64, resolver: &R, key: &KeyRef<'_>) -> Option<Place>
         ensures { (hash_of : Key → ℕ) → hash ≡ hash_of (shown_key key.now)
@@ -68,7 +69,7 @@ impl PlaceList {
         Some(self.held[slot].place)
     }
 
-    /// Which of the places is the first with this hash. It is out of line, as `seek` is.
+    /// Returns the slot of the first place with this hash. The call is out of line, like `seek`.
     #[cold]
     fn seek_hash(&self, hash: u64) -> Option<usize>
         ensures { result ≡ position (has_hash hash) self.now.held }
@@ -76,7 +77,7 @@ impl PlaceList {
         first_slot(&self.held, hash)
     }
 
-    /// What `candidate` finds, for whoever mostly finds one elsewhere.
+    /// Returns the same as `candidate`. It is fast if the list is empty, for a caller that mostly finds one elsewhere.
     #[inline(always)]
     pub fn candidate_rarely(&self, hash: u64) -> Option<Place>
         ensures { (hash_of : Key → ℕ) (keys : PlaceValue → Option Key) (k : Key) → hash ≡ hash_of k
@@ -89,7 +90,7 @@ impl PlaceList {
         Some(self.held[slot].place)
     }
 
-    /// Takes memory for `more` further places. On `Err` nothing changed.
+    /// Reserves memory for `more` further places. If the call fails, nothing changed.
     pub fn reserve(&mut self, more: usize) -> Result<(), NoMemory>
         ensures room { OnOk result (more ≤ self.new.room) }
         ensures same { self.new.held ≡ self.old.held }
@@ -98,7 +99,7 @@ impl PlaceList {
         self.held.reserve(more)
     }
 
-    /// One more place. It takes no memory.
+    /// Adds a place, for which memory is reserved. The call allocates nothing.
     pub fn insert(&mut self, held: Held)
         requires { 0 < self.old.room }
         ensures held { self.new.held ≡ self.old.held ++ held ∷ [] }
@@ -107,7 +108,7 @@ impl PlaceList {
         self.held.push_reserved(held);
     }
 
-    /// Takes out the place of this slot.
+    /// Removes the place in this slot.
     pub fn cut(&mut self, slot: usize)
         requires { slot < length self.old.held }
         ensures held { self.new.held ≡ remove self.old.held slot }
@@ -116,8 +117,8 @@ impl PlaceList {
         self.held.remove(slot);
     }
 
-    /// A place that it holds under this hash becomes another place. Whether it was there. No memory is taken or given
-    /// back.
+    /// Moves `held` to the place `to`, under the same hash. Returns true if it was in the list. The list's memory
+    /// stays as it is.
     pub fn put(&mut self, held: Held, to: Place) -> bool
         ensures had { result ≡ holds_in self.old.held held }
         ensures moved { self.new.held ≡ relocated_in held to self.old.held }
@@ -132,7 +133,7 @@ impl PlaceList {
         }
     }
 
-    /// A place that it holds under this hash is cut out. Whether it was there. The memory stays.
+    /// Removes `held` from the list. Returns true if it was in the list. The list keeps its memory.
     pub fn leave_out(&mut self, held: Held) -> bool
         ensures had { result ≡ holds_in self.old.held held }
         ensures taken { self.new.held ≡ without held self.old.held }
@@ -147,7 +148,7 @@ impl PlaceList {
         }
     }
 
-    /// One more place, in memory for just as many.
+    /// Adds a place. If the list has to grow, it grows by this place only. If memory runs out, nothing changed.
     pub fn push_exact(&mut self, held: Held) -> Result<(), NoMemory>
         ensures ok { OnOk result (self.new.held ≡ self.old.held ++ held ∷ []) }
         ensures err { OnErr result (self.new ≡ self.old) }

@@ -1,4 +1,4 @@
-//! A map's calls, one after another.
+//! Calls of an index, one after another.
 
 ghost use Rattle.std.specs.Prelude.{◌≡◌, Option, IfOk, OnOk};
 ghost use Rattle.entry.specs.declared.key.Key.{Key};
@@ -12,8 +12,8 @@ use entry::NoMemory;
 use places::{KeyHash, Resolve};
 use std::alloc::Global;
 
-/// Carries out each of the calls in turn. It reserves before each `Set`, and grows the index after it. It is refused
-/// only if memory runs out; the calls before are carried out then.
+/// Carries out the calls in order and returns their answers. It reserves memory before each `Set`, and grows the index
+/// after each `Set`. It fails only if memory runs out. The calls before the one that failed stay carried out.
 pub fn run<H: KeyHash, T: Table, R: Resolve>(
     alloc: Global,
     index: &mut PlaceIndex<H, T>,

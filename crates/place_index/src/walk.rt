@@ -1,4 +1,4 @@
-//! A walk over the places of a list.
+//! Searches that walk a list of held places.
 
 ghost use Rattle.std.specs.Prelude.{◌≡◌};
 ghost use Rattle.std.specs.List.{position};
@@ -8,7 +8,8 @@ ghost use Rattle.places.specs.Lists.{is_of, has_hash, is_same};
 use entry::KeyRef;
 use places::{Held, Resolve, stands};
 
-/// Whether this is the key's. The key is read only if the hash agrees.
+/// Returns true if this is the key's place, held under this hash. The key at the place is read only if the hashes are
+/// equal.
 #[inline]
 pub fn is_place_of<R: Resolve>(one: &Held, hash: u64, resolver: &R, key: &KeyRef<'_>) -> bool
     ensures { result ≡ is_of (R.keys resolver.now) (shown_key key.now) hash one.now }
@@ -16,7 +17,7 @@ pub fn is_place_of<R: Resolve>(one: &Held, hash: u64, resolver: &R, key: &KeyRef
     one.hash == hash && stands(resolver, key, one.place)
 }
 
-/// Whether this is the same place under the same hash.
+/// Returns true if this is the sought place under the sought hash.
 #[inline]
 pub fn is_same_held(one: &Held, sought: Held) -> bool
     ensures { result ≡ is_same sought one.now }
@@ -26,7 +27,7 @@ pub fn is_same_held(one: &Held, sought: Held) -> bool
         & (one.place.at == sought.place.at)
 }
 
-/// Which of these is the key's.
+/// Returns the first slot that has the key's place under this hash, or None if no slot has it.
 #[inline]
 pub fn slot_of<R: Resolve>(
     held: &[Held],
@@ -40,7 +41,7 @@ pub fn slot_of<R: Resolve>(
         .position(|one| is_place_of(one, hash, resolver, key))
 }
 
-/// Which of these is this place under this hash.
+/// Returns the first slot that has the sought place under the sought hash, or None if no slot has it.
 #[inline]
 pub fn slot_at(held: &[Held], sought: Held) -> Option<usize>
     ensures { result ≡ position (is_same sought) held.now }
@@ -48,7 +49,7 @@ pub fn slot_at(held: &[Held], sought: Held) -> Option<usize>
     held.iter().position(|one| is_same_held(one, sought))
 }
 
-/// Which of these is the first that has the hash.
+/// Returns the first slot that has this hash, or None if no slot has it.
 #[inline]
 pub fn first_slot(held: &[Held], hash: u64) -> Option<usize>
     ensures { result ≡ position (has_hash hash) held.now }

@@ -1,4 +1,4 @@
--- Another resolver that tells the same keys at the places that are held.
+-- Another resolver that gives the same key at each held place.
 use Rattle.std.proofs.Common.{◌≡◌, false, List, [], ◌∷◌, refl, sym, ap, ◌∙◌, if◌then◌else◌, ℕ}
 use Rattle.std.specs.Prelude.{Option, Some}
 use Rattle.std.specs.List.{AllByRecursion}

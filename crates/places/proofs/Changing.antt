@@ -1,4 +1,4 @@
--- A place that is put among others, or cut out, or put in place of another.
+-- Lists of places to which one is added, from which one is removed, or in which one is replaced.
 use Rattle.std.proofs.Common.{◌≡◌, Bool, true, false, List, [], ◌∷◌, ◌++◌, refl, sym, ap, subst, ◌∙◌, ◌⊎◌, inl, inr, ℕ}
 use Rattle.std.proofs.Common.{if◌then◌else◌}
 use Rattle.std.specs.Prelude.{Option, Some, None}

@@ -1,4 +1,4 @@
--- Each place that is held is where its key is found.
+-- Each held place is the place at which its key is found.
 use Rattle.std.proofs.Common.{◌≡◌, Bool, true, false, List, [], ◌∷◌, refl, sym, ◌∙◌, ℕ}
 use Rattle.std.specs.Prelude.{Option, Some}
 use Rattle.std.specs.List.{AllByRecursion}

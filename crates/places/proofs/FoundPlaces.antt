@@ -1,4 +1,4 @@
--- The place at which a key is found is put there, moves, or is taken out.
+-- The place at which a key is found is added, moved, or removed.
 use Rattle.std.proofs.Common.{◌≡◌, Bool, true, false, ◌==◌, List, [], ◌∷◌, ◌++◌, refl, sym, ap, subst, ◌∙◌, ℕ}
 use Rattle.std.proofs.Common.{if◌then◌else◌}
 use Rattle.std.specs.Prelude.{Option, Some, None}

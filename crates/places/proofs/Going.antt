@@ -1,4 +1,4 @@
--- Places that have all gone elsewhere, where the same keys stand.
+-- Places that have all moved to other places at which the same keys stand.
 use Rattle.std.proofs.Common.{◌≡◌, Bool, true, false, List, [], ◌∷◌, refl, sym, ap, subst, ◌∙◌, if◌then◌else◌, ℕ}
 use Rattle.std.specs.Prelude.{Option, Some}
 use Rattle.std.specs.List.{AllByRecursion}

@@ -1,4 +1,4 @@
--- The words of places, for a bare list of what is held.
+-- The definitions about the places of an index, for a bare list of held places.
 use Rattle.std.specs.Prelude.{ℕ, List, map, Bool}
 use Rattle.std.specs.List.{AllByRecursion}
 use Rattle.entry.specs.declared.key.Key.{Key}

@@ -1,4 +1,4 @@
--- Places of which one moves, or of which all go elsewhere.
+-- Places of which one moves, or of which all move.
 use Rattle.std.proofs.Common.{◌≡◌, Bool, true, false, ◌||◌, List, [], ◌∷◌, refl, sym, ap, ◌∙◌, inl, inr, ℕ}
 use Rattle.std.proofs.Common.{if◌then◌else◌}
 use Rattle.std.specs.Prelude.{Option, Some, None}

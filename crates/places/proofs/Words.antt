@@ -1,4 +1,4 @@
--- What whoever stands above an index cites of its places.
+-- Lemmas about the places of an index, for the crates above an index.
 use Rattle.std.proofs.Common.{◌≡◌, ℕ, Bool, true, false, List, refl, sym, ap, subst, ◌∙◌, if◌then◌else◌}
 use Rattle.std.specs.Prelude.{Option, Some}
 use Rattle.entry.specs.declared.key.Key.{Key}

@@ -1,9 +1,9 @@
--- The seed of the default hash.
+-- The seed of the default hasher.
 use Rattle.std.specs.Prelude.{ℕ, List, [], ◌∷◌, Option, Some, None}
 use Rattle.places.specs.declared.hashing.KeyHasher.{KeyHasher}
 use Rattle.places.specs.declared.hashing.Secret.{Secret}
 
--- a secret's two numbers, or nothing
+-- the seed: the two numbers of the secret, or nothing without a secret
 abbrev pub secret_seed : Option Secret → List ℕ
 secret_seed None = []
 secret_seed (Some secret) = secret.first ∷ secret.second ∷ []

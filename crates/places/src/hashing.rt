@@ -1,4 +1,4 @@
-//! The hash of a key.
+//! Hashes of keys.
 #![tactic(auto)]
 
 ghost use Rattle.std.specs.Prelude.{◌≡◌, ℕ, List, [], ◌∷◌};
@@ -10,44 +10,45 @@ ghost use Rattle.places.specs.Secrets.{fast_hasher, secret_seed};
 use entry::KeyRef;
 use std::hash::{DefaultHasher, FoldHasher, Hasher};
 
-/// How an index hashes a key.
+/// A hasher, by which an index hashes keys.
 pub trait KeyHash {
-    /// What the hasher was made of.
+    /// The seed: the numbers from which the hasher was made.
     ghost seed: { Self → List ℕ };
 
-    /// The hash of each key, by the seed.
+    /// The hash of a key under a seed.
     ghost hash_of: { List ℕ → Key → ℕ };
 
-    /// The hash of a key. For one hasher it depends on the key alone.
+    /// Returns the hash of a key. It depends on the hasher's seed and the key alone.
     fn hash(&self, key: &KeyRef<'_>) -> u64
         ensures { result ≡ hash_of (seed self.now) (shown_key key.now) };
 }
 
-/// What whoever picks keys must not know: two numbers that the embedding program draws at random.
+/// A secret: two numbers that the embedding program draws at random. Clients, who pick the keys, must not know them.
 #[derive(Clone, Copy)]
 pub struct Secret {
     pub first: u64,
     pub second: u64,
 }
 
-/// The hash that an index has unless it is given another one.
+/// The default hasher of an index.
 ///
-/// Without a secret it is fast, and the same in each run: whoever picks the keys can make as many as he likes have one
-/// hash. With a secret it is SipHash-1-3, and he can't, as long as he doesn't learn the secret.
+/// Without a secret the hash is fast, and the same in every run. A client can then pick any number of keys with the
+/// same hash. With a secret the hash is SipHash-1-3, and a client can't pick such keys as long as he doesn't know the
+/// secret.
 #[derive(Clone, Copy)]
 pub struct KeyHasher {
     secret: Option<Secret>,
 }
 
 impl KeyHasher {
-    /// The fast hash.
+    /// Makes the fast hasher, which has no secret.
     pub fn new() -> KeyHasher
         ensures { result ≡ fast_hasher }
     {
         KeyHasher { secret: None }
     }
 
-    /// The hash of this secret.
+    /// Makes a hasher with this secret.
     pub fn with_secret(secret: Secret) -> KeyHasher
         ensures { secret_seed result.secret ≡ secret.first ∷ secret.second ∷ [] }
     {
@@ -71,7 +72,7 @@ impl KeyHash for KeyHasher {
     }
 }
 
-/// The hash of a key without a secret.
+/// Returns the hash of a key without a secret.
 #[inline]
 #[tactic(auto, unfolding(crate::specs::Hashing::fast_hash))]
 fn fast_hash(key: &KeyRef<'_>) -> u64
@@ -83,7 +84,7 @@ fn fast_hash(key: &KeyRef<'_>) -> u64
     hasher.finish()
 }
 
-/// The hash of a key under a secret.
+/// Returns the hash of a key under a secret.
 #[tactic(auto, unfolding(crate::specs::Hashing::secret_hash))]
 fn secret_hash(secret: Secret, key: &KeyRef<'_>) -> u64
     ensures { result ≡ secret_hash secret.first secret.second (shown_key key.now) }
@@ -96,7 +97,7 @@ fn secret_hash(secret: Secret, key: &KeyRef<'_>) -> u64
     sip.finish()
 }
 
-/// The piece of a hash that an index keeps.
+/// Returns the piece of a hash that an index keeps: its upper 25 bits, or 512 if these are a smaller number.
 #[inline]
 #[tactic(auto, unfolding(crate::specs::Hashing::piece))]
 pub fn piece(hash: u64) -> u64

@@ -1,20 +1,20 @@
-//! What a caller knows of an index when its resolver changes, and when places move.
+//! Laws about an index, for a caller whose resolver changes or whose places move.
 
 ghost use Rattle.places.specs.Law.{KeepsFound, FindsTold, NamesFound, MovesFound, GoesFound};
 
-/// A resolver that tells the same keys at the places that are held finds the same.
+/// If another resolver gives the same key at each held place, then each key is found at the same place.
 pub fn resolvers_agree()
     ensures again { KeepsFound }
     ensures told { FindsTold }
 {}
 
-/// A place is named for a key that stands there if the key is found there, and not else.
+/// If a key stands at a place, then the index names the place for the key exactly if the key is found there.
 pub fn names_what_is_found()
     ensures { NamesFound }
 {}
 
-/// `relocate` is how a key that is found gets another place. If all places go elsewhere with their keys, each key is
-/// found where its place has gone.
+/// If a key's place moves to a place where the same key stands, then the key is found there, and every other key where
+/// it was. If all places move, and the same key stands at each new place, then each key is found at its new place.
 pub fn found_places_move()
     ensures one { MovesFound }
     ensures all { GoesFound }

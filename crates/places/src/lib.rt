@@ -1,13 +1,12 @@
-//! What an index of a log leads to: places, one for each key.
+//! The places in the log to which an index leads, one for each key.
 //!
-//! A place is held under the hash of the key that stands there (`Held`). No key is held: whoever owns the log tells
-//! which key stands at a place (`Resolve`). The places are a map from keys if the resolver tells a key at each of them,
-//! and each key once (*AreKept*). `specs/Map.antt` says what such a map has (*found*) and what becomes of it (*IsSet*).
-//! Whoever stands above an index speaks of its places in few words, which know no hash and no order (*names*, *moved*,
-//! *goes_all*), in `specs/Relocation.antt`; laws tie them to the map.
+//! An index holds each place with a hash of the key that stands there (`Held`). It holds no keys: the owner of the log
+//! gives the key at a place (`Resolve`). The places are a map from keys if a key stands at each of them, and no key
+//! stands at two (*AreKept*). `specs/Map.antt` says what such a map has (*found*) and how it changes (*IsSet*). Crates
+//! above an index use the words of `specs/Relocation.antt` (*names*, *moved*, *goes_all*), which need no hash and no
+//! order of the places. Laws tie these words to the map.
 //!
-//! `KeyHash` is how an index hashes keys, and `KeyHasher` is the hash that it has unless it is given another one. An
-//! index keeps a piece of each hash (`piece`).
+//! An index hashes keys by a `KeyHash`; `KeyHasher` is the default. It keeps a piece of each hash (`piece`).
 #![tactic(auto)]
 
 mod hashing;

@@ -1,18 +1,18 @@
-//! Places of a log, and what an index holds of each.
+//! Places in the log, and places as an index holds them.
 
-/// Where an entry lies.
+/// A place in the log, where an entry lies.
 #[derive(Clone, Copy, Default)]
 pub struct Place {
-    /// The segment's number.
+    /// The id of the segment.
     pub segment: u64,
-    /// How many bytes of the image come before the entry.
+    /// The offset of the entry in the segment's image, in bytes.
     pub at: usize,
 }
 
-/// A place, with the hash of the key that stands there.
+/// A place as an index holds it: with the hash of the key that stands there.
 #[derive(Clone, Copy, Default)]
 pub struct Held {
-    /// As the index hashes the key that stands there.
+    /// The piece of the key's hash that the index keeps.
     pub hash: u64,
     pub place: Place,
 }

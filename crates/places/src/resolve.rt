@@ -1,4 +1,4 @@
-//! Which key stands at a place.
+//! Resolvers, which give the key at a place.
 
 ghost use Rattle.std.specs.Prelude.{◌≡◌, Option};
 ghost use Rattle.std.specs.Option.{option_map, option_map_or};
@@ -10,17 +10,17 @@ ghost use Rattle.places.specs.Lists.{tells};
 use crate::place::Place;
 use entry::KeyRef;
 
-/// Who tells which key stands at a place.
+/// A resolver: it gives the key at a place of the log, for an index that holds no keys.
 pub trait Resolve {
     /// The key at each place.
     ghost keys: { Self → PlaceValue → Option Key };
 
-    /// The key of the object at this place; `None` if no object stands there.
+    /// Returns the key of the object at this place, or None if no object stands there.
     fn key_at(&self, place: Place) -> Option<KeyRef<'_>>
         ensures { option_map shown_key result ≡ keys self.entry.now place };
 }
 
-/// Whether the key stands at the place.
+/// Returns true if the key stands at the place.
 #[inline]
 pub fn stands<R: Resolve>(resolver: &R, key: &KeyRef<'_>, place: Place) -> bool
     ensures { result ≡ tells (R.keys resolver.now) (shown_key key.now) place }

@@ -22,7 +22,7 @@ pub record State : Type 0 where
 abbrev pub with_contents : Contents → Key → Option Versioned → Contents
 with_contents contents k x = λ q. if key_eq q k then x else contents q
 
--- a put under this condition is done to a key that has this
+-- the condition of a put is met, given what the key has
 abbrev pub is_met : If → Option Versioned → Bool
 is_met Any x = true
 is_met Absent None = true
