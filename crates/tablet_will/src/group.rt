@@ -36,7 +36,7 @@ fn is_same_place(size: &Size, other: &Size) -> bool
     size.table == other.table && size.place == other.place
 }
 
-/// Returns the group of the first size and of those after it that have the same place.
+/// Returns the group of the first size and of those right after it that have the same place.
 fn first_group(sizes: &[Size]) -> Group
     requires { 0 < length sizes.now }
     ensures group { groups sizes.now ≡ result ∷ groups (drop result.objects sizes.now) }
