@@ -1,4 +1,4 @@
--- Which image is found after one changed or went.
+-- Which image is found by an id after an image was changed or removed.
 use Rattle.std.proofs.Common.{◌≡◌, ℕ, ◌<◌, Bool, true, false, List, [], ◌∷◌, map, refl, sym, ap, ◌∙◌}
 use Rattle.std.specs.Prelude.{◌==◌, if◌then◌else◌, Option, Some, None}
 use Rattle.std.specs.List.{AllByRecursion}

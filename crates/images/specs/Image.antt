@@ -7,24 +7,24 @@ pub record Image : Type 0 where
   pub id : ℕ
   -- its entries
   pub segment : List Entry
-  -- whether it still takes appends
+  -- true if the image still takes appends
   pub is_whole : Bool
-  -- how many bytes its text may have without more memory
+  -- for how many bytes of text the image is sure to have memory
   pub room : ℕ
   -- how many backups hold the segment
   pub replicas : ℕ
 
--- the image of a segment that is closed, and that so many backups hold
+-- the image of a segment that takes no appends, and that so many backups hold
 abbrev pub closed_image : ℕ → List Entry → ℕ → Image
 closed_image id segment replicas =
     record { id = id; segment = segment; is_whole = false; room = 0; replicas = replicas }
 
--- the image of one that takes appends, with memory for this many bytes; no backup holds it yet
+-- the image of a segment that takes appends, with memory for so many bytes; no backup holds the segment yet
 abbrev pub whole_image : ℕ → List Entry → ℕ → Image
 whole_image id segment room =
     record { id = id; segment = segment; is_whole = true; room = room; replicas = 0 }
 
--- the one or the other, which no backup holds yet
+-- the image of a segment that takes appends or not, and that no backup holds yet
 abbrev pub new_image : ℕ → ℕ → List Entry → Bool → Image
 new_image room id segment is_whole = record {
   id = id;

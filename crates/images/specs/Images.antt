@@ -16,27 +16,27 @@ pub record ImagesValue : Type 0 where
   pub seglets : ℕ
   -- the images, by rising id
   pub images : List Image
-  -- how many images the list has room for
+  -- for how many images the list is sure to have memory
   pub room : ℕ
 
--- how many seglets an image counts: those of a whole segment, or its own bytes rounded up
+-- how many seglets an image counts: those of a whole segment if it takes appends, else its own bytes, rounded up
 abbrev pub count_of : ℕ → ℕ → Image → ℕ
 count_of segment seglet image =
     if image.is_whole then segment / seglet else div_ceil (length (text_of image.segment)) seglet
 
--- how many seglets are counted
+-- how many seglets all images count together
 abbrev pub used_seglets : ImagesValue → ℕ
 used_seglets v = sum_by (count_of v.segment v.seglet) v.images
 
--- how many are left
+-- how many seglets are free
 abbrev pub free_seglets : ImagesValue → ℕ
 free_seglets v = v.seglets - used_seglets v
 
--- how many the image of this id counts; 0 if there is none
+-- how many seglets the image of this id counts; 0 if there is no such image
 abbrev pub count_at : ImagesValue → ℕ → ℕ
 count_at v id = option_map_or (count_of v.segment v.seglet) (image_of v.images id) 0
 
--- sizes that a configuration may have: bytes of a segment, bytes of a seglet, and how many seglets there are
+-- the sizes that a configuration may have: bytes of a segment, bytes of a seglet, and the number of seglets
 pub record AreSizes (segment seglet seglets : ℕ) : Type 0 where
   pub least_seglet : 64 ≤ seglet
   pub most_seglet : seglet ≤ 65536
@@ -54,7 +54,7 @@ AreWithin segment images = AllByRecursion (λ (image : Image). length (text_of i
 abbrev pub HaveMemory : ℕ → List Image → Type 0
 HaveMemory segment images = AllByRecursion (λ (image : Image). image.is_whole ≡ true → segment ≤ image.room) images
 
--- what holds of every Images
+-- what is true of the images in memory before and after each call
 pub record IsImages (v : ImagesValue) : Type 0 where
   pub sizes : AreSizes v.segment v.seglet v.seglets
   pub rising : AreRising v.images

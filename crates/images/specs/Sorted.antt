@@ -1,4 +1,4 @@
--- Images by their ids.
+-- Lists of images by rising id: which image an id has, and what a step makes of the list.
 use Rattle.std.specs.Prelude.{◌≡◌, ℕ, zero, suc, ◌<◌, ◌==◌, List, [], ◌∷◌, map, filter, not, Option, IsSomeAnd, true}
 use Rattle.std.specs.Prelude.{find, nat_lt, if◌then◌else◌, ⊤}
 use Rattle.std.specs.List.{AllByRecursion}
@@ -6,28 +6,28 @@ use Rattle.std.specs.Option.{option_map, option_map_or}
 use Rattle.entry.specs.declared.entry.Entry.{Entry}
 use Rattle.images.specs.Image.{Image}
 
--- each id is above all that come before it
+-- the id of each image is above the ids of all images before it
 abbrev pub AreRising : List Image → Type 0
 AreRising [] = ⊤
 AreRising (image ∷ later) = AllByRecursion (λ (other : Image). image.id < other.id) later × AreRising later
 
--- this id is above all of theirs
+-- the ids of all these images are below this id
 abbrev pub AreBelow : ℕ → List Image → Type 0
 AreBelow id images = AllByRecursion (λ (image : Image). image.id < id) images
 
--- the image of the segment of this id
+-- the image of the segment of this id, if any
 abbrev pub image_of : List Image → ℕ → Option Image
 image_of images id = find (λ (image : Image). image.id == id) images
 
--- the entries of that segment
+-- the entries of the segment of this id, if it has an image
 abbrev pub segment_of : List Image → ℕ → Option (List Entry)
 segment_of images id = option_map (λ (image : Image). image.segment) (image_of images id)
 
--- how many backups hold that segment; none, if there is no image of it
+-- how many backups hold the segment of this id; 0 if it has no image
 abbrev pub replicas_of : List Image → ℕ → ℕ
 replicas_of images id = option_map_or (λ (image : Image). image.replicas) (image_of images id) 0
 
--- it is there and still takes appends
+-- there is an image of this id, and it still takes appends
 abbrev pub IsWhole : List Image → ℕ → Type 0
 IsWhole images id = IsSomeAnd (image_of images id) (λ (image : Image). image.is_whole ≡ true)
 
@@ -47,12 +47,12 @@ changed_front [] count change = []
 changed_front (image ∷ later) zero change = image ∷ later
 changed_front (image ∷ later) (suc count) change = change image ∷ changed_front later count change
 
--- the images with one more, at its place
+-- the list with one more image, in front of the first image that has a greater id
 abbrev pub added : Image → List Image → List Image
 added image [] = image ∷ []
 added image (other ∷ later) =
     if nat_lt image.id other.id then image ∷ other ∷ later else other ∷ added image later
 
--- all but the image of this id
+-- the list without the image of this id
 abbrev pub without : List Image → ℕ → List Image
 without images id = filter (λ (image : Image). not (image.id == id)) images

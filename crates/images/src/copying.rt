@@ -13,7 +13,7 @@ use crate::image::Image;
 use crate::placing::place_of;
 use segment::{AppendFault, SegmentRef};
 
-/// The text of the object or tombstone at an offset of a segment, of this length.
+/// Returns the text of the object or tombstone at this offset of a segment. The text has `len` bytes.
 #[inline(always)]
 fn text_at<'a>(source: &SegmentRef<'a>, at: usize, len: usize) -> &'a [u8]
     requires { StandsData (text_of source.now) at len }
@@ -23,8 +23,9 @@ fn text_at<'a>(source: &SegmentRef<'a>, at: usize, len: usize) -> &'a [u8]
     &source.bytes()[at..at + len]
 }
 
-/// Appends a copy of the object or tombstone of this length at an offset of one image to another, if that then has at
-/// most `limit` bytes, for which it has room.
+/// Appends a copy of an object or tombstone to the target if the target then has at most `limit` bytes, for which it
+/// has room. The object or tombstone is at offset `at` of the source, and has `len` bytes. Returns the offset of the
+/// copy.
 #[inline(always)]
 fn append_copy(
     source: &Image,
@@ -48,8 +49,9 @@ fn append_copy(
     target.append_text(text_at(&segment, at, len), limit)
 }
 
-/// In a list by rising id, appends a copy of the object or tombstone of this length at an offset of one image to a
-/// later image, if that then has at most `limit` bytes, for which it has room.
+/// Appends a copy of an object or tombstone to the image `to`, in a list by rising id, if this image then has at most
+/// `limit` bytes, for which it has room. The object or tombstone is at offset `at` of the image `from`, which has a
+/// lower id, and has `len` bytes. Returns the offset of the copy.
 pub(crate) fn copy_entry(
     images: &mut [Image],
     from: u64,

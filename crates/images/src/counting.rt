@@ -6,7 +6,7 @@ ghost use Rattle.images.specs.Images.{count_of};
 
 use crate::image::Image;
 
-/// How many seglets a text of this many bytes fills, the last one perhaps in part.
+/// Returns how many seglets a text of `len` bytes fills, the last one perhaps in part.
 pub(crate) fn seglets_of(len: usize, seglet: usize) -> u64
     requires { 0 < seglet }
     ensures { result ≡ div_ceil len seglet }
@@ -14,7 +14,8 @@ pub(crate) fn seglets_of(len: usize, seglet: usize) -> u64
     len.div_ceil(seglet) as u64
 }
 
-/// How many seglets the image of a text of this many bytes counts, if it takes appends or not.
+/// Returns how many seglets the image of a text of `len` bytes counts. If the image takes appends, they are those of a
+/// whole segment. Else they are those that the text fills.
 pub(crate) fn new_count(len: usize, is_whole: bool, segment: usize, seglet: usize) -> u64
     requires { 0 < seglet }
     ensures { result ≡ (if is_whole then segment / seglet else div_ceil len seglet) }
@@ -25,7 +26,7 @@ pub(crate) fn new_count(len: usize, is_whole: bool, segment: usize, seglet: usiz
     seglets_of(len, seglet)
 }
 
-/// How many seglets an image counts.
+/// Returns how many seglets an image counts.
 pub(crate) fn count_of(image: &Image, segment: usize, seglet: usize) -> u64
     requires { 0 < seglet }
     ensures { result ≡ count_of segment seglet image.now }
@@ -33,7 +34,7 @@ pub(crate) fn count_of(image: &Image, segment: usize, seglet: usize) -> u64
     new_count(image.bytes_len(), image.is_whole(), segment, seglet)
 }
 
-/// The sum of what the images count, found by a walk over all of them.
+/// Returns how many seglets all images count together, by a walk over them.
 pub(crate) fn recounted(images: &[Image], segment: usize, seglet: usize) -> u64
     requires seglet { 0 < seglet }
     requires sum { sum_by (count_of segment seglet) images.now ≤ 2 ^ 32 }

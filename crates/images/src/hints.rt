@@ -1,4 +1,4 @@
-//! Hints where images are in their list.
+//! Hints for the places of images in their list.
 
 ghost use Rattle.std.specs.Prelude.{◌≤◌, length};
 
@@ -8,29 +8,29 @@ use std::alloc::Global;
 /// How many hints there are at first.
 const FIRST: usize = 64;
 
-/// For each of the last numbers, where the first image is that has this number or a greater one. A hint only spares a
-/// search: it is tested wherever it is used, so no contract speaks of it.
+/// For each of the last segment numbers, the place of the first image that has this number or a greater one. A hint
+/// only spares a search. Each use of a hint tests it, so no contract speaks of hints.
 #[derive(Drop)]
 pub(crate) struct Hints {
-    /// By the low bits of the number. How many there are is zero or a power of two.
+    /// The hints. The low bits of a number lead to its hint. The count of hints is zero or a power of two.
     places: Vec<u32>,
 }
 
 impl Hints {
-    /// No hints. It takes no memory.
+    /// Makes hints for no number. The call takes no memory.
     pub(crate) fn new(alloc: Global) -> Hints {
         Hints {
             places: Vec::new(alloc),
         }
     }
 
-    /// Where the hint of a number is.
+    /// Returns the index of a number's hint.
     #[inline(always)]
     fn slot(&self, id: u64) -> usize {
         id as usize & self.places.len().wrapping_sub(1)
     }
 
-    /// Where the image of this number may be in the list.
+    /// Returns the place in the list where the image of this number may be.
     #[inline(always)]
     pub(crate) fn of(&self, id: u64) -> usize {
         match self.places.as_slice().get(self.slot(id)) {
@@ -39,7 +39,7 @@ impl Hints {
         }
     }
 
-    /// Makes room for four hints or more an image, if there is memory for them.
+    /// Doubles the count of hints if there are at most four for each image, and if there is memory for them.
     pub(crate) fn grow(&mut self, images: &[Image]) {
         let len = self.places.len();
         if images.len() >= len / 4 && self.places.resize(FIRST.max(2 * len), 0).is_ok() {
@@ -47,7 +47,7 @@ impl Hints {
         }
     }
 
-    /// The image at this place is new in the list.
+    /// Renews the hints after an image was added to the list at this place.
     pub(crate) fn added(&mut self, images: &[Image], at: usize) {
         for place in at..images.len() {
             let before = if place == 0 {
@@ -60,7 +60,8 @@ impl Hints {
         }
     }
 
-    /// The last numbers up to this one that are above the one before lead to this place.
+    /// Lets the hints of the numbers above `before`, up to `id`, lead to this place. If these numbers are more than
+    /// there are hints, only the last ones get a hint.
     fn point(&mut self, before: u64, id: u64, place: u32) {
         let count = id.saturating_sub(before).min(self.places.len() as u64);
         for back in 0..count {
@@ -71,7 +72,7 @@ impl Hints {
         }
     }
 
-    /// The image at this place was removed.
+    /// Renews the hints after the image at this place was removed from the list.
     pub(crate) fn removed(&mut self, at: usize) {
         for hint in self.places.as_mut_slice() {
             if *hint as usize > at {

@@ -1,4 +1,4 @@
-//! One image.
+//! The image of one segment.
 
 ghost use Rattle.std.specs.Prelude.{◌≡◌, ◌+◌, ◌≤◌, ◌<◌, ◌↔◌, true, length, map, IfOk, IfErr, OnOk, OnErr, IsErrOf};
 ghost use Rattle.entry.specs.Text.{text_of, entries_in, are_data};
@@ -16,9 +16,9 @@ pub struct Image {
     /// The segment's number.
     id: u64,
     text: Vec<u8>,
-    /// How many bytes the text may have without more memory, as promised when it was taken.
+    /// For how many bytes of text the image is sure to have memory; 0 if it takes no appends.
     room: usize,
-    /// Whether it still takes appends, so that its memory is taken whole.
+    /// True if the image still takes appends. It then has memory for `room` bytes.
     is_whole: bool,
     /// How many backups hold the segment.
     replicas: u8,
@@ -47,7 +47,7 @@ impl Image {
     ghost use Rattle.images.specs.Image.{closed_image, whole_image};
     ghost use Rattle.images.specs.Steps.{with_unit, trimmed, replaced_by, more_replicas, fewer_replicas};
 
-    /// The image of a segment that takes no appends, and that so many backups hold.
+    /// Makes the image of a segment that takes no appends, and that `replicas` backups hold, at most 64.
     #[inline(always)]
     pub(crate) fn closed(id: u64, segment: Segment, replicas: usize) -> Image
         requires { replicas ≤ 64 }
@@ -62,8 +62,8 @@ impl Image {
         }
     }
 
-    /// The image of a segment that takes appends, with memory for so many bytes. If there is none, the segment is handed
-    /// back.
+    /// Makes the image of a segment that takes appends, with memory for `room` bytes. No backup holds the segment yet.
+    /// If memory runs out, the segment is handed back.
     pub(crate) fn whole(id: u64, segment: Segment, room: usize) -> Result<Image, Segment>
         ensures ok { IfOk result (λ image. image ≡ whole_image id segment room) }
         ensures err { IfErr result (λ back. back ≡ segment) }
@@ -90,7 +90,7 @@ impl Image {
         self.id
     }
 
-    /// The segment as it lies here, without a copy.
+    /// Borrows the segment, without a copy.
     #[inline(always)]
     pub fn segment(&self) -> SegmentRef<'_>
         ensures { result ≡ self.entry.now.segment }
@@ -98,7 +98,7 @@ impl Image {
         SegmentRef::of_text(self.text.as_slice())
     }
 
-    /// Whether it still takes appends.
+    /// Returns true if the image still takes appends.
     #[inline(always)]
     pub fn is_whole(&self) -> bool
         ensures { result ≡ self.now.is_whole }
@@ -115,7 +115,7 @@ impl Image {
         self.replicas as usize
     }
 
-    /// One more backup holds the segment.
+    /// Counts one more backup that holds the segment.
     pub(crate) fn add_replica(&mut self)
         requires { self.old.replicas < 64 }
         ensures { self.new ≡ more_replicas self.old }
@@ -123,14 +123,14 @@ impl Image {
         self.replicas += 1;
     }
 
-    /// One backup fewer holds the segment.
+    /// Counts one backup fewer that holds the segment. A count of 0 stays 0.
     pub(crate) fn lose_replica(&mut self)
         ensures { self.new ≡ fewer_replicas self.old }
     {
         self.replicas = self.replicas.saturating_sub(1);
     }
 
-    /// How many bytes the text has.
+    /// Returns how many bytes the text has.
     #[inline(always)]
     pub fn bytes_len(&self) -> usize
         ensures { result ≡ length (text_of self.now.segment) }
@@ -138,8 +138,8 @@ impl Image {
         self.text.len()
     }
 
-    /// Appends objects and tombstones, all or none of them, if the text then has at most `limit` bytes, for which it has
-    /// room. The answer is the offset of the first. No memory is taken.
+    /// Appends objects and tombstones if the text then has at most `limit` bytes, for which the image has room. All of
+    /// them are appended, or none. Returns the offset of the first one. The call takes no memory.
     #[inline(always)]
     pub(crate) fn append(
         &mut self,
@@ -159,7 +159,7 @@ impl Image {
         append_unit(&mut self.text, unit, limit)
     }
 
-    /// Appends the objects and tombstones whose text this is, as `append` does.
+    /// Appends the objects and tombstones whose text `more` is, as `append` does.
     #[inline(always)]
     pub(crate) fn append_text(&mut self, more: &[u8], limit: usize) -> Result<usize, AppendFault>
         requires data { IsDataText more.now }
@@ -175,7 +175,7 @@ impl Image {
         append_text(&mut self.text, more, limit)
     }
 
-    /// It takes no more appends, and gives back the memory beyond this many bytes, as `trim_text` does.
+    /// Ends the appends to the image, and gives back its memory beyond `len` bytes, as `trim_text` does.
     pub(crate) fn trim(&mut self, len: usize)
         ensures { self.new ≡ trimmed self.old }
     {
@@ -184,7 +184,7 @@ impl Image {
         trim_text(&mut self.text, len);
     }
 
-    /// Another segment comes in its place, which takes no appends.
+    /// Replaces the segment by another one. The image takes no appends then.
     pub(crate) fn replace(&mut self, segment: Segment)
         ensures { self.new ≡ replaced_by segment self.old }
     {
@@ -193,7 +193,7 @@ impl Image {
         self.text = segment.into_text();
     }
 
-    /// The text alone.
+    /// Returns the text, in the memory of the image.
     #[inline(always)]
     pub(crate) fn into_text(self) -> Vec<u8>
         ensures valid { IsSegmentBytes result.items }
@@ -202,7 +202,7 @@ impl Image {
         self.text
     }
 
-    /// The segment alone.
+    /// Returns the segment, in the memory of the image.
     pub(crate) fn into_segment(self) -> Segment
         ensures { result ≡ self.segment }
     {
@@ -210,8 +210,8 @@ impl Image {
     }
 }
 
-/// The image of a segment, which takes appends or not. One that does has memory for so many bytes. If there is none, the
-/// segment is handed back.
+/// Makes the image of a segment that no backup holds yet. If the image takes appends, it gets memory for `room` bytes.
+/// If memory for these runs out, the segment is handed back.
 pub(crate) fn new_image(
     id: u64,
     segment: Segment,

@@ -1,4 +1,4 @@
-//! Images in memory, with the sum of what they count.
+//! Images in memory, with the sum of the seglets that they count.
 
 ghost use Rattle.std.specs.Prelude.{◌≡◌, ◌+◌, ◌<◌, ◌≤◌, ◌↔◌, ◌∷◌, [], true, false, None, length, map, sum_by};
 ghost use Rattle.std.specs.Prelude.{IfOk, IfErr, OnOk, OnErr, IsErrAnd, IsErrOf, IsErr, IsSome, IsSomeAnd, IfSome};
@@ -34,9 +34,9 @@ pub struct Images {
     images: Vec<Image>,
     /// How many seglets are counted.
     used: u64,
-    /// Where in the list the images of the last numbers are.
+    /// Hints for the places of the images in the list.
     hints: Hints,
-    /// What images that were dropped have left.
+    /// Memory that dropped images have left.
     spares: Spares,
 }
 
@@ -72,7 +72,8 @@ impl Images {
     ghost use Rattle.images.specs.Steps.{with_unit, trimmed, replaced_by, more_replicas, fewer_replicas, len_at};
     ghost use Rattle.images.specs.Steps.{entry_at, HasData};
 
-    /// No images yet: segments of at most `segment` bytes, in `seglets` seglets of `seglet` bytes each.
+    /// Makes an empty list of images. A segment has at most `segment` bytes. There are `seglets` seglets of `seglet`
+    /// bytes each. The call takes no memory.
     pub fn new(alloc: Global, segment: usize, seglet: usize, seglets: u64) -> Images
         requires { AreSizes segment seglet seglets }
         ensures { result ≡ record { segment = segment; seglet = seglet; seglets = seglets; images = []; room = 0 } }
@@ -88,7 +89,7 @@ impl Images {
         }
     }
 
-    /// What holds of all images in memory.
+    /// Shows contracts what is true of all images in memory. The call does nothing.
     pub fn show_valid(&self)
         ensures { IsImages self.now }
     {
@@ -110,7 +111,7 @@ impl Images {
         self.used
     }
 
-    /// How many seglets are left.
+    /// Returns how many seglets are free.
     pub fn free(&self) -> u64
         ensures free { result ≡ free_seglets self.now }
         ensures valid { IsImages self.now }
@@ -118,21 +119,21 @@ impl Images {
         self.seglets - self.used
     }
 
-    /// The same as `used`, by a walk over all images.
+    /// Returns the same as `used`, by a walk over all images.
     pub fn recount(&self) -> u64
         ensures { result ≡ used_seglets self.now }
     {
         recounted(self.images.as_slice(), self.segment, self.seglet)
     }
 
-    /// How many images there are.
+    /// Returns how many images there are.
     pub fn len(&self) -> usize
         ensures { result ≡ length self.now.images }
     {
         self.images.len()
     }
 
-    /// The images, by rising id.
+    /// Returns the images, by rising id.
     pub fn as_slice(&self) -> &[Image]
         ensures images { result.now ≡ self.entry.now.images }
         ensures valid { IsImages self.now }
@@ -140,7 +141,7 @@ impl Images {
         self.images.as_slice()
     }
 
-    /// The segment of this number, without a copy.
+    /// Returns the segment of this number, without a copy, or None if it has no image.
     #[inline(always)]
     pub fn get(&self, id: u64) -> Option<SegmentRef<'_>>
         ensures { result ≡ segment_of self.entry.now.images id }
@@ -149,14 +150,14 @@ impl Images {
         Some(self.images[at].segment())
     }
 
-    /// Memory for a whole segment, if an image that was dropped has left some.
+    /// Returns memory for a whole segment if a dropped image has left some.
     pub fn take_spare(&mut self) -> Option<Vec<u8>>
         ensures { self.new ≡ self.old }
     {
         self.spares.take()
     }
 
-    /// Makes room for `more` further images in the list: as many calls of `add` then take no memory.
+    /// Makes room for `more` further images in the list. So many further images need no more memory for the list.
     pub fn reserve(&mut self, more: usize) -> Result<(), NoMemory>
         ensures same { self.new ≡ record self.old { room = self.new.room } }
         ensures grown { self.old.room ≤ self.new.room }
@@ -168,10 +169,10 @@ impl Images {
         Ok(())
     }
 
-    /// Adds the image of a segment, at its place. No image has its number, and it has at most `segment` bytes. A whole
-    /// one still takes appends, and its memory is taken whole here. An image that isn't added is handed back: `NoRoom`
-    /// comes exactly if it counts more seglets than are free. `NoMemory` comes only for a whole image, or if the list has
-    /// no room for another.
+    /// Adds the image of a segment at its place in the list. No image has this number yet, and the segment has at most
+    /// `segment_len` bytes. If `is_whole`, the image takes appends, and the call takes memory for a whole segment. If
+    /// the image isn't added, the segment is handed back. `NoRoom` comes exactly if the image counts more seglets than
+    /// are free. `NoMemory` comes only if the image takes appends, or if the list has no room for another image.
     pub fn add(
         &mut self,
         id: u64,
@@ -206,8 +207,9 @@ impl Images {
         Ok(())
     }
 
-    /// Adds the image of a segment that takes no appends, as `add` does, and that so many backups hold. The list has
-    /// room, and the seglets are free. It can't fail, takes no memory, and moves only images with a higher number.
+    /// Adds the image of a segment that takes no appends, as `add` does. `replicas` backups hold the segment, at most
+    /// 64. The list has room for the image, and the seglets that it counts are free. The call can't fail, takes no
+    /// memory, and moves only images with a higher number.
     pub fn add_closed(&mut self, id: u64, segment: Segment, replicas: usize)
         requires other { image_of self.old.images id ≡ None }
         requires within { length (text_of segment) ≤ self.old.segment }
@@ -220,8 +222,8 @@ impl Images {
         self.add_image(Image::closed(id, segment, replicas));
     }
 
-    /// The image of a new survivor, with the memory of a whole segment: that of a dropped image, if one has left it. It
-    /// is not added.
+    /// Makes the image of a new survivor, with memory for a whole segment. If a dropped image has left such memory, the
+    /// call uses it. The image is not added to the list.
     pub fn begin_survivor(&mut self, alloc: Global, master: u64, id: u64) -> Result<Image, NoMemory>
         ensures survivor { IfOk result (λ image. image ≡ whole_image id
             (Entry.Header (record { master = master; segment = id; role = Role.Survivor }) ∷ []) self.old.segment) }
@@ -237,7 +239,7 @@ impl Images {
         }
     }
 
-    /// Adds an image, as `add_closed` does. One that takes appends has memory for a whole segment.
+    /// Adds an image, as `add_closed` does. If the image takes appends, it has memory for a whole segment.
     pub fn add_image(&mut self, image: Image)
         requires other { image_of self.old.images image.id ≡ None }
         requires within { length (text_of image.segment) ≤ self.old.segment }
@@ -252,8 +254,9 @@ impl Images {
         self.hints.added(self.images.as_slice(), at);
     }
 
-    /// Appends a unit to a whole image, all or none of it. The answer is the offset of its first entry. `Full` comes
-    /// exactly if the segment would have too many bytes, and nothing else goes wrong: no memory is taken.
+    /// Appends a unit to an image that takes appends. All of the unit is appended, or nothing. Returns the offset of
+    /// its first entry. `Full` comes exactly if the segment would have too many bytes. There is no other fault,
+    /// because the call takes no memory.
     pub fn append(&mut self, id: u64, unit: &[EntryRef<'_>]) -> Result<usize, AppendFault>
         requires whole { IsWhole self.old.images id }
         requires data { are_data (map shown unit.now) ≡ true }
@@ -272,9 +275,10 @@ impl Images {
         self.images[at].append(unit, self.segment)
     }
 
-    /// Appends a copy of the object or tombstone of this length at an offset of one image to a later image, which is
-    /// whole. The answer is its offset there. `Full` comes exactly if the segment would have too many bytes, and nothing
-    /// else goes wrong: no memory is taken. A refusal changes nothing.
+    /// Appends a copy of an object or tombstone to the image `to`, which takes appends. The object or tombstone is at
+    /// offset `at` of the image `from`, which has a lower number, and has `len` bytes. Returns the offset of the copy.
+    /// `Full` comes exactly if the segment would have too many bytes, and then nothing changes. There is no other
+    /// fault, because the call takes no memory.
     pub fn copy_entry(
         &mut self,
         from: u64,
@@ -304,8 +308,8 @@ impl Images {
         )
     }
 
-    /// Makes a whole image one that counts its length, and gives back the memory beyond its seglets. It changes nothing
-    /// if there is no image of this number.
+    /// Ends the appends to the image of this number. The image then counts its length in seglets, rounded up, and gives
+    /// back the memory beyond these, as `trim_text` does. If there is no image of this number, nothing changes.
     pub fn trim(&mut self, id: u64)
         ensures { self.new ≡ record self.old { images = changed self.old.images id trimmed } }
     {
@@ -319,8 +323,9 @@ impl Images {
         self.used = self.used - before + count;
     }
 
-    /// Puts another image in the place of that of this number; it is not whole. An image that isn't taken is
-    /// handed back with `NoRoom`: exactly if it counts more seglets than are free, those of the old image among them.
+    /// Replaces the segment of the image of this number. The image takes no appends then. A segment that isn't taken
+    /// is handed back with `NoRoom`. This fault comes exactly if the new segment counts more seglets than are free
+    /// together with those that the old segment counts.
     pub fn replace(&mut self, id: u64, segment: Segment) -> Result<(), (ImagesFault, Segment)>
         requires there { IsSome (image_of self.old.images id) }
         requires within { length (text_of segment) ≤ self.old.segment }
@@ -346,7 +351,7 @@ impl Images {
         Ok(())
     }
 
-    /// How many backups hold the segment of this number; none, if there is no image of it.
+    /// Returns how many backups hold the segment of this number, or 0 if it has no image.
     pub fn replicas(&self, id: u64) -> usize
         ensures { result ≡ replicas_of self.now.images id }
     {
@@ -356,7 +361,7 @@ impl Images {
         }
     }
 
-    /// One more backup holds the segment of this number.
+    /// Counts one more backup that holds the segment of this number.
     pub fn add_replica(&mut self, id: u64)
         requires { IsSomeAnd (image_of self.old.images id) (λ image. image.replicas < 64) }
         ensures { self.new ≡ record self.old { images = changed self.old.images id more_replicas } }
@@ -367,7 +372,7 @@ impl Images {
         self.images[at].add_replica();
     }
 
-    /// The number of the segment whose image is at this place.
+    /// Returns the number of the segment whose image is at this place of the list.
     pub fn id_at(&self, place: usize) -> u64
         requires { place < length self.now.images }
         ensures { (image : ImageValue) → result ≡ (slice_index_or self.now.images place image).id }
@@ -375,7 +380,7 @@ impl Images {
         self.images[place].id()
     }
 
-    /// How many backups hold it.
+    /// Returns how many backups hold the segment whose image is at this place of the list.
     pub fn replicas_at(&self, place: usize) -> usize
         requires { place < length self.now.images }
         ensures { (image : ImageValue) → result ≡ (slice_index_or self.now.images place image).replicas }
@@ -383,7 +388,7 @@ impl Images {
         self.images[place].replicas()
     }
 
-    /// One backup fewer holds the segment whose image is at this place.
+    /// Counts one backup fewer that holds the segment whose image is at this place of the list. A count of 0 stays 0.
     pub fn lose_at(&mut self, place: usize)
         requires { place < length self.old.images }
         ensures { self.new ≡ record self.old { images = changed_at self.old.images place fewer_replicas } }
@@ -391,8 +396,9 @@ impl Images {
         self.images[place].lose_replica();
     }
 
-    /// Drops the image of this number, and what it counts. Memory for a whole segment stays for the next images, as far
-    /// as seglets are free for it. It changes nothing if there is no such image.
+    /// Drops the image of this number, and frees the seglets that it counts. If its memory is enough for a whole
+    /// segment, the call may keep it for a later image: it keeps memory for at most 8 segments, and for no more than
+    /// free seglets allow. If there is no such image, nothing changes.
     pub fn drop_segment(&mut self, id: u64)
         ensures { self.new ≡ record self.old { images = without self.old.images id } }
     {

@@ -4,7 +4,7 @@ ghost use Rattle.images.specs.Laws.{NewestIsLast, AddedRise, AddedAreBelow, Adde
 ghost use Rattle.images.specs.Laws.{AddedIsFound, AddedSegmentIsFound, ChangedIsFound, ChangedSegmentIsFound};
 ghost use Rattle.images.specs.Laws.{ChangedHaveIds, ChangedRise, WithoutIsFound, WithoutSegmentIsFound, WithoutRise};
 
-/// One more image: where it comes, and what it counts.
+/// Where an image that is added comes in the list, and how many seglets it counts.
 pub fn images_are_added()
     ensures newest { NewestIsLast }
     ensures rise { AddedRise }
@@ -13,7 +13,7 @@ pub fn images_are_added()
     ensures counts { AddedCounts }
 {}
 
-/// Which image is found after each step.
+/// Which image is found by an id after an image was added, changed or removed.
 pub fn images_are_found()
     ensures added { AddedIsFound }
     ensures added_segment { AddedSegmentIsFound }
@@ -23,7 +23,7 @@ pub fn images_are_found()
     ensures without_segment { WithoutSegmentIsFound }
 {}
 
-/// The images stay in order if one changes or goes.
+/// The images stay in order if one is changed or removed.
 pub fn images_stay_in_order()
     ensures ids { ChangedHaveIds }
     ensures changed { ChangedRise }

@@ -1,9 +1,10 @@
 //! Images of segments in memory: a map from segment numbers to segments, with the sum of the seglets that they count.
 //!
-//! Memory is counted in seglets. An image that still takes appends counts those of a whole segment, and any other its
-//! length in seglets, rounded up. Of the first the memory is taken whole, so no append or copy takes more (*HaveMemory*).
-//! `specs/Images.antt` says what is counted, and `specs/Sorted.antt` how images are found. What is counted is an upper
-//! bound of the text's bytes, and not of the memory: no clause says that `shrink_to` shrinks a vector.
+//! Memory is counted in seglets. An image that still takes appends counts the seglets of a whole segment. Each other
+//! image counts its length in seglets, rounded up. An image that takes appends has memory for a whole segment, so no
+//! append or copy takes more (*HaveMemory*). `specs/Images.antt` says what is counted, and `specs/Sorted.antt` says how
+//! images are found. The counted seglets are an upper bound of the bytes of all texts. They are no upper bound of the
+//! memory: a trimmed image may keep a little more, and no clause says that `shrink_to` shrinks a vector.
 #![tactic(auto)]
 
 mod copying;

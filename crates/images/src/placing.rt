@@ -1,4 +1,4 @@
-//! Where images are in a list.
+//! The places of images in a list.
 
 ghost use Rattle.std.specs.Prelude.{◌≡◌, ◌<◌, ◌≤◌, true, length, insert, IfSome, IfNone, None};
 ghost use Rattle.images.specs.Image.{Image as ImageValue};
@@ -8,8 +8,8 @@ ghost use Rattle.images.specs.Place.{IsPlaceOf};
 use crate::hints::Hints;
 use crate::image::Image;
 
-/// Where the image of a segment is in a list by rising id. The hint mostly says it, or that there is none. If it
-/// doesn't, the image is searched for.
+/// Returns the place of the image of this id in a list by rising id, or None if there is no such image. Mostly a hint
+/// leads to the image, or shows that there is none. Else a binary search finds out.
 #[inline(always)]
 pub(crate) fn place_of(images: &[Image], id: u64, hints: &Hints) -> Option<usize>
     requires { AreRising images.now }
@@ -26,7 +26,7 @@ pub(crate) fn place_of(images: &[Image], id: u64, hints: &Hints) -> Option<usize
     }
 }
 
-/// Whether the image of this id is at this place.
+/// Returns true if the image of this id is at this place.
 #[inline(always)]
 fn is_at(images: &[Image], id: u64, at: usize) -> bool
     ensures { result ≡ true → IsPlaceOf images.now id at }
@@ -34,7 +34,8 @@ fn is_at(images: &[Image], id: u64, at: usize) -> bool
     at < images.len() && images[at].id() == id
 }
 
-/// Whether all images before this place have lower ids, and those from there on higher ones.
+/// Returns true if the image at this place has a higher id, and the image before it, if any, has a lower id. Then no
+/// image has this id.
 #[inline(always)]
 fn is_between(images: &[Image], id: u64, at: usize) -> bool
     requires { AreRising images.now }
@@ -46,7 +47,7 @@ fn is_between(images: &[Image], id: u64, at: usize) -> bool
     at == 0 || images[at - 1].id() < id
 }
 
-/// Where the image is, by a binary search.
+/// Returns the place of the image of this id, or None if there is no such image. A binary search finds out.
 fn place_among(images: &[Image], id: u64) -> Option<usize>
     requires { AreRising images.now }
     ensures found { IfSome result (IsPlaceOf images.now id) }
@@ -55,7 +56,8 @@ fn place_among(images: &[Image], id: u64) -> Option<usize>
     images.binary_search_by_key(&id, |image| image.id()).ok()
 }
 
-/// Where an image with this id belongs in a list by rising id: behind all that have no higher one.
+/// Returns the place where an image of this id belongs in a list by rising id: after all images whose ids are not
+/// higher.
 pub(crate) fn place_for(images: &[Image], id: u64) -> usize
     requires { AreRising images.now }
     ensures within { result ≤ length images.now }

@@ -27,7 +27,7 @@ impl<'a> Model for ObjectsIn<'a> {
 }
 
 impl<'a> ObjectsIn<'a> {
-    /// Whether no object is to come.
+    /// Returns true if no object is still to come.
     pub fn is_empty(&self) -> bool
         ensures { result ≡ (length self.now == 0) }
     {

@@ -1,7 +1,7 @@
-//! Lists of objects as one text: their spellings, one behind the other.
+//! Lists of objects. A list is one text: the spellings of its objects, one after the other.
 //!
-//! A list has one block of memory, whatever it holds, and the objects that it hands out are read from there. A contract
-//! sees the list of the objects. The crate stands on `entry`, for the spelling of an object and its reading.
+//! A list keeps all spellings in one block of memory, and reads each object that it hands out from this block. A
+//! contract sees the objects as a list. The crate stands on `entry`, which spells and reads objects.
 #![tactic(auto)]
 
 mod iter;

@@ -11,13 +11,13 @@ use entry::{NoMemory, ObjectRef};
 use std::alloc::Global;
 use std::marker::Model;
 
-/// Objects in a row. Their spellings lie one behind the other in one block of memory. A contract sees the objects as a
+/// A list of objects. Their spellings lie one after the other in one block of memory. A contract sees the objects as a
 /// list.
 #[derive(Drop)]
 pub struct ObjectList {
     text: Vec<u8>,
     count: usize,
-    // Where the spelling of the last object begins; 0 if there is none.
+    // The offset at which the spelling of the last object begins; 0 if there is no object.
     last: usize,
 }
 
@@ -34,7 +34,7 @@ impl Model for ObjectList {
 }
 
 impl ObjectList {
-    /// No objects. It takes no memory.
+    /// Makes an empty list. The call takes no memory.
     pub fn new(alloc: Global) -> ObjectList
         ensures { result ≡ [] }
     {
@@ -45,7 +45,7 @@ impl ObjectList {
         }
     }
 
-    /// No objects yet, and memory for objects whose spellings have so many bytes together.
+    /// Makes an empty list, with memory for objects whose spellings have `bytes` bytes together.
     pub fn with_capacity(alloc: Global, bytes: usize) -> Result<ObjectList, NoMemory>
         ensures { IfOk result (λ list. list ≡ []) }
     {
@@ -56,13 +56,13 @@ impl ObjectList {
         })
     }
 
-    /// Puts an object behind the others. If memory runs out, nothing changes.
+    /// Appends an object. If memory runs out, nothing changes.
     pub fn push(&mut self, object: &ObjectRef<'_>) -> Result<(), NoMemory>
         ensures ok { OnOk result (self.new ≡ self.old ++ shown_object object.now ∷ []) }
         ensures err { OnErr result (self.new ≡ self.old) }
     {
         let at = self.text.len();
-        // Its clause `valid` tells that the object is within the limits.
+        // The clause `valid` of this call says that the object is within the limits.
         object.spelled_len();
         object.write(&mut self.text)?;
         self.count += 1;
@@ -70,32 +70,32 @@ impl ObjectList {
         Ok(())
     }
 
-    /// Whether there is memory for one more object.
+    /// Returns true if the list can append this object without more memory.
     #[inline(always)]
     pub fn has_room(&self, object: &ObjectRef<'_>) -> bool {
         object.spelled_len() <= self.text.capacity() - self.text.len()
     }
 
-    /// For how many bytes of spellings there is memory.
+    /// Returns for how many bytes of spellings the list has memory, those of its objects included.
     pub fn capacity(&self) -> usize {
         self.text.capacity()
     }
 
-    /// How many objects there are.
+    /// Returns how many objects there are.
     pub fn len(&self) -> usize
         ensures { result ≡ length self.now }
     {
         self.count
     }
 
-    /// Whether there is no object.
+    /// Returns true if there is no object.
     pub fn is_empty(&self) -> bool
         ensures { result ≡ (length self.now == 0) }
     {
         self.count == 0
     }
 
-    /// The first object.
+    /// Returns the first object, or None if the list is empty.
     pub fn first(&self) -> Option<ObjectRef<'_>>
         ensures some { IfSome result (λ o. (rest : List Object) × (self.entry.now ≡ shown_object o ∷ rest)) }
         ensures none { IsNone result → self.entry.now ≡ [] }
@@ -103,7 +103,7 @@ impl ObjectList {
         self.iter().next()
     }
 
-    /// The last object. The others are not read.
+    /// Returns the last object, or None if the list is empty. The other objects are not read.
     pub fn last(&self) -> Option<ObjectRef<'_>>
         ensures some { IfSome result (λ o. (front : List Object) × (self.entry.now ≡ front ++ shown_object o ∷ [])) }
         ensures none { IsNone result → self.entry.now ≡ [] }
@@ -115,7 +115,7 @@ impl ObjectList {
         Some(object)
     }
 
-    /// The objects in order.
+    /// Returns the objects in order.
     pub fn iter(&self) -> ObjectsIn<'_>
         ensures objects { result ≡ self.entry.now }
         ensures valid { All IsObject self.entry.now }

@@ -6,7 +6,7 @@ ghost use Rattle.object_list.specs.Spelled.{objects_in, IsObjectText};
 
 use entry::{EntryRef, ObjectRef};
 
-/// The object at the front, and how many bytes its spelling has.
+/// Returns the object at the front of the text, and how many bytes its spelling has.
 #[inline(always)]
 pub(crate) fn read_first(text: &[u8]) -> (ObjectRef<'_>, usize)
     requires some { 0 < length text.now }

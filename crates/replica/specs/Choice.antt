@@ -35,8 +35,8 @@ IsUsableHeadOf least master h = (h.master ≡ master) × IsSome (opening_in h.by
 abbrev pub IsUsableOf : ℕ → Opening → Holding → Type 0
 IsUsableOf master opening h = (h.master ≡ master) × IsUsableReplica opening h
 
--- A choice of a master's newest log from the replicas that are held. 'least' is the
--- least id of a head that a recovery may use.
+-- A choice of a master's newest log from the replicas that are held. 'least' is the least id of a head that a recovery
+-- may use.
 pub record IsChoice (holds : Holding → Type 0) (least master : ℕ) (c : Choice) : Type 0 where
   pub held : holds c.head
   pub of_master : c.head.master ≡ master

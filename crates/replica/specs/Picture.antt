@@ -71,8 +71,8 @@ pub record Ack : Type 0 where
   pub op : OpValue
 
 -- A fleet. Its backups are numbered from 0. 'takes' counts the ops and raises that were taken, and the fleet is spent
--- once they are as many as 'end'. 'faults' counts the takes that ended in a fault. 'least' has for each master the
--- least id of a head that a recovery may use. 'acks' has all ops that were answered Ok, the last one first.
+-- once they are as many as 'end'. 'faults' counts the takes that ended in Fault. 'least' has for each master the least
+-- id of a head that a recovery may use. 'acks' has all ops that were answered Ok, the last one first.
 pub record FleetState : Type 0 where
   pub backups : ℕ
   pub picture : Picture

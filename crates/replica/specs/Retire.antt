@@ -44,7 +44,7 @@ pub record FreesEach (old : FleetState) (spots : List Spot) (new : FleetState) :
   pub each : TakesEach old spots new
   pub takes : new.takes ≡ old.takes + length spots
 
--- The replicas at the spots before some spot are freed, and the Free for this spot ends in the fault.
+-- The replicas at the spots before some spot are freed, and the Free for this spot ends in this fault.
 pub record EndsAt (old : FleetState) (spots : List Spot) (fault : TakeFault) (new : FleetState) : Type 0 where
   pub front : List Spot
   pub next : Spot
@@ -54,8 +54,8 @@ pub record EndsAt (old : FleetState) (spots : List Spot) (fault : TakeFault) (ne
   pub freed : FreesEach old front mid
   pub refused : Refuses mid next.backup (freeing next) fault new
 
--- If the answer is Ok, the replicas of all masters but one were freed, in order. If the answer is a fault, the first
--- Free that failed ended this, or memory ran out before the first Free.
+-- If the answer is Ok, the replicas of all masters but one were freed, in order. If the answer is a fault, no Free came
+-- after the first one that failed, or memory ran out before the first one.
 abbrev pub Retires : FleetState → ℕ → Result Unit TakeFault → FleetState → Type 0
 Retires old keep (Ok u) new = (spots : List Spot) × AreOthers spots old.picture keep × FreesEach old spots new
 Retires old keep (Err fault) new =

@@ -18,8 +18,8 @@ IsHeadLeft shown master keep s = (b : ℕ) × (keep b ≡ true) × HoldsHead sho
 abbrev pub IsHomeLeft : (ℕ → ℕ → Type 0) → (ℕ → Bool) → ℕ → Type 0
 IsHomeLeft IsHome keep s = (b : ℕ) × IsHome s b × (keep b ≡ true)
 
--- If some head was opened on all its homes, s is the newest such head. Then some home of s is left, or a replica of a
--- later head. If no head was opened on all its homes, a replica of some head that may be used is left.
+-- If s is the newest head that was opened on all its homes, some home of s is left, or a replica of a later head. If no
+-- head was opened on all its homes, a replica of some head that a recovery may use is left.
 abbrev pub HeadSurvives : (ℕ → ℕ → Type 0) → Option ℕ → Shown → ℕ → (ℕ → Bool) → Type 0
 HeadSurvives IsHome (Some s) shown master keep =
     IsHomeLeft IsHome keep s ⊎ ((t : ℕ) × (s < t) × IsHeadLeft shown master keep t)
@@ -34,7 +34,7 @@ pub record IsNewestLeft (shown : Shown) (master : ℕ) (keep : ℕ → Bool) (s 
   pub bears : opening_in r.bytes ≡ Some opening
   pub newest : (t : ℕ) → IsHeadLeft shown master keep t → t ≤ s
 
--- some home is left of each segment that the digest of the newest head that is left lists, apart from this head
+-- for the newest head that is left: each other segment that its digest lists has a home that is left
 abbrev pub SegmentsSurvive : (ℕ → ℕ → Type 0) → Shown → ℕ → (ℕ → Bool) → Type 0
 SegmentsSurvive IsHome shown master keep = (s : ℕ) (opening : Opening) → IsNewestLeft shown master keep s opening →
     (id : ℕ) → IsAmong id (listed_ids opening.digest) → (id ≡ s → ⊥) → IsHomeLeft IsHome keep id

@@ -6,8 +6,7 @@ use Rattle.replica.specs.declared.op.TakeFault.TheVariants as take_fault
 use Rattle.replica.specs.Op.{ActValue, Open, Extend, Close, Seal, Free, OpValue}
 use Rattle.replica.specs.Picture.{Replica, FleetState, with_replica}
 
--- the replica that is there after the act, if any, by the replica that was there before, if any; None if the act
--- doesn't fit
+-- what is at the op's place after the act, a replica or nothing, by what was there before; None if the act doesn't fit
 abbrev pub effect : ActValue → Option Replica → Option (Option Replica)
 effect (Open bytes) None = Some (Some (record { bytes = bytes; is_open = true }))
 effect (Open bytes) (Some r) = None
@@ -44,7 +43,7 @@ taken f b op =
 abbrev pub faulted : FleetState → FleetState
 faulted f = record f { faults = f.faults + 1 }
 
--- the fleet after a take that took its op and ended in a fault: one more fault is counted, and the op is no ack
+-- the fleet after an op or a raise was taken and ended in Fault: one more fault is counted, and there is no new ack
 abbrev pub unanswered : FleetState → FleetState → FleetState
 unanswered old left = record left { faults = left.faults + 1; acks = old.acks }
 

@@ -1,4 +1,4 @@
--- Sizes in order, walked pair by pair.
+-- A walk over pairs of neighbours tells whether sizes are sorted.
 use Rattle.std.proofs.Common.{◌≡◌, ◌-◌, ◌<◌, ◌≤◌, ℕ, zero, suc, true, List, [], ◌∷◌, length, drop, get_or, refl, arith}
 use Rattle.std.proofs.Math.Seq.{drop-cons}
 use Rattle.entry.specs.declared.tablet.Size.{Size}

@@ -1,4 +1,4 @@
--- What is true of the rule.
+-- What is true of the rule of wills.
 use Rattle.std.specs.Prelude.{◌≡◌, ℕ, List, true}
 use Rattle.entry.specs.declared.tablet.Tablet.{Tablet}
 use Rattle.entry.specs.declared.tablet.Size.{Size}

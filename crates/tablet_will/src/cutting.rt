@@ -15,7 +15,7 @@ impl Start {
     ghost use Rattle.std.specs.Prelude.{◌≡◌};
     ghost use Rattle.tablet_will.specs.Order.{is_up_to};
 
-    /// Whether the partition begins at the place or before it.
+    /// Returns true if the partition begins at the place or before it.
     fn is_up_to(&self, table: u64, place: u64) -> bool
         ensures { result ≡ is_up_to self.now.table self.now.place table place }
     {
@@ -23,7 +23,7 @@ impl Start {
     }
 }
 
-/// Adds the parts of a tablet, which is cut where a partition begins in it.
+/// Appends the parts of a tablet to `parts`. The tablet is cut wherever a partition begins inside it.
 fn cut(tablet: &Tablet, starts: &[Start], parts: &mut Vec<Part>) -> Result<(), NoMemory>
     requires rising { AreRising starts.now }
     requires limit { length starts.now ≤ 4294967294 }
@@ -52,7 +52,7 @@ fn cut(tablet: &Tablet, starts: &[Start], parts: &mut Vec<Part>) -> Result<(), N
     Ok(())
 }
 
-/// The parts of the tablets.
+/// Returns the parts of all tablets, in order.
 pub(crate) fn parts_of(
     alloc: Global,
     tablets: &[Tablet],

@@ -8,14 +8,14 @@ use std::alloc::{AllocError, AllocFailed};
 use std::error::Error;
 use std::fmt;
 
-/// Why there is no will: the first test that failed. The numbers are fixed.
+/// Why there is no will: the first test that failed, or `NoMemory`. The numbers are fixed.
 #[derive(Clone, Copy, Debug, PartialEq, Eq)]
 pub enum WillFault {
-    /// 1: there is no tablet, one begins after its end, or they are not sorted and disjoint.
+    /// 1: there is no tablet, a tablet begins after its end, or the tablets are not sorted and disjoint.
     BadTablets,
-    /// 2: a partition may have no byte, or no object.
+    /// 2: the limit of bytes or the limit of objects is 0.
     BadLimits,
-    /// 3: the sizes are not sorted by table and place, or one lies in no tablet.
+    /// 3: the sizes are not sorted by table and place, or the place of a size is in no tablet.
     StraySize,
     /// 4: memory ran out.
     NoMemory,

@@ -1,4 +1,4 @@
-//! Groups of sizes, and where partitions begin.
+//! Sizes of one place, as a group, and where partitions begin.
 
 ghost use Rattle.std.specs.Prelude.{◌≡◌, ◌<◌, ◌≤◌, ◌*◌, ◌∷◌, ◌==◌, ◌&&◌, length, drop, IfOk};
 ghost use Rattle.tablet_will.specs.Rule.{groups, starts_of};
@@ -6,7 +6,7 @@ ghost use Rattle.tablet_will.specs.Rule.{groups, starts_of};
 use entry::{NoMemory, Size};
 use std::alloc::Global;
 
-/// The objects at one place of a table.
+/// How many bytes and objects there are at one place of a table.
 #[derive(Clone, Copy)]
 pub(crate) struct Group {
     pub table: u64,
@@ -22,7 +22,7 @@ pub(crate) struct Start {
     pub place: u64,
 }
 
-/// The number of a partition, and what it has.
+/// A partition that is being filled: its number, and how many bytes and objects it has so far.
 #[derive(Clone, Copy)]
 pub(crate) struct Load {
     pub partition: usize,
@@ -36,7 +36,7 @@ fn is_same_place(size: &Size, other: &Size) -> bool
     size.table == other.table && size.place == other.place
 }
 
-/// The group that the sizes begin with.
+/// Returns the group of the first size and of those right after it that have the same place.
 fn first_group(sizes: &[Size]) -> Group
     requires { 0 < length sizes.now }
     ensures group { groups sizes.now ≡ result ∷ groups (drop result.objects sizes.now) }
@@ -63,7 +63,7 @@ impl Load {
     ghost use Rattle.std.specs.Prelude.{◌≡◌, ◌+◌, ◌<◌, ◌^◌};
     ghost use Rattle.tablet_will.specs.Rule.{begins_next};
 
-    /// Whether the next partition begins at the group.
+    /// Returns true if the next partition begins at the group, because this one has no room for it.
     fn is_full_for(&self, group: &Group, max_bytes: u64, max_objects: u64) -> bool
         requires bytes { self.now.bytes + group.now.bytes < 2 ^ 128 }
         requires objects { self.now.objects + group.now.objects < 2 ^ 64 }
@@ -76,7 +76,7 @@ impl Load {
     }
 }
 
-/// Where the partitions 1, 2, .. begin.
+/// Returns the places where the partitions 1, 2, .. begin.
 pub(crate) fn starts_of(
     alloc: Global,
     sizes: &[Size],

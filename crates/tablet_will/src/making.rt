@@ -14,9 +14,10 @@ use crate::will::Will;
 use entry::{Size, Tablet, are_tablets};
 use std::alloc::Global;
 
-/// The will that cuts the tablets by the sizes of the objects in them. A partition has at most `max_bytes` bytes and
-/// `max_objects` objects, both at least 1, but for two cases. A place is never cut, so a partition with the objects of
-/// one place alone may have more. There are at most 4,294,967,295 partitions, and the last may have more.
+/// Makes the will that cuts the tablets by the sizes of the objects in them. A partition has at most `max_bytes` bytes
+/// and `max_objects` objects, apart from two cases. A place is never cut, so a partition whose objects are all at one
+/// place may have more. There are at most 4,294,967,295 partitions, and the last of so many may have more. Both limits
+/// must be at least 1.
 pub fn make_will(
     alloc: Global,
     tablets: &[Tablet],

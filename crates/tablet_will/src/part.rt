@@ -23,7 +23,7 @@ impl Part {
         self.table == table && self.first <= place && place <= self.last
     }
 
-    /// Whether the part ends before the place.
+    /// Returns true if the part ends before the place.
     fn ends_before(&self, table: u64, place: u64) -> bool
         ensures { result ≡ is_below self.now.table self.now.last table place }
     {
@@ -31,7 +31,7 @@ impl Part {
     }
 }
 
-/// The partition of a place, found by halves.
+/// Returns the partition of a place, or None if the place is in no part. A binary search finds the part.
 pub(crate) fn partition_at(parts: &[Part], table: u64, place: u64) -> Option<u32>
     requires { are_sorted parts.now ≡ true }
     ensures { result ≡ partition_at parts.now table place }

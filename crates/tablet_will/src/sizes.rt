@@ -23,21 +23,21 @@ fn is_in_one(tablets: &[Tablet], size: &Size) -> bool
         .any(|tablet| is_in_tablet(tablet, table, place))
 }
 
-/// Whether each of the sizes lies in a tablet.
+/// Returns true if the place of each size is in a tablet.
 fn are_in_tablets(tablets: &[Tablet], sizes: &[Size]) -> bool
     ensures { result ≡ list_all (λ s. is_in_one tablets.now s.table s.place) sizes.now }
 {
     sizes.iter().all(|size| is_in_one(tablets, size))
 }
 
-/// Whether a size doesn't come after another.
+/// Returns true if the place of the size comes before that of the other, or is the same.
 fn is_up_to(size: &Size, other: &Size) -> bool
     ensures { result ≡ is_up_to size.now.table size.now.place other.now.table other.now.place }
 {
     size.table < other.table || (size.table == other.table && size.place <= other.place)
 }
 
-/// Whether the sizes are sorted by table, then by place.
+/// Returns true if the sizes are sorted by table, then by place.
 fn are_in_order(sizes: &[Size]) -> bool
     ensures { result ≡ are_in_order sizes.now }
 {
@@ -49,7 +49,7 @@ fn are_in_order(sizes: &[Size]) -> bool
     true
 }
 
-/// Whether the sizes are sorted, and each lies in a tablet.
+/// Returns true if the sizes are sorted, and the place of each is in a tablet.
 pub(crate) fn are_sizes(tablets: &[Tablet], sizes: &[Size]) -> bool
     ensures { result ≡ are_sizes tablets.now sizes.now }
 {

@@ -8,7 +8,8 @@ use crate::part::{Part, partition_at};
 use entry::{Key, KeyRef, place};
 use std::marker::Model;
 
-/// Which partition each place goes to. A contract sees the parts as a list, by table, then by place.
+/// A will: its parts say which partition each place goes to. A contract sees the parts as a list, sorted by table, then
+/// by place.
 #[derive(Drop)]
 pub struct Will {
     parts: Vec<Part>,
@@ -27,7 +28,7 @@ impl Model for Will {
 }
 
 impl Will {
-    /// A will of these parts. It takes no memory.
+    /// Makes a will of these parts. The call takes no memory.
     pub(crate) fn new(parts: Vec<Part>) -> Will
         requires { AreParts parts.items }
         ensures { result ≡ parts.items }
@@ -35,7 +36,7 @@ impl Will {
         Will { parts }
     }
 
-    /// The partition of a key's place; None if it is in no part. It takes no memory.
+    /// Returns the partition of a key's place, or None if the place is in no part. The call takes no memory.
     pub fn partition_of(&self, key: &Key) -> Option<u32>
         ensures partition { result ≡ partition_of_key self.now key.now }
         ensures within { IfSome result (λ n. n < partitions_of self.now) }
@@ -43,7 +44,7 @@ impl Will {
         partition_at(self.parts.as_slice(), key.table, place(key))
     }
 
-    /// The partition of a key that lies elsewhere. It takes no memory.
+    /// Does the same as `partition_of` for a borrowed key.
     pub fn partition_of_ref(&self, key: &KeyRef<'_>) -> Option<u32>
         ensures partition { result ≡ partition_of_key self.now (shown_key key.now) }
         ensures within { IfSome result (λ n. n < partitions_of self.now) }
@@ -51,7 +52,7 @@ impl Will {
         partition_at(self.parts.as_slice(), key.table, key.place())
     }
 
-    /// How many partitions there are, 1 to 4,294,967,295. They have the numbers from 0 on.
+    /// Returns how many partitions there are, 1 to 4,294,967,295. They are numbered from 0.
     pub fn partitions(&self) -> u32
         ensures count { result ≡ partitions_of self.now }
         ensures valid { AreParts self.now }
@@ -60,7 +61,7 @@ impl Will {
         parts[parts.len() - 1].partition + 1
     }
 
-    /// The parts, by table, then by place.
+    /// Returns the parts, sorted by table, then by place.
     pub fn parts(&self) -> &[Part]
         ensures parts { result.now ≡ self.now }
         ensures valid { AreParts self.now }
