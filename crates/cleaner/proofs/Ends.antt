@@ -1,4 +1,4 @@
--- The places that a pass has before it.
+-- The places that a pass still has to treat.
 use Rattle.std.proofs.Common.{◌≡◌, ℕ, ◌+◌, ◌≤◌, true, List, [], ◌∷◌, length, drop, refl, sym, ap, subst, inl, inr}
 use Rattle.std.proofs.Common.{arith}
 use Rattle.std.specs.Prelude.{◌↔◌, Option, IsSome, unwrap_or}

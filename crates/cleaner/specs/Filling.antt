@@ -5,23 +5,23 @@ use Rattle.cleaner.specs.declared.level.Level.{Level}
 
 -- ---- filling
 
--- before the first entry: the first survivor has its header
+-- the level before the first entry: the first survivor has its header alone, of 18 bytes
 abbrev pub first_level : Level
 first_level = record { survivor = 0; len = 18 }
 
--- one entry more in the survivor that is filled
+-- the level after an entry of n bytes went to the survivor that is filled
 abbrev pub behind : Level → ℕ → Level
 behind a n = record { survivor = a.survivor; len = a.len + n }
 
--- one entry in the next survivor, behind its header
+-- the level after an entry of n bytes went behind the header of the next survivor
 abbrev pub beginning : Level → ℕ → Level
 beginning a n = record { survivor = suc a.survivor; len = 18 + n }
 
--- one entry more; one that doesn't fit the segment begins the next survivor
+-- the level after one more entry; an entry that doesn't fit the survivor begins the next one
 abbrev pub filled_one : ℕ → Level → ℕ → Level
 filled_one segment a n = if nat_le (a.len + n) segment then behind a n else beginning a n
 
--- entries of these lengths more, in order
+-- the level after more entries of these lengths, in order
 abbrev pub filled : ℕ → Level → List ℕ → Level
 filled segment a [] = a
 filled segment a (n ∷ ns) = filled segment (filled_one segment a n) ns
@@ -39,20 +39,20 @@ EachFits segment ns = AllByRecursion (λ (n : ℕ). 18 + n ≤ segment) ns
 
 -- ---- fewer entries
 
--- the first are some of the second, in their order
+-- the first list has some of the numbers of the second, in their order
 abbrev pub AreSome : List ℕ → List ℕ → Type 0
 AreSome [] ns = Unit {0}
 AreSome (k ∷ ks) [] = ⊥
 AreSome (k ∷ ks) (n ∷ ns) = ((k ≡ n) × AreSome ks ns) ⊎ AreSome (k ∷ ks) ns
 
--- the first filling is no further than the second
+-- the first level is no further than the second
 abbrev pub IsNoFurther : Level → Level → Type 0
 IsNoFurther a b = (a.survivor < b.survivor) ⊎ ((a.survivor ≡ b.survivor) × (a.len ≤ b.len))
 
 -- ---- rooms
 
--- What a pass with so many survivors needs: entries of these lengths, which are to come if none of them dies, fill no
--- more survivors than there are, and each has room where it comes to.
+-- What a pass with `count` survivors needs, if entries of these lengths are still to come. If none of them dies, they
+-- fill no more survivors than there are. Each fits a segment behind a header.
 pub record HasRooms (segment count : ℕ) (a : Level) (ns : List ℕ) : Type 0 where
   pub within : a.len ≤ segment
   pub header : 18 ≤ a.len

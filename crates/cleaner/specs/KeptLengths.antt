@@ -26,7 +26,7 @@ kept_lengths ids held images [] = []
 kept_lengths ids held images (p ∷ ps) =
     lengths_at ids held p (standing_at p.at (text_of (images p.segment))) ++ kept_lengths ids held images ps
 
--- how many survivors a pass over these victims has
+-- how many survivors the kept entries of these victims fill
 abbrev pub survivors_over : ℕ → List ℕ → Places → (ℕ → List Entry) → List ℕ → ℕ
 survivors_over segment ids held images victims =
     survivors_for segment (kept_lengths ids held images (places_of images victims))
@@ -36,13 +36,13 @@ abbrev pub segment_lengths : List ℕ → Places → ℕ → List Entry → List
 segment_lengths ids held s es =
     map (λ (e : Entry). length (spelling e)) (filter is_data (kept_of ids held s es))
 
--- the bytes of some segments
+-- how many bytes some segments have together
 abbrev pub bytes_in : (ℕ → List Entry) → List ℕ → ℕ
 bytes_in images ids = sum_by (λ (s : ℕ). length (text_of (images s))) ids
 
 -- ---- a pass as it goes on
 
--- the lengths of what a pass has still to copy, if none of it dies
+-- the lengths of the entries that a pass still has to copy, if none of them dies
 abbrev pub lengths_left : List ℕ → Pass → List Image → Places → List ℕ
 lengths_left ids p images held = kept_lengths ids held (images_in images) (rest_of (images_in images) p)
 
@@ -51,7 +51,7 @@ abbrev pub AreBlank : Pass → List Image → Type 0
 AreBlank p images = (i : ℕ) → p.filling < i → i < p.survivors.count
     → length (text_of (images_in images (p.survivors.first + i))) ≡ 18
 
--- What a pass has still to copy has room in its survivors.
+-- The survivors have room for what the pass still has to copy.
 pub record HasRoomsIn (segment : ℕ) (ids : List ℕ) (p : Pass) (images : List Image) (held : Places) : Type 0 where
   pub rooms : HasRooms segment p.survivors.count (level_of p images) (lengths_left ids p images held)
   pub blank : AreBlank p images

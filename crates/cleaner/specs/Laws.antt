@@ -22,22 +22,23 @@ use Rattle.cleaner.specs.Seals.{first_lacking}
 
 -- ---- the places of a pass
 
--- the images are the same at each of these segments
+-- each of these segments has the same entries in both images
 abbrev pub AreSameAt : (ℕ → List Entry) → (ℕ → List Entry) → List ℕ → Type 0
 AreSameAt images again ids = (s : ℕ) → IsAmong s ids → again s ≡ images s
 
--- Images that are the same at the victims give a pass the same places.
+-- If the images of the victims are the same, a pass still has the same places to treat.
 abbrev pub RestsAgree : Type 0
 RestsAgree = (images again : ℕ → List Entry) (p : Pass) → AreSameAt images again p.victims
     → rest_of again p ≡ rest_of images p
 
--- The cursor is at an object or a tombstone of those images too.
+-- If the images of the victims are the same, what the cursor read ahead is right for both.
 abbrev pub CursorsAgree : Type 0
 CursorsAgree = (seed : List ℕ) (images again : ℕ → List Entry) (p : Pass) → AreSameAt images again p.victims
     → IsCursorAt seed images (drop p.cursor.victim p.victims) p.cursor
     → IsCursorAt seed again (drop p.cursor.victim p.victims) p.cursor
 
--- A pass over images stays one over others that have the same victims, if its survivors are there and whole.
+-- A pass over images is also a pass over other images, and has the same places to treat, if the victims are the same
+-- there and the survivors are whole.
 abbrev pub PassesAgree : Type 0
 PassesAgree = (seed : List ℕ) (images again : List Image) (p : Pass) → IsPass seed images p
     → ((s : ℕ) → IsAmong s p.victims → segment_of again s ≡ segment_of images s)
@@ -49,12 +50,12 @@ abbrev pub EndHasNoRest : Type 0
 EndHasNoRest = (seed : List ℕ) (images : List Image) (p : Pass) → IsPass seed images p
     → (is_at_end p ≡ true) ↔ (rest_of (images_in images) p ≡ [])
 
--- The places that are left are of victims.
+-- The places that are left are in victims.
 abbrev pub RestIsOfVictims : Type 0
 RestIsOfVictims = (images : ℕ → List Entry) (p : Pass) (place : Place) → IsAmong place (rest_of images p)
     → IsAmong place.segment p.victims
 
--- The ids of the log set stay.
+-- A step of a pass doesn't change the ids of the log set.
 abbrev pub CopyKeepsIds : Type 0
 CopyKeepsIds = (segment : ℕ) (ids : List ℕ) (p q : Pass) (images images_after : List Image) (held held_after : Places)
     (copied : Copied) (head : ℕ) (new : Option ℕ)
@@ -71,10 +72,11 @@ FewerFillNoMore = (segment : ℕ) (ks ns : List ℕ) → AreSome ks ns → survi
 abbrev pub OneIfAllFit : Type 0
 OneIfAllFit = (segment : ℕ) (ns : List ℕ) → 18 ≤ segment → (survivors_for segment ns ≡ 1) ↔ (18 + total ns ≤ segment)
 
--- Entries more fill no fewer survivors; those of one segment fill at most one more.
+-- More entries fill no fewer survivors.
 abbrev pub MoreFillNoFewer : Type 0
 MoreFillNoFewer = (segment : ℕ) (ns ks : List ℕ) → survivors_for segment ns ≤ survivors_for segment (ns ++ ks)
 
+-- More entries that fit one segment behind a header fill at most one more survivor.
 abbrev pub SegmentFillsOneMore : Type 0
 SegmentFillsOneMore = (segment : ℕ) (ns ks : List ℕ) → 18 + total ks ≤ segment
     → survivors_for segment (ns ++ ks) ≤ suc (survivors_for segment ns)
@@ -84,7 +86,8 @@ abbrev pub hundreds : ℕ → List ℕ
 hundreds zero = []
 hundreds (suc n) = 100 ∷ hundreds n
 
--- Segments of 512 bytes: four such entries fill one survivor, eight two, sixteen four, and twenty five.
+-- In segments of 512 bytes, 4 such entries fill one survivor, 8 fill two, 9 three, 16 four, and 20 five. No entries
+-- fill one.
 abbrev pub HundredsFill : Type 0
 HundredsFill = (survivors_for 512 (hundreds 4) ≡ 1) × (survivors_for 512 (hundreds 8) ≡ 2)
     × (survivors_for 512 (hundreds 9) ≡ 3) × (survivors_for 512 (hundreds 16) ≡ 4)
@@ -102,8 +105,8 @@ abbrev pub SegmentFits : Type 0
 SegmentFits = (segment : ℕ) (ids : List ℕ) (held : Places) (s : ℕ) (es : List Entry) → IsSegment es
     → length (text_of es) ≤ segment → 18 + total (segment_lengths ids held s es) ≤ segment
 
--- A pass that begins with as many survivors as what its victims keep fills, or more, has rooms: each survivor has its
--- header alone.
+-- A pass begins with room for all that its victims keep, if it has at least as many survivors as the kept entries
+-- fill, and if each survivor has its header alone.
 abbrev pub BeginHasRoomsIn : Type 0
 BeginHasRoomsIn = (segment : ℕ) (ids : List ℕ) (p : Pass) (images : List Image) (held : Places) → 18 ≤ segment
     → p.filling ≡ 0 → rest_of (images_in images) p ≡ places_of (images_in images) p.victims
@@ -113,7 +116,7 @@ BeginHasRoomsIn = (segment : ℕ) (ids : List ℕ) (p : Pass) (images : List Ima
     → ((s : ℕ) → IsAmong s (survivor_ids p.survivors) → length (text_of (images_in images s)) ≡ 18)
     → HasRoomsIn segment ids p images held
 
--- Rooms stay once an entry is treated.
+-- After a step of a pass the survivors have room for what is still to be copied.
 abbrev pub CopyLeavesRooms : Type 0
 CopyLeavesRooms = (segment : ℕ) (ids : List ℕ) (p q : Pass) (images images_after : List Image)
     (held held_after : Places) (copied : Copied) → IsPass held.seed images p
@@ -125,14 +128,14 @@ abbrev pub KeepsNoMore : List ℕ → List ℕ → Places → Places → (ℕ �
 KeepsNoMore ids again held later images places = (p : Place) (e : Entry) → IsAmong p places
     → standing_at p.at (text_of (images p.segment)) ≡ Some e → kept again later p e ≡ true → kept ids held p e ≡ true
 
--- If it was, victims that are as before fill no more survivors.
+-- If no more is kept than before, victims that didn't change fill no more survivors than before.
 abbrev pub SurvivorsDoNotGrow : Type 0
 SurvivorsDoNotGrow = (segment : ℕ) (ids again : List ℕ) (held later : Places) (images after : ℕ → List Entry)
     (victims : List ℕ) → AreSameAt images after victims
     → KeepsNoMore ids again held later images (places_of images victims)
     → survivors_over segment again later after victims ≤ survivors_over segment ids held images victims
 
--- And rooms stay, where victims and survivors are as before.
+-- If no more is kept than before, and victims and survivors didn't change, the survivors still have room.
 abbrev pub RoomsStay : Type 0
 RoomsStay = (segment : ℕ) (ids again : List ℕ) (p : Pass) (images after : List Image) (held later : Places)
     → AreSameAt (images_in images) (images_in after) p.victims
@@ -142,25 +145,25 @@ RoomsStay = (segment : ℕ) (ids again : List ℕ) (p : Pass) (images after : Li
 
 -- ---- seals
 
--- The first that lacks a replica is one of these segments, and this is how many it has.
+-- The first segment that lacks replicas is one of these, and the number that comes with it is how many it has.
 abbrev pub LackingIsOne : Type 0
 LackingIsOne = (replicas : ℕ) (images : List Image) (ids : List ℕ) (s n : ℕ)
     → first_lacking replicas images ids ≡ Some (s, n)
     → IsAmong s ids × (n ≡ replicas_of images s) × (n < replicas)
 
--- There is none exactly if each of them has as many.
+-- No segment lacks replicas exactly if each has at least that many.
 abbrev pub NoneIsLacking : Type 0
 NoneIsLacking = (replicas : ℕ) (images : List Image) (ids : List ℕ)
     → (first_lacking replicas images ids ≡ None)
     ↔ ((s : ℕ) → IsAmong s ids → replicas ≤ replicas_of images s)
 
--- A segment that has an image gets one replica more, and no other does.
+-- A seal gives one more replica to a segment that has an image, and changes no other segment's replicas.
 abbrev pub SealAddsOne : Type 0
 SealAddsOne = (images : List Image) (s other : ℕ) → IsSome (image_of images s)
     → replicas_of (changed images s more_replicas) other
     ≡ (if other == s then suc (replicas_of images s) else replicas_of images other)
 
--- A step of a pass leaves each segment the replicas that it has.
+-- A step of a pass changes no segment's replicas.
 abbrev pub CopyKeepsReplicas : Type 0
 CopyKeepsReplicas = (segment : ℕ) (ids : List ℕ) (p q : Pass) (images images_after : List Image)
     (held held_after : Places) (copied : Copied)

@@ -1,4 +1,4 @@
--- A pass over victims: the places that it has before it, and what it does at one of them.
+-- A pass over victims: the places that it still has to treat, and what it does at one of them.
 use Rattle.std.specs.Prelude.{◌≡◌, ℕ, ◌+◌, ◌^◌, ◌≤◌, ◌<◌, ◌==◌, Bool, true, false, ◌&&◌, if◌then◌else◌, nat_le}
 use Rattle.std.specs.Prelude.{List, [], ◌∷◌, ◌++◌, length, map, drop, filter, Option, Some, None, IsSome, is_none, unwrap_or}
 use Rattle.std.specs.List.{AllByRecursion, range_with_len}
@@ -30,7 +30,7 @@ use Rattle.cleaner.specs.Seals.{first_lacking}
 
 -- ---- images
 
--- the entries of a segment among some images; none if it isn't there
+-- the entries of a segment among some images; none if it has no image
 abbrev pub images_in : List Image → ℕ → List Entry
 images_in images s = unwrap_or (segment_of images s) []
 
@@ -44,11 +44,11 @@ AreVictims images survivor ids = AllByRecursion (λ (s : ℕ). IsSome (segment_o
 
 -- ---- survivors
 
--- the ids of survivors follow one another
+-- the ids of the survivors, which follow one another
 abbrev pub survivor_ids : Survivors → List ℕ
 survivor_ids s = range_with_len s.first s.count
 
--- each is a segment's number
+-- each survivor's id is at most 2^62
 abbrev pub AreIds : Survivors → Type 0
 AreIds s = s.first + s.count ≤ 2 ^ 62 + 1
 
@@ -61,23 +61,23 @@ places_from segment at (e ∷ es) =
     let later = places_from segment (at + length (spelling e)) es in
     if is_data e then record { segment = segment; at = at } ∷ later else later
 
--- those from an offset of a segment on
+-- the places of a segment's objects and tombstones from an offset on
 abbrev pub places_past : ℕ → ℕ → List Entry → List Place
 places_past segment at es = filter (λ (p : Place). nat_le at p.at) (places_from segment 0 es)
 
--- those of some segments, in order
+-- the places of the objects and tombstones of some segments, in order
 abbrev pub places_of : (ℕ → List Entry) → List ℕ → List Place
 places_of images [] = []
 places_of images (s ∷ ids) = places_from s 0 (images s) ++ places_of images ids
 
--- those of the first segment from an offset on, and of the others
+-- the places of the first segment from an offset on, and the places of the other segments
 abbrev pub places_on : (ℕ → List Entry) → List ℕ → ℕ → List Place
 places_on images [] at = []
 places_on images (s ∷ ids) at = places_past s at (images s) ++ places_of images ids
 
 -- ---- a pass
 
--- the places that a pass has before it
+-- the places that a pass still has to treat, in order
 abbrev pub rest_of : (ℕ → List Entry) → Pass → List Place
 rest_of images p = places_on images (drop p.cursor.victim p.victims) p.cursor.at
 
@@ -88,7 +88,7 @@ is_at_end p = p.cursor.victim == length p.victims
 abbrev pub is_ready : ℕ → List Image → Pass → Bool
 is_ready replicas images p = is_at_end p && is_none (first_lacking replicas images (survivor_ids p.survivors))
 
--- the survivor that is sealed next, and which of its replicas; none before all is copied, nor once all is sealed
+-- the survivor that is sealed next, and how many replicas it has; none before all is copied, nor once all is sealed
 abbrev pub next_seal : ℕ → List Image → Pass → Option (ℕ × ℕ)
 next_seal replicas images p =
     if is_at_end p then first_lacking replicas images (survivor_ids p.survivors) else None
@@ -109,7 +109,7 @@ seen_of seed (entry.Safe version) = None
 seen_of seed (entry.Object o) = Some (seen.Object (hash_of seed o.key) (length (spelling (entry.Object o))))
 seen_of seed (entry.Tombstone t) = Some (seen.Tombstone t.segment (length (spelling (entry.Tombstone t))))
 
--- its length
+-- the length of the entry
 abbrev pub seen_len : Seen → ℕ
 seen_len (seen.Object hash len) = len
 seen_len (seen.Tombstone segment len) = len
@@ -122,22 +122,22 @@ pub record IsSeenAt (seed : List ℕ) (es : List Entry) (at : ℕ) (x : Seen) : 
   pub shows : seen_of seed entry ≡ Some x
   pub limit : at + seen_len x ≤ 8388608
 
--- the same of entries from an offset on, one after another
+-- entries stand one after another from the offset on, and this is what is remembered of them
 abbrev pub AreSeenFrom : List ℕ → List Entry → ℕ → List Seen → Type 0
 AreSeenFrom seed es at [] = Unit {0}
 AreSeenFrom seed es at (x ∷ xs) = IsSeenAt seed es at x × AreSeenFrom seed es (at + seen_len x) xs
 
--- at least one was read
+-- the same, of at least one entry
 abbrev pub IsAhead : List ℕ → List Entry → ℕ → List Seen → Type 0
 IsAhead seed es at [] = ⊥
 IsAhead seed es at (x ∷ xs) = AreSeenFrom seed es at (x ∷ xs)
 
--- What the cursor read ahead begins at its place in the first of these segments, or there is no segment.
+-- What the cursor read ahead begins at its offset in the first of these segments, or there is no segment.
 abbrev pub IsCursorAt : List ℕ → (ℕ → List Entry) → List ℕ → Cursor → Type 0
 IsCursorAt seed images [] cursor = Unit {0}
 IsCursorAt seed images (s ∷ ids) cursor = IsAhead seed (images s) cursor.at cursor.ahead
 
--- What holds of an open pass and the images, for an index whose hashes have this seed.
+-- What is true of an open pass and the images, for an index whose hashes have this seed.
 pub record IsPass (seed : List ℕ) (images : List Image) (p : Pass) : Type 0 where
   pub victims : AreVictims images p.survivors.first p.victims
   pub whole : AllByRecursion (IsWhole images) (survivor_ids p.survivors)
@@ -161,20 +161,20 @@ abbrev pub filling_with : Bool → ℕ → Level → Entry → ℕ
 filling_with is_kept segment a e =
     if is_kept then (filled_one segment a (length (spelling e))).survivor else a.survivor
 
--- the place of the next copy: behind what the survivor has
+-- the place of the next copy: the end of the survivor's image
 abbrev pub copy_place : ℕ → List Image → Place
 copy_place survivor images = record { segment = survivor; at = len_at images survivor }
 
--- the survivor then ends with the entry, if that is kept
+-- the images after an entry: if it is kept, the survivor ends with it
 abbrev pub images_with : Bool → ℕ → Entry → List Image → List Image
 images_with is_kept survivor e images = if is_kept then changed images survivor (with_unit (e ∷ [])) else images
 
--- an object that is kept is then held where its copy lies
+-- what the index holds after an entry: it holds a kept object where the copy lies
 abbrev pub held_with : Bool → Place → Place → Entry → Places → Places
 held_with is_kept p to e held = if is_kept then moved_one p to e held else held
 
--- The entry at the next place that the pass has before it is treated. If it is kept, it goes behind what the survivor
--- that is filled has, or, where it doesn't fit, behind the header of the next one.
+-- The pass treats the entry at its next place. A kept entry goes to the end of the survivor that is filled. If it
+-- doesn't fit there, it goes to the next survivor.
 pub record CopiesOne (segment : ℕ) (ids : List ℕ) (p : Pass) (images : List Image) (held : Places) (copied : Copied)
     (q : Pass) (images_after : List Image) (held_after : Places) : Type 0 where
   pub place : Place

@@ -3,7 +3,7 @@ use Rattle.std.specs.Prelude.{ℕ, nat_lt, if◌then◌else◌, List, [], ◌∷
 use Rattle.images.specs.Image.{Image}
 use Rattle.images.specs.Sorted.{replicas_of}
 
--- the first of these segments that has fewer replicas than that many: its id, and how many it has
+-- the first of these segments that has fewer than `replicas` replicas: its id, and how many it has
 abbrev pub first_lacking : ℕ → List Image → List ℕ → Option (ℕ × ℕ)
 first_lacking replicas images [] = None
 first_lacking replicas images (s ∷ ids) =

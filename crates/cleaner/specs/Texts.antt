@@ -1,4 +1,4 @@
--- The name of each fault and its number, in decimal digits.
+-- The text of each fault: its name, followed by the segment's id in decimal digits if the fault names a segment.
 use Rattle.std.specs.Prelude.{ℕ, List, ◌++◌, codes}
 use Rattle.std.specs.Fmt.{decimal}
 use Rattle.cleaner.specs.declared.fault.PassFault.{PassFault}

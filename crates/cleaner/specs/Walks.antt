@@ -1,4 +1,4 @@
--- How a cursor goes on, and what a pass finds at its place.
+-- How a cursor moves on, and what a pass finds at its next place.
 use Rattle.std.specs.Prelude.{◌≡◌, ℕ, suc, ◌+◌, ◌<◌, ◌≤◌, ◌⊎◌, Bool, true, false, if◌then◌else◌, List, [], ◌∷◌, ◌++◌, length, drop, Option, Some, None}
 use Rattle.entry.specs.declared.entry.Entry.{Entry}
 use Rattle.entry.specs.declared.entry.Entry.TheVariants as entry
@@ -31,7 +31,7 @@ pub record IsBetween (es : List Entry) (at : ℕ) : Type 0 where
   pub split : es ≡ before ++ rest
   pub offset : at ≡ length (text_of before)
 
--- the same of the first of these segments, if there is one
+-- an entry begins at the offset of the first of these segments, or its entries end there, or there is no segment
 abbrev pub IsPositionBetween : (ℕ → List Entry) → List ℕ → ℕ → Type 0
 IsPositionBetween images [] at = Unit {0}
 IsPositionBetween images (s ∷ ids) at = IsBetween (images s) at
@@ -40,24 +40,24 @@ IsPositionBetween images (s ∷ ids) at = IsBetween (images s) at
 abbrev pub IsAtData : List Entry → ℕ → Type 0
 IsAtData es at = (e : Entry) × LiesAt es at e × (is_data e ≡ true)
 
--- it stands there in the first of these segments, or there is no segment
+-- an object or a tombstone stands at the offset of the first of these segments, or there is no segment
 abbrev pub IsSpotAt : (ℕ → List Entry) → List ℕ → ℕ → Type 0
 IsSpotAt images [] at = Unit {0}
 IsSpotAt images (s ∷ ids) at = IsAtData (images s) at
 
--- the first object or tombstone from an offset on is at the found one, or there is none
+-- the offset that was found has the first object or tombstone from an offset on; if none was found, there is none
 abbrev pub FindsData : List Entry → ℕ → Option ℕ → Type 0
 FindsData es at None = (s : ℕ) → places_past s at es ≡ []
 FindsData es at (Some n) = IsAtData es n × ((s : ℕ) → places_past s n es ≡ places_past s at es)
 
--- A position is behind no victim but the last, at an object or tombstone if not there, and has the places before it
--- that another one has.
+-- The position `to` is at an object or tombstone, or behind the last victim. The places from `to` on are those from
+-- `from` on.
 pub record GoesOn (images : ℕ → List Entry) (victims : List ℕ) (from to : WalkPosition) : Type 0 where
   pub within : to.victim ≤ length victims
   pub rest : places_on images (drop to.victim victims) to.at ≡ places_on images (drop from.victim victims) from.at
   pub position : IsSpotAt images (drop to.victim victims) to.at
 
--- The same of a cursor, which has read ahead there.
+-- The same is true of a cursor, which has also read ahead at its position.
 pub record GoesTo (seed : List ℕ) (images : ℕ → List Entry) (victims : List ℕ) (from : WalkPosition) (to : Cursor)
     : Type 0 where
   pub within : to.victim ≤ length victims
@@ -71,14 +71,14 @@ abbrev pub is_seen_kept : List ℕ → Places → Place → Seen → Bool
 is_seen_kept ids held p (seen.Object hash len) = holds held (record { hash = hash; place = p })
 is_seen_kept ids held p (seen.Tombstone segment len) = has_id ids segment
 
--- the lengths of those that are kept of such entries, which follow one another from an offset on
+-- the lengths of the kept ones among entries that follow one another from an offset on
 abbrev pub seen_lengths : List ℕ → Places → ℕ → ℕ → List Seen → List ℕ
 seen_lengths ids held s at [] = []
 seen_lengths ids held s at (x ∷ xs) =
     let later = seen_lengths ids held s (at + seen_len x) xs in
     if is_seen_kept ids held (record { segment = s; at = at }) x then seen_len x ∷ later else later
 
--- it is no longer than a segment may be
+-- the entry is no longer than a segment may be
 abbrev pub IsShort : Seen → Type 0
 IsShort x = seen_len x ≤ 8388608
 
@@ -100,11 +100,11 @@ pub record IsSeen (images : ℕ → List Entry) (p : Place) (len : ℕ) (e : Ent
   pub of_data : is_data e ≡ true
   pub size : len ≡ length (spelling e)
 
--- this becomes of the object or tombstone at the place
+-- the fate is what becomes of the object or tombstone at the place
 abbrev pub HasFate : List ℕ → Places → (ℕ → List Entry) → Place → Fate → ℕ → Type 0
 HasFate ids held images p f len = (e : Entry) × IsSeen images p len e × (f ≡ fate_by held (kept ids held p e) p e)
 
--- The survivor that is filled has room for so many bytes more, or there is a next one, which has.
+-- The survivor that is filled has room for n more bytes, or there is a next survivor that has.
 abbrev pub HasPlace : ℕ → Survivors → ℕ → List Image → ℕ → Type 0
 HasPlace segment s filling images n =
     (filling < s.count) × ((len_at images (s.first + filling) + n ≤ segment)

@@ -11,7 +11,7 @@ use hash_index::Index;
 use segment::SegmentRef;
 use std::marker::Model;
 
-/// How many entries a pass reads ahead.
+/// A pass reads at most this many entries ahead.
 const AHEAD: usize = 16;
 
 /// What a pass remembers of an object or a tombstone that it read.
@@ -30,7 +30,7 @@ impl Default for Seen {
 }
 
 impl Seen {
-    /// Its length in bytes.
+    /// Returns the length of the entry in bytes.
     #[inline(always)]
     pub(crate) fn len(self) -> usize
         ensures { result ≡ seen_len self }
@@ -65,7 +65,8 @@ impl Model for Ahead {
     ghost invariant = { λ a. a.treated ≤ length a.seen.items };
 }
 
-/// What stands at an offset of a segment, if it is an object or a tombstone.
+/// Returns what a pass remembers of the entry at an offset of a segment; `None` if no object or tombstone stands
+/// there.
 #[inline(always)]
 fn seen_at(segment: &SegmentRef<'_>, at: usize, index: &Index) -> Option<Seen>
     requires { IsBetween segment.now at }
@@ -86,8 +87,8 @@ fn seen_at(segment: &SegmentRef<'_>, at: usize, index: &Index) -> Option<Seen>
     }
 }
 
-/// The objects and tombstones of a segment from an offset on, as many as are read ahead. The answer is the offset behind
-/// them.
+/// Reads the objects and tombstones of a segment from an offset on, at most 16 of them, and stops at any other entry.
+/// Returns the offset behind the last one.
 pub(crate) fn gather(
     segment: &SegmentRef<'_>,
     from: usize,
@@ -112,7 +113,7 @@ pub(crate) fn gather(
 }
 
 impl Ahead {
-    /// Nothing is read yet. The first `near` victims are still in cache.
+    /// Makes an `Ahead` without entries. The first `near` victims are still in cache.
     pub(crate) fn new(near: usize) -> Ahead
         ensures { result ≡ [] }
     {
@@ -124,7 +125,7 @@ impl Ahead {
         }
     }
 
-    /// The next entry.
+    /// Returns the next entry; `None` if no entry that was read is left.
     #[inline(always)]
     pub(crate) fn first(&self) -> Option<Seen>
         ensures { result ≡ slice_get self.now 0 }
@@ -132,7 +133,7 @@ impl Ahead {
         self.seen.as_slice().get(self.treated).copied()
     }
 
-    /// The next entry is treated. The answer is whether more of them were read.
+    /// Counts the next entry as treated; returns true if more entries were read.
     #[inline(always)]
     pub(crate) fn pass(&mut self) -> bool
         requires { 0 < length self.old }
@@ -144,7 +145,8 @@ impl Ahead {
         self.treated < read
     }
 
-    /// Reads on in a segment, at an object or tombstone.
+    /// Reads entries ahead from an offset of a segment, where an object or tombstone stands. Those read before are
+    /// forgotten.
     pub(crate) fn read(&mut self, segment: &SegmentRef<'_>, from: usize, index: &Index)
         requires { IsAtData segment.now from }
         ensures { IsAhead index.now.held.seed segment.now from self.new }
@@ -155,7 +157,7 @@ impl Ahead {
         self.treated = 0;
     }
 
-    /// Prefetches what the index has for the objects, except in a victim that is still in cache.
+    /// Prefetches what the index has for the objects that were read. Does nothing for a victim that is still in cache.
     pub(crate) fn touch(&mut self, victim: usize, index: &Index)
         ensures { self.new ≡ self.old }
     {

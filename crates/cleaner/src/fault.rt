@@ -6,7 +6,7 @@ ghost use Rattle.cleaner.specs.Texts.{pass_fault_text};
 use std::error::Error;
 use std::fmt;
 
-/// Why a pass doesn't begin with some segments, or why one isn't compacted. The numbers are fixed.
+/// Why a pass doesn't begin with some segments, or why a segment isn't compacted. The numbers are fixed.
 #[derive(Clone, Copy, Debug, PartialEq, Eq)]
 pub enum PassFault {
     /// 1: this segment isn't in the digest in force.

@@ -1,4 +1,4 @@
-//! What is kept of a segment fills survivors.
+//! How the kept entries of a segment fill survivors.
 
 ghost use Rattle.std.specs.Prelude.{◌≡◌, ◌+◌, ◌-◌, ◌≤◌, ◌<◌, ◌^◌, length, sum_by, true};
 ghost use Rattle.std.specs.List.{AllByRecursion};
@@ -16,8 +16,7 @@ use compactor::LogSet;
 use hash_index::{Held, Index, Place};
 use segment::SegmentRef;
 
-/// Whether the object or tombstone at a place is kept. `is_first` says that the index holds an object nearest to its
-/// hash.
+/// Returns true if the object or tombstone at a place is kept. `is_first` is what `is_kept_first` returned for it.
 fn is_kept(seen: Seen, place: Place, is_first: bool, index: &Index, log: &LogSet<'_>) -> bool
     requires { is_first ≡ true → is_seen_kept (ids_of_log log.now) index.now.held place seen ≡ true }
     ensures { result ≡ is_seen_kept (ids_of_log log.now) index.now.held place seen }
@@ -28,7 +27,7 @@ fn is_kept(seen: Seen, place: Place, is_first: bool, index: &Index, log: &LogSet
     }
 }
 
-/// Whether the index holds the object at a place nearest to its hash.
+/// Returns true if the index finds the object at a place where it looks first (`holds_first`); false for a tombstone.
 fn is_kept_first(seen: Seen, place: Place, index: &Index, log: &LogSet<'_>) -> bool
     ensures { result ≡ true → is_seen_kept (ids_of_log log.now) index.now.held place seen ≡ true }
 {
@@ -38,9 +37,9 @@ fn is_kept_first(seen: Seen, place: Place, index: &Index, log: &LogSet<'_>) -> b
     }
 }
 
-/// Fills survivors with those of a segment's entries that are kept. The entries follow one another, and `end` is the
-/// offset behind the last one. Looks into the bucket of each hash on the way to the first one, where the cache misses
-/// overlap, and at what overflows on the way back.
+/// Returns the level after the kept ones among these entries of a segment. The entries follow one another, and `end`
+/// is the offset behind the last one. Looks into the bucket of each hash before it recurses, so that the cache misses
+/// overlap. Looks further afterwards for the objects that it didn't find there.
 fn fill_seen(
     seen: &[Seen],
     end: usize,
@@ -74,8 +73,8 @@ fn fill_seen(
     }
 }
 
-/// Fills survivors of at most `limit` bytes, from a level on, with the objects and tombstones that are kept of a
-/// segment, in their order.
+/// Returns the level after a segment's kept objects and tombstones, in their order, fill survivors of at most `limit`
+/// bytes from a level on. Copies nothing.
 pub fn fill(
     id: u64,
     segment: &SegmentRef<'_>,

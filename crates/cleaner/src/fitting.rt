@@ -21,19 +21,20 @@ pub const MAX_VICTIMS: usize = 32;
 /// The most survivors of a pass.
 pub const MAX_SURVIVORS: usize = 4;
 
-/// About this many bytes of victims that were just read are still in cache, with what the index holds of them.
+/// If victims have at most this many bytes together, those that were just read count as still in cache, with what the
+/// index holds of them.
 const NEAR: usize = 4_194_304;
 
 /// What a pass over some victims needs.
 #[derive(Clone, Copy)]
 pub struct PassSize {
-    /// How many survivors what is kept of them fills.
+    /// How many survivors the kept entries of the victims fill.
     pub survivors: usize,
     /// How many of the first victims were read and may still be in cache.
     pub near: usize,
 }
 
-/// How many bytes some segments have.
+/// Returns how many bytes some segments have together.
 fn bytes_in(ids: &[u64], images: &Images) -> usize
     requires there { AllByRecursion (λ s. IsSome (segment_of images.now.images s)) ids.now }
     requires few { length ids.now ≤ 32 }
@@ -52,9 +53,9 @@ fn bytes_in(ids: &[u64], images: &Images) -> usize
     segment.bytes().len() + bytes_in(others, images)
 }
 
-/// How many survivors what is kept of at most 32 segments fills, in their order; `None` if they are more than 4. Reads
-/// one segment after the other, and stops once all bytes of the rest fit the survivor that is filled, or a fifth would
-/// begin.
+/// Returns how many survivors the kept entries of at most 32 victims fill, in their order; `None` if they fill more
+/// than 4. Reads the victims one after another. Stops once the survivor that is filled has room for all bytes of the
+/// victims that are left, or once a fifth survivor would begin.
 pub fn fit(
     victims: &[u64],
     images: &Images,

@@ -6,7 +6,8 @@ ghost use Rattle.cleaner.specs.Laws.{LengthsOfSegment, SegmentFits, BeginHasRoom
 ghost use Rattle.cleaner.specs.Laws.{SurvivorsDoNotGrow, RoomsStay};
 ghost use Rattle.cleaner.specs.Laws.{LackingIsOne, NoneIsLacking, SealAddsOne, CopyKeepsReplicas};
 
-/// The places that a pass has before it: whose they are, when there is none, and which images they depend on.
+/// The places that a pass still has to treat: in which segments they are, when none is left, and on which images they
+/// depend.
 pub fn rests_agree()
     ensures rest { RestsAgree }
     ensures cursor { CursorsAgree }
@@ -36,7 +37,7 @@ pub fn rest_fits()
     ensures stay { RoomsStay }
 {}
 
-/// Which segment lacks replicas first, and what a seal and a copy make of them.
+/// Which segment is the first that lacks replicas, and how seals and copies change the replicas that segments have.
 pub fn seals_in_order()
     ensures first { LackingIsOne }
     ensures none { NoneIsLacking }

@@ -15,7 +15,7 @@ pub struct Level {
 }
 
 impl Level {
-    /// Before the first entry: the first survivor has its header.
+    /// Returns the level before the first entry: the first survivor has its header alone.
     pub fn first() -> Level
         ensures { result ≡ first_level }
     {
@@ -25,7 +25,8 @@ impl Level {
         }
     }
 
-    /// With one entry more of so many bytes: if it doesn't fit a segment, it begins the next survivor.
+    /// Returns the level after one more entry of `len` bytes. An entry that doesn't fit the survivor begins the next
+    /// one.
     pub(crate) fn with(self, len: usize, segment: usize) -> Level
         requires survivors { self.survivor < 2 ^ 32 }
         requires bytes { self.len + len < 2 ^ 32 }

@@ -1,10 +1,10 @@
-//! A pass of a cleaner: it copies what is kept of some segments, its victims, to new segments, the survivors.
+//! A pass of a cleaner copies the kept entries of some segments, its victims, to new segments, the survivors.
 //!
-//! The kept entries fill the survivors in order (`specs/Filling.antt`). How many survivors a pass has is counted once,
-//! when it begins (`fit`); they are enough whatever dies before it is copied (`rest_fits`). A pass goes on by one object
-//! or tombstone a step. `specs/Passes.antt` says which places it has before it, and what a step does to the images and
-//! the index. Then its survivors are sealed, one after the other (*next_seal*), until each has all its replicas
-//! (`specs/Seals.antt`). Why a pass is refused is `PassFault`.
+//! The kept entries fill the survivors in order (`specs/Filling.antt`). The survivors are counted once, when the pass
+//! begins (`fit`). They are enough, whatever entries die before they are copied (`rest_fits`). Each step treats one
+//! object or tombstone. `specs/Passes.antt` says which places a pass still has to treat, and what a step does to the
+//! images and the index. Then the survivors are sealed, one after the other (*next_seal*), until each has all its
+//! replicas (`specs/Seals.antt`). `PassFault` says why a pass is refused.
 #![tactic(auto)]
 
 mod ahead;

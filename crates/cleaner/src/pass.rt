@@ -20,7 +20,7 @@ use images::Images;
 /// Where a pass is among its victims.
 #[derive(Drop)]
 pub struct Cursor {
-    /// Which victim, in the order in which they were given. Behind the last one nothing is left.
+    /// Which victim, counted from 0 in the given order. At the end of the pass it is the number of victims.
     pub victim: usize,
     /// The offset in its image, in bytes.
     pub at: usize,
@@ -48,13 +48,14 @@ pub struct Pass {
     pub cursor: Cursor,
     /// The segments to which the kept entries are copied.
     pub survivors: Survivors,
-    /// How many survivors are full: the place of the one that is filled.
+    /// Which survivor is filled, counted from 0. Those before it are full.
     pub filling: usize,
-    /// Whether the roll that is under way is the pass's commit.
+    /// True if the roll that is under way is the commit of the pass.
     pub is_committing: bool,
 }
 
-/// Goes to the first object or tombstone from a position on, or behind the last victim, and reads on there.
+/// Moves the cursor to the first object or tombstone from a position on, and reads ahead there. If there is none, the
+/// cursor goes behind the last victim.
 fn go_to(cursor: &mut Cursor, from: WalkPosition, victims: &[u64], images: &Images, index: &Index)
     requires there { AllByRecursion (λ s. IsSome (segment_of images.now.images s)) victims.now }
     requires within { from.victim ≤ length victims.now }
@@ -72,7 +73,7 @@ fn go_to(cursor: &mut Cursor, from: WalkPosition, victims: &[u64], images: &Imag
     }
 }
 
-/// Goes on behind an object or tombstone of this length, which was treated.
+/// Moves the cursor on from an object or tombstone of this length, which was treated.
 #[inline(always)]
 fn go_on(cursor: &mut Cursor, len: usize, victims: &[u64], images: &Images, index: &Index)
     requires there { AllByRecursion (λ s. IsSome (segment_of images.now.images s)) victims.now }
@@ -97,8 +98,8 @@ fn go_on(cursor: &mut Cursor, len: usize, victims: &[u64], images: &Images, inde
 }
 
 impl Pass {
-    /// Begins a pass over `victims`. The first `near` of them are still in cache, as `fit` reported. What it reads
-    /// ahead is right for `index`, and for any with the same seed. Allocates nothing.
+    /// Begins a pass over `victims`. The first `near` of them are still in cache, as `fit` reported. What the pass
+    /// reads ahead is right for `index`, and for any index with the same seed. Allocates nothing.
     pub fn begin(
         victims: Row<u64>,
         near: usize,
@@ -135,14 +136,15 @@ impl Pass {
         }
     }
 
-    /// Whether each entry of the victims was treated.
+    /// Returns true if each object and tombstone of the victims was treated.
     pub fn is_at_end(&self) -> bool
         ensures { result ≡ is_at_end self.now }
     {
         self.cursor.victim == self.victims.as_slice().len()
     }
 
-    /// Whether the pass may be committed: each entry was treated, and each survivor has that many replicas.
+    /// Returns true if the pass may be committed: each object and tombstone of the victims was treated, and each
+    /// survivor has at least `replicas` replicas.
     pub fn is_ready(&self, replicas: usize, images: &Images) -> bool
         requires { AreIds self.now.survivors }
         ensures { result ≡ is_ready replicas images.now.images self.now }
@@ -150,8 +152,9 @@ impl Pass {
         self.is_at_end() && first_lacking(self.survivors, replicas, images).is_none()
     }
 
-    /// The survivor that is sealed next, and which of its replicas: survivor by survivor, once each entry was treated.
-    /// `None` before, and once each has that many replicas.
+    /// Returns the id of the survivor that is sealed next, and how many replicas it has. Survivors are sealed one
+    /// after the other. Returns `None` before the pass is at its end, and once each survivor has at least `replicas`
+    /// replicas.
     pub fn next_seal(&self, replicas: usize, images: &Images) -> Option<(u64, usize)>
         requires { AreIds self.now.survivors }
         ensures { result ≡ next_seal replicas images.now.images self.now }
@@ -163,9 +166,9 @@ impl Pass {
         }
     }
 
-    /// Treats the next object or tombstone. If it is kept, it is copied to the end of the survivor that is filled, or
-    /// to the next one if it doesn't fit there. The index then leads to the copy of an object. It takes no memory, and
-    /// can't fail.
+    /// Treats the next object or tombstone. A kept entry is copied to the end of the survivor that is filled, or to
+    /// the next survivor if it doesn't fit there. The index then leads to the copy of an object. The call takes no
+    /// memory, and can't fail.
     pub fn copy_one(
         &mut self,
         images: &mut Images,

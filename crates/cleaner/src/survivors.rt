@@ -7,17 +7,17 @@ ghost use Rattle.cleaner.specs.Seals.{first_lacking};
 
 use images::Images;
 
-/// The segments to which a pass copies. Their numbers follow one another.
+/// The segments to which a pass copies. Their ids follow one another.
 #[derive(Clone, Copy)]
 pub struct Survivors {
-    /// The first one's number.
+    /// The id of the first survivor.
     pub first: u64,
-    /// How many there are.
+    /// How many survivors there are.
     pub count: usize,
 }
 
 impl Survivors {
-    /// The number of the survivor at this place, counted from 0.
+    /// Returns the id of a survivor. The first survivor has place 0.
     #[inline(always)]
     pub fn id(self, place: usize) -> u64
         requires ids { AreIds self }
@@ -27,7 +27,7 @@ impl Survivors {
         self.first + place as u64
     }
 
-    /// Whether the segment of this number is one of them.
+    /// Returns true if the segment with this id is a survivor.
     pub fn has(self, id: u64) -> bool
         ensures { result ≡ has_id (survivor_ids self) id }
     {
@@ -35,7 +35,8 @@ impl Survivors {
     }
 }
 
-/// The first of the survivors that has fewer replicas than that many: its number, and how many it has.
+/// Returns the first survivor that has fewer than `replicas` replicas: its id, and how many it has. Returns `None` if
+/// there is none.
 pub(crate) fn first_lacking(
     survivors: Survivors,
     replicas: usize,

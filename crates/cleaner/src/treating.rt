@@ -22,7 +22,7 @@ use compactor::LogSet;
 use hash_index::{Held, Index, Place};
 use images::Images;
 
-/// What becomes of the entry at the place of a pass.
+/// What becomes of the next entry of a pass.
 #[derive(Clone, Copy)]
 pub(crate) enum Fate {
     /// An object that is kept, as the index holds it.
@@ -33,7 +33,7 @@ pub(crate) enum Fate {
     Dead,
 }
 
-/// What becomes of the entry at a place, of which this is known.
+/// Returns what becomes of the entry at a place. `seen` is what the pass remembers of the entry.
 #[inline(always)]
 fn fate_of(seen: Seen, place: Place, index: &Index, log: &LogSet<'_>) -> Fate
     requires { IsSeenAt index.now.held.seed (images_in log.now.closed.now.images place.segment) place.at seen }
@@ -59,8 +59,8 @@ fn fate_of(seen: Seen, place: Place, index: &Index, log: &LogSet<'_>) -> Fate
     }
 }
 
-/// Copies the object or tombstone at a place, of this length, to the end of a survivor's image. The answer is the place
-/// of the copy; `None` exactly if it doesn't fit, and nothing changes.
+/// Copies the object or tombstone at a place, of this length, to the end of a survivor's image. Returns the place of
+/// the copy. If the entry doesn't fit there, returns `None`, and nothing changes.
 fn copy_to(images: &mut Images, place: Place, len: usize, survivor: u64) -> Option<Place>
     requires order { place.segment < survivor }
     requires whole { IsWhole images.old.images survivor }
@@ -86,7 +86,7 @@ fn copy_to(images: &mut Images, place: Place, len: usize, survivor: u64) -> Opti
 }
 
 /// Copies the object or tombstone at a place, of this length, to the survivor that is filled, or to the next one if it
-/// doesn't fit there. One of them has room. The answer is the place of the copy.
+/// doesn't fit there. One of the two has room. Returns the place of the copy.
 fn copy(
     images: &mut Images,
     place: Place,
@@ -118,8 +118,8 @@ fn copy(
     to
 }
 
-/// Treats the object or tombstone at a place, of which this is known: if it is kept, it is copied to the survivor that
-/// is filled then. The answer is what became of it.
+/// Treats the object or tombstone at a place. `seen` is what the pass remembers of it. A kept entry is copied to a
+/// survivor, and the index then leads to the copy of an object. Returns what became of the entry.
 pub(crate) fn treat(
     seen: Seen,
     place: Place,

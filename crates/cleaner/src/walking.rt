@@ -1,4 +1,4 @@
-//! How a cursor goes on.
+//! How a cursor moves to the next object or tombstone.
 
 ghost use Rattle.std.specs.Prelude.{◌≡◌, ◌≤◌, length, drop, IsSome};
 ghost use Rattle.std.specs.List.{AllByRecursion};
@@ -15,20 +15,20 @@ use segment::SegmentRef;
 /// Where a cursor stands.
 #[derive(Clone, Copy)]
 pub(crate) struct WalkPosition {
-    /// Which victim, in the order in which they were given. Behind the last one nothing is left.
+    /// Which victim, counted from 0 in the given order. Behind the last victim it is the number of victims.
     pub victim: usize,
     /// The offset in its image, in bytes.
     pub at: usize,
 }
 
-/// Whether the entry is an object or a tombstone.
+/// Returns true if the entry is an object or a tombstone.
 fn is_data(entry: &EntryRef<'_>) -> bool
     ensures { result ≡ is_data (shown entry.now) }
 {
     matches!(entry, EntryRef::Object(_) | EntryRef::Tombstone(_))
 }
 
-/// The offset of the first object or tombstone of a segment from this offset on.
+/// Returns the offset of the first object or tombstone of a segment from an offset on; `None` if there is none.
 pub(crate) fn next_data(segment: &SegmentRef<'_>, from: usize) -> Option<usize>
     requires { IsBetween segment.now from }
     ensures finds { FindsData segment.now from result }
@@ -49,7 +49,8 @@ pub(crate) fn next_data(segment: &SegmentRef<'_>, from: usize) -> Option<usize>
     None
 }
 
-/// The position of the first object or tombstone from this position on, or behind the last victim.
+/// Returns the position of the first object or tombstone from a position on. If there is none, returns the position
+/// behind the last victim.
 pub(crate) fn next_position(victims: &[u64], images: &Images, from: WalkPosition) -> WalkPosition
     requires there { AllByRecursion (λ s. IsSome (segment_of images.now.images s)) victims.now }
     requires within { from.victim ≤ length victims.now }

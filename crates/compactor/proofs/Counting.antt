@@ -1,4 +1,4 @@
--- What the walk knows that counts the bytes of kept objects and tombstones.
+-- What is true during the walk that counts the bytes of kept objects and tombstones.
 use Rattle.std.proofs.Common.{◌≡◌, ℕ, ◌+◌, ◌≤◌, Bool, true, false, cond, ◌&&◌, List, [], ◌∷◌, ◌++◌, length, refl, sym}
 use Rattle.std.proofs.Common.{ap, ◌∙◌, arith}
 use Rattle.std.specs.Prelude.{filter}

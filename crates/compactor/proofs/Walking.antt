@@ -1,4 +1,5 @@
--- What the two walks over a segment know on their way.
+-- What is true during the two walks over a segment: the one that counts the kept entries, and the one that copies
+-- them.
 use Rattle.std.proofs.Common.{◌≡◌, ℕ, ◌+◌, ◌-◌, ◌<◌, ◌≤◌, Bool, true, false, cond, List, [], ◌∷◌, ◌++◌, length, take}
 use Rattle.std.proofs.Common.{drop, refl, sym, ap, subst, ◌∙◌, arith}
 use Rattle.std.specs.List.{AllByRecursion}

@@ -9,7 +9,7 @@ use Rattle.places.specs.Relocation.{holds}
 use Rattle.compactor.specs.declared.keeping.Asked.{Asked}
 use Rattle.compactor.specs.Kept.{kept}
 
--- what the index is asked for
+-- the hash and the place for which the index is asked
 abbrev pub asked_of : ℕ → Asked → Held
 asked_of id a = record { hash = a.hash; place = record { segment = id; at = a.at } }
 
@@ -18,7 +18,7 @@ abbrev pub asked_bytes : List Asked → ℕ
 asked_bytes [] = 0
 asked_bytes (a ∷ others) = a.len + asked_bytes others
 
--- the bytes of those that the index holds
+-- the bytes of those objects that the index holds
 abbrev pub held_bytes : Places → ℕ → List Asked → ℕ
 held_bytes held id [] = 0
 held_bytes held id (a ∷ others) = (if holds held (asked_of id a) then a.len else 0) + held_bytes held id others

@@ -1,4 +1,4 @@
--- What compaction of a segment does to the map that an index is.
+-- What the compaction of a segment does to an index, which is a map from keys to places.
 use Rattle.std.specs.Prelude.{◌≡◌, ℕ, ◌==◌, List, Some, if◌then◌else◌}
 use Rattle.std.specs.Option.{option_map}
 use Rattle.entry.specs.declared.key.Key.{Key}
@@ -11,13 +11,13 @@ use Rattle.places.specs.Map.{Places, found, AreKept}
 use Rattle.compactor.specs.Kept.{kept_of, moved_place, moved_all}
 use Rattle.compactor.specs.Places.{IsAtPlace, keys_in, LieIn}
 
--- the images once a segment's is compacted
+-- the images after the compaction of a segment
 abbrev pub compacted_images : List ℕ → Places → (ℕ → List Entry) → ℕ → ℕ → List Entry
 compacted_images ids held images segment s =
     if s == segment then kept_of ids held segment (images segment) else images s
 
--- The new index leads to the same objects as the old one, in the later images: a key is found at the place to which its
--- old one goes, and its object lies there.
+-- In the later images, the new index leads to the same objects as the old index did before: a key is found where its
+-- old place has gone, and its object lies there.
 pub record LeadsOn (images later : ℕ → List Entry) (goes : Place → Place) (old new : Places) : Type 0 where
   pub kept : AreKept (keys_in later) new
   pub lie : LieIn later new

@@ -8,7 +8,7 @@ use Rattle.places.specs.Relocation.{moved}
 use Rattle.compactor.specs.Kept.{moved_all}
 use Rattle.compactor.specs.Places.{keys_in, LieIn}
 
--- what is held once an entry moved from one place to another: the place of an object follows it
+-- what the index holds after an entry moved from one place to another: only the place of an object changes
 abbrev pub moved_one : Place → Place → Entry → Places → Places
 moved_one p to (entry.Header h) held = held
 moved_one p to (entry.Digest l) held = held
@@ -16,8 +16,8 @@ moved_one p to (entry.Safe version) held = held
 moved_one p to (entry.Object o) held = moved held o.key p to
 moved_one p to (entry.Tombstone t) held = held
 
--- Where an index leads to objects of some images, and the segment is one of them, each place that it holds has moved
--- with its object.
+-- If the old index leads to objects of some images, and the segment is one of these images, then the new index holds
+-- each place where it went with its object.
 abbrev pub Follows : List ℕ → ℕ → List Entry → Places → Places → Type 0
 Follows ids segment es old new =
     (images : ℕ → List Entry) → images segment ≡ es → LieIn images old → AreKept (keys_in images) old

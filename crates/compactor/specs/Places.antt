@@ -1,4 +1,4 @@
--- Where entries stand in an image, and which keys images tell an index.
+-- Where entries stand in an image, and which keys the images give to an index.
 use Rattle.std.specs.Prelude.{◌≡◌, ℕ, List, ◌∷◌, ◌++◌, length, Option, Some, None}
 use Rattle.std.specs.Option.{option_map, option_and_then}
 use Rattle.entry.specs.declared.key.Key.{Key}
@@ -22,7 +22,7 @@ pub record LiesAt (image : List Entry) (at : ℕ) (e : Entry) : Type 0 where
 abbrev pub IsAtPlace : (ℕ → List Entry) → Place → Entry → Type 0
 IsAtPlace images p e = LiesAt (images p.segment) p.at e
 
--- the object, if the entry is one
+-- the object, if the entry is an object
 abbrev pub as_object : Entry → Option Object
 as_object (entry.Header h) = None
 as_object (entry.Digest ids) = None

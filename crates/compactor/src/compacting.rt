@@ -14,7 +14,7 @@ use hash_index::{Index, Place};
 use segment::{Segment, SegmentRef};
 use std::alloc::Global;
 
-/// Appends the bytes of a text between two offsets. There is room for them.
+/// Appends the bytes of a text from one offset to another. The caller has taken memory for them.
 fn append_piece(text: &[u8], from: usize, to: usize, out: &mut Vec<u8>)
     requires order { from ≤ to }
     requires within { to ≤ length text.now }
@@ -26,8 +26,8 @@ fn append_piece(text: &[u8], from: usize, to: usize, out: &mut Vec<u8>)
     out.extend_from_slice(&text[from..to]).unwrap()
 }
 
-/// Copies the kept entries of a segment, those that lie together in one piece. The index has each object where its copy
-/// lies.
+/// Copies the kept entries of a segment to `out`. Kept entries that lie together are copied as one piece. The index
+/// then leads to the copy of each kept object.
 fn copy_kept(
     id: u64,
     segment: &SegmentRef<'_>,
@@ -64,8 +64,8 @@ fn copy_kept(
     append_piece(text, from, at, out);
 }
 
-/// The segment of a segment's kept entries, in memory that is taken once. The index then has each object of the segment
-/// where it lies in the new one. On `Err` nothing changed.
+/// Makes a segment of a segment's kept entries, with one allocation. The index then leads to each kept object in the
+/// new segment. On `Err` memory ran out, and nothing changed.
 pub fn compact(
     alloc: Global,
     id: u64,

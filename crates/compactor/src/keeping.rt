@@ -1,4 +1,4 @@
-//! Which entries are kept.
+//! Which entries of a segment are kept, and how many bytes they have.
 
 ghost use Rattle.std.specs.Prelude.{◌≡◌, ◌+◌, ◌<◌, ◌≤◌, length, filter, if◌then◌else◌};
 ghost use Rattle.entry.specs.Text.{text_of, is_data, IsSegment};
@@ -25,12 +25,12 @@ pub(crate) struct Asked {
     pub hash: u64,
     /// Its offset in the segment, in bytes.
     pub at: usize,
-    /// How many bytes it has.
+    /// Its length in bytes.
     pub len: usize,
 }
 
 impl Asked {
-    /// What is looked up in the index.
+    /// Returns the hash and the place for which the index is asked.
     fn held(self, id: u64) -> Held
         ensures { result ≡ asked_of id self }
     {
@@ -44,7 +44,8 @@ impl Asked {
     }
 }
 
-/// Whether the entry at this place is kept.
+/// Returns true if the entry at this place is kept: an object if the index holds its place, a tombstone if the log set
+/// has the segment that it names. Opening entries are always kept.
 pub fn kept(entry: &EntryRef<'_>, place: Place, index: &Index, log: &LogSet<'_>) -> bool
     ensures { result ≡ kept (ids_of_log log.now) index.now.held place (shown entry.now) }
 {
@@ -58,8 +59,8 @@ pub fn kept(entry: &EntryRef<'_>, place: Place, index: &Index, log: &LogSet<'_>)
     }
 }
 
-/// The bytes of those objects that the index holds. Looks into the bucket of each hash on the way down, where the cache
-/// misses overlap, and at what overflows on the way up.
+/// Returns the bytes of those objects that the index holds. Looks into the bucket of each hash before it recurses, so
+/// that the cache misses overlap. Looks further afterwards for the objects that it didn't find there.
 fn held_bytes(asked: &[Asked], id: u64, index: &Index) -> usize
     requires { asked_bytes asked.now ≤ 8388608 }
     ensures sum { result ≡ held_bytes index.now.held id asked.now }
@@ -78,7 +79,8 @@ fn held_bytes(asked: &[Asked], id: u64, index: &Index) -> usize
     }
 }
 
-/// Adds an object to the batch. If the batch was full, it is looked up first: answers the bytes of its kept objects.
+/// Adds an object to the batch. A full batch is looked up and emptied first. Returns the bytes of the kept objects
+/// that were looked up, or 0.
 fn ask(one: Asked, asked: &mut ArrayVec<Asked, SIDE_BY_SIDE>, id: u64, index: &Index) -> usize
     requires { asked_bytes asked.old.items ≤ 8388608 }
     ensures sum { result + held_bytes index.now.held id asked.new.items
@@ -95,7 +97,8 @@ fn ask(one: Asked, asked: &mut ArrayVec<Asked, SIDE_BY_SIDE>, id: u64, index: &I
     len
 }
 
-/// Counts one more entry of a segment, or adds it to the batch if it is an object. Answers the bytes that were counted.
+/// Counts a tombstone if it is kept, and adds an object to the batch. An opening entry doesn't count. Returns the
+/// bytes that were counted, with those of a batch that was looked up.
 fn count(
     entry: &EntryRef<'_>,
     place: Place,
@@ -121,7 +124,7 @@ fn count(
     }
 }
 
-/// Counts one more entry of a segment as `count` does. An opening entry counts too.
+/// Counts an entry of a segment as `count` does, and an opening entry too.
 fn count_any(
     entry: &EntryRef<'_>,
     place: Place,
@@ -143,7 +146,7 @@ fn count_any(
     }
 }
 
-/// How many bytes the kept entries of a segment have.
+/// Returns how many bytes the kept entries of a segment have.
 pub(crate) fn kept_len(id: u64, segment: &SegmentRef<'_>, index: &Index, log: &LogSet<'_>) -> usize
     ensures { result ≡ length (text_of (kept_of (ids_of_log log.now) index.now.held id segment.now)) }
 {
@@ -162,7 +165,8 @@ pub(crate) fn kept_len(id: u64, segment: &SegmentRef<'_>, index: &Index, log: &L
     len + held_bytes(asked.as_slice(), id, index)
 }
 
-/// How many bytes the kept objects and tombstones of a segment have. Its opening entries don't count.
+/// Returns how many bytes the kept objects and tombstones of a segment have. Its opening entries don't count. The call
+/// reads the whole segment.
 pub fn kept_bytes(id: u64, segment: &SegmentRef<'_>, index: &Index, log: &LogSet<'_>) -> usize
     ensures kept { result ≡ length (text_of
         (filter is_data (kept_of (ids_of_log log.now) index.now.held id segment.now))) }
@@ -184,7 +188,7 @@ pub fn kept_bytes(id: u64, segment: &SegmentRef<'_>, index: &Index, log: &LogSet
     len + held_bytes(asked.as_slice(), id, index)
 }
 
-/// Whether the entry at this place is kept. If it is an object, the index has it at the new place from then on.
+/// Returns true if the entry at this place is kept. The index then leads to the new place of a kept object.
 pub(crate) fn kept_and_moved(
     entry: &EntryRef<'_>,
     place: Place,

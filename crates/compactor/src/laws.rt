@@ -1,8 +1,8 @@
-//! What a caller knows of an index that followed a compaction.
+//! A law on the index after a compaction, for the proofs of callers.
 
 ghost use Rattle.compactor.specs.Laws.{CompactionFollows};
 
-/// An index that followed the compaction of a segment leads to the same objects, in the images that are left.
+/// After the compaction of a segment the index leads to the same objects as before, in the images after it.
 pub fn index_follows()
     ensures { CompactionFollows }
 {}

@@ -1,8 +1,7 @@
-//! Memory compaction: the kept entries of a segment, in their order.
+//! Memory compaction: a new segment is made of the kept entries of a segment, in their order.
 //!
-//! `kept` answers whether an entry is kept, by the index and the log set; `kept_bytes` counts the bytes of those of a
-//! segment. `compact` makes the segment of the kept ones, and the index then leads to each object where it lies in that
-//! segment.
+//! `kept` returns true if an entry is kept, by the index and the log set. `kept_bytes` counts the bytes of a segment's
+//! kept objects and tombstones. `compact` makes the new segment, and the index then leads to each kept object there.
 #![tactic(auto)]
 
 mod compacting;

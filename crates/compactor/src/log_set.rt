@@ -17,7 +17,7 @@ impl<'a> LogSet<'a> {
     ghost use Rattle.compactor.specs.Kept.{has_id};
     ghost use Rattle.compactor.specs.Log.{ids_of_log};
 
-    /// Whether the segment of this id is one of them.
+    /// Returns true if the log set has the segment with this id.
     pub fn has(&self, id: u64) -> bool
         ensures { result ≡ has_id (ids_of_log self.now) id }
     {
