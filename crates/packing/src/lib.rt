@@ -4,8 +4,10 @@
 //! next object doesn't fit, and the next head opens only if two whole segments stay free.
 #![tactic(auto)]
 
+mod limits;
 mod new_log;
 mod sizes;
 
+pub use limits::is_limit;
 pub use new_log::NewLog;
 pub use sizes::Sizes;

@@ -1,0 +1,59 @@
+-- How many bytes of objects a new master can load, whatever they are and whatever their order.
+use Rattle.std.specs.Prelude.{◌≡◌, ◌⊎◌, ℕ, ◌+◌, ◌-◌, ◌*◌, ◌/◌, ◌%◌, ◌^◌, ◌<◌, ◌≤◌, ◌&&◌, ◌||◌, List, Bool, nat_le, min}
+use Rattle.std.specs.List.{AllByRecursion}
+use Rattle.packing.specs.declared.sizes.Sizes.{Sizes}
+use Rattle.packing.specs.Packing.{whole, most_ids, opening_len}
+
+-- ---- sizes
+
+-- sizes with which no sum of a test of a limit can overflow
+pub record AreBounded (s : Sizes) : Type 0 where
+  pub seglet : s.seglet ≤ 65536
+  pub seglets : s.seglets ≤ 2 ^ 32
+
+-- the number by which a configuration sets no limit
+abbrev pub unlimited : ℕ
+unlimited = 2 ^ 64 - 1
+
+-- the bytes of the longest object that a master takes: a quarter of a segment, or less if the configuration says so
+abbrev pub longest : Sizes → ℕ → ℕ
+longest s largest = min (s.segment / 4) largest
+
+-- each length is that of some object, and at most this
+abbrev pub AreLengths : ℕ → List ℕ → Type 0
+AreLengths most ns = AllByRecursion (λ (n : ℕ). (0 < n) × (n ≤ most)) ns
+
+-- ---- how many heads close
+
+-- How many heads objects of so many bytes in all can close, if no opening lists more than so many segments. A head is
+-- closed as an object doesn't fit. So with its opening and the longest object it is longer than a segment.
+abbrev pub heads_by : Sizes → ℕ → ℕ → ℕ → ℕ
+heads_by s largest live listed = live / (s.segment + 1 - (longest s largest + opening_len s listed))
+
+-- The same, in two steps: first by the longest opening that there may be, and then by the longest of so many heads.
+abbrev pub heads_for : Sizes → ℕ → ℕ → ℕ
+heads_for s largest live = heads_by s largest live (min (heads_by s largest live (most_ids s) + 1) (most_ids s))
+
+-- ---- a limit
+
+-- Objects of at most `most` bytes each and `live` bytes in all close at most so many heads. The digest has places for
+-- these, and memory for them, with two whole segments to spare: if each counts whole, or if all count by their bytes.
+pub record IsLimit (s : Sizes) (most heads live : ℕ) : Type 0 where
+  pub places : heads + 2 ≤ most_ids s
+  pub fits : most + opening_len s (heads + 1) ≤ s.segment
+  -- more heads would hold more bytes
+  pub closes : live + (heads + 1) * (most + opening_len s (heads + 1)) ≤ (heads + 1) * (s.segment + 1)
+  pub memory : ((heads + 5) * whole s ≤ s.seglets)
+      ⊎ (5 * whole s * s.seglet + live + heads * (opening_len s heads + s.seglet) ≤ s.seglets * s.seglet)
+
+-- a limit, if so many heads close at most
+abbrev pub is_limit_for : Sizes → ℕ → ℕ → Bool
+is_limit_for s heads live =
+    nat_le (heads + 2) (most_ids s)
+    && (nat_le ((heads + 5) * whole s) s.seglets
+    || nat_le (5 * whole s * s.seglet + live + heads * (opening_len s heads + s.seglet)) (s.seglets * s.seglet))
+
+-- Objects of `live` bytes in all, none longer than `longest s largest`, can be loaded whatever their order, and two
+-- whole segments stay free besides.
+abbrev pub is_limit : Sizes → ℕ → ℕ → Bool
+is_limit s largest live = is_limit_for s (heads_for s largest live) live

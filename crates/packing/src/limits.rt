@@ -1,0 +1,52 @@
+//! How many bytes of objects a new master can load, whatever they are and whatever their order.
+
+ghost use Rattle.std.specs.Prelude.{◌≡◌, ◌≤◌, ◌^◌, ◌/◌};
+ghost use Rattle.packing.specs.Limits.{AreBounded, heads_by, heads_for, is_limit};
+ghost use Rattle.packing.specs.Packing.{AreSound};
+
+use crate::new_log::opening_len;
+use crate::sizes::Sizes;
+
+/// How many heads objects of `live` bytes in all can close, if no opening lists more than so many segments.
+fn heads_by(sizes: &Sizes, largest: u64, live: u64, listed: u64) -> u64
+    requires sound { AreSound sizes.now }
+    requires listed { listed ≤ sizes.now.segment / 32 }
+    ensures { result ≡ heads_by sizes.now largest live listed }
+{
+    let longest = largest.min(sizes.segment / 4);
+    live / (sizes.segment + 1 - (longest + opening_len(sizes, listed)))
+}
+
+/// How many heads objects of `live` bytes in all can close.
+fn heads_for(sizes: &Sizes, largest: u64, live: u64) -> u64
+    requires sound { AreSound sizes.now }
+    ensures { result ≡ heads_for sizes.now largest live }
+{
+    let most = sizes.segment / 32;
+    let heads = heads_by(sizes, largest, live, most);
+    if heads < most {
+        heads_by(sizes, largest, live, heads + 1)
+    } else {
+        heads_by(sizes, largest, live, most)
+    }
+}
+
+/// Whether any objects of at most `live` bytes in all can be loaded by a new master, so that two whole segments stay
+/// free. Each object counts the bytes that it has in a segment. None is longer than a quarter of a segment, nor longer
+/// than `largest`. The cost is a few divisions.
+pub fn is_limit(sizes: &Sizes, largest: u64, live: u64) -> bool
+    requires sound { AreSound sizes.now }
+    requires bounded { AreBounded sizes.now }
+    ensures { result ≡ is_limit sizes.now largest live }
+{
+    let heads = heads_for(sizes, largest, live);
+    if heads > sizes.segment / 32 - 2 {
+        return false;
+    }
+    let whole = sizes.segment / sizes.seglet;
+    if (heads + 5) * whole <= sizes.seglets {
+        return true;
+    }
+    let closed = heads * (opening_len(sizes, heads) + sizes.seglet);
+    5 * whole * sizes.seglet + live + closed <= sizes.seglets * sizes.seglet
+}
