@@ -1,4 +1,4 @@
-//! The first places of a chain, which lie in the table itself.
+//! The front of a chain: its first places, which lie in the table itself.
 
 ghost use Rattle.std.specs.Prelude.{◌≡◌, ℕ, ◌∷◌, ◌++◌, [], Option, true, false};
 ghost use Rattle.entry.specs.declared.key.Key.{Key};

@@ -58,7 +58,7 @@ spelling (entry.Tombstone t) =
     5 ∷ number_bytes 8 t.key.table ++ number_bytes 8 t.version ++ number_bytes 8 t.segment
     ++ number_bytes 2 (length t.key.bytes) ++ t.key.bytes
 
--- ---- which entries there are
+-- ---- the limits of entries
 
 pub record IsHeader (h : Header) : Type 0 where
   pub master : h.master < 2 ^ 64
@@ -193,7 +193,7 @@ abbrev pub first_fault : List ℕ → Option EntryFault
 first_fault [] = Some Short
 first_fault (byte ∷ fields) = fault_of_kind (kind_of byte) (byte ∷ fields)
 
--- ---- what is at the front
+-- ---- the entry at the front
 
 -- the role that a byte stands for
 abbrev pub role_of : ℕ → Role

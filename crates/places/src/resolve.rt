@@ -12,7 +12,7 @@ use entry::KeyRef;
 
 /// A resolver: it gives the key at a place of the log, for an index that holds no keys.
 pub trait Resolve {
-    /// The key at each place.
+    /// The key at each place, or nothing.
     ghost keys: { Self → PlaceValue → Option Key };
 
     /// Returns the key of the object at this place, or None if no object stands there.
