@@ -1,4 +1,4 @@
--- What sorted claims come to.
+-- What a log with these claims is rebuilt to, once the claims are sorted.
 use Rattle.std.proofs.Common.{◌≡◌, ℕ, max, List, map, sym, ap, subst, ◌∙◌, arith}
 use Rattle.std.specs.Prelude.{All}
 use Rattle.std.specs.List.Sorted.{IsSortedBy, IsStrictlySortedBy, IsPermutation}

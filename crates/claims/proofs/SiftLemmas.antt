@@ -1,4 +1,4 @@
--- One claim after the other: what the first of those that are left adds to the objects.
+-- The scan of sorted claims, claim by claim: what the next claim adds to the objects.
 use Rattle.std.proofs.Common.{◌≡◌, ◌-◌, ◌≤◌, ◌++◌, Bool, cond, true, false, List, [], ◌∷◌, length, get_or}
 use Rattle.std.proofs.Common.{take, drop, map, refl, sym, ap, ◌∙◌, ◌⊎◌, inl, inr, append_assoc, arith}
 use Rattle.std.specs.Prelude.{◌||◌, All, Some, None, not}

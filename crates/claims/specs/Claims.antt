@@ -38,7 +38,7 @@ claim_of (entry.Tombstone t) = Some (record { key = t.key; version = t.version; 
 abbrev pub claims_of : List Entry → List Claimed
 claims_of es = filter_map claim_of es
 
--- the object of a claim that is no tombstone's
+-- the object that a claim of an object stands for
 abbrev pub object_of : Claimed → Object
 object_of c = record { key = c.key; version = c.version; value = c.value }
 

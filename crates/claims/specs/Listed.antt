@@ -8,6 +8,6 @@ use Rattle.entry.specs.Order.{key_cmp}
 abbrev pub AreOrdered : List Object → Type 0
 AreOrdered os = IsStrictlySortedBy key_cmp (map (λ (o : Object). o.key) os)
 
--- the version of each object is below the safe one
+-- the version of each object is below the safe version
 abbrev pub AreBelow : ℕ → List Object → Type 0
 AreBelow safe os = All (λ (o : Object). o.version < safe) os

@@ -1,4 +1,4 @@
--- Facts that are propositions.
+-- Facts that have at most one proof.
 use Rattle.std.specs.Prelude.{List, map}
 use Rattle.std.proofs.lemmas.Map.Keys.{IsStrictlySortedBy-prop}
 use Rattle.entry.specs.declared.entry.Object.{Object}

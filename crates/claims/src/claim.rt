@@ -58,7 +58,7 @@ impl<'a> Claim<'a> {
         }
     }
 
-    /// Whether both are claims of objects with one key and version, and with different values.
+    /// Returns true if both are claims of objects with one key and version, and with different values.
     pub fn clashes(&self, other: &Claim<'_>) -> bool
         ensures { result ≡ is_clash (claimed self.now) (claimed other.now) }
     {

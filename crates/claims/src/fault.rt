@@ -14,7 +14,7 @@ use std::fmt;
 pub enum ReplayFault {
     /// 1: a group of this segment was taken before.
     Double(u64),
-    /// 2: the group is of no segment that is replayed, or of another partition.
+    /// 2: the group belongs to no segment that is replayed, or to another partition.
     Stranger,
     /// 3: no group of this segment was taken.
     MissingGroup(u64),

@@ -10,15 +10,15 @@ use std::alloc::Global;
 use std::marker::Model;
 use std::mem::replace;
 
-/// For how many bytes of objects the first list takes memory.
+/// The memory of the first list, in bytes of objects.
 const FIRST: usize = 4_096;
 
-/// For how many bytes of objects a list takes memory at most, unless one object needs more. So a list fits into memory
-/// that a history gave back.
+/// The greatest memory of a list, in bytes of objects, unless one object needs more. A history takes memory of this
+/// size too, so a list fits into memory that a history gave back.
 const MOST: usize = 131_040;
 
-/// A list of objects that grows at its end. The objects lie in several lists, each with twice the memory of the one
-/// before, and none of them moves. A contract sees one list.
+/// A list of objects that grows at its end. The objects lie in several lists and never move. Each list has twice the
+/// memory of the one before, up to `MOST`. A contract sees one list.
 #[derive(Drop)]
 pub(crate) struct Growing {
     alloc: Global,
@@ -68,7 +68,7 @@ impl Growing {
         self.whole.add(full)
     }
 
-    /// Ends the list, and gives its objects.
+    /// Ends the list and returns its objects, which aren't copied.
     pub(crate) fn finish(self) -> Result<Objects, NoMemory>
         ensures { IfOk result (λ objects. objects ≡ self) }
     {

@@ -7,7 +7,7 @@ use entry::KeyRef;
 use std::cmp::Ordering;
 use std::hash::{Hash, Hasher};
 
-/// A key and its place. Two keys of one table with different places are told apart without reading a byte.
+/// A key and its place. Two keys of one table with different places are told apart without a look at their bytes.
 #[derive(Clone, Copy)]
 pub struct PlacedKey<'a> {
     key: KeyRef<'a>,

@@ -6,7 +6,7 @@ ghost use Rattle.claims.specs.Props.{AreOrdered-prop};
 use crate::objects::Objects;
 use entry::SafeVersion;
 
-/// What a log stands for: the objects that are left, and a safe version for what follows.
+/// What a log is rebuilt to: the objects that are not dead, and a safe version for the log that follows.
 #[derive(Drop)]
 pub struct Rebuilt {
     /// The objects, sorted by table and then by the bytes of the key. Each key is there once.

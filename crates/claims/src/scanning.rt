@@ -26,8 +26,8 @@ pub fn safe_above(safe: SafeVersion, claims: &[Claim<'_>]) -> SafeVersion
     greatest
 }
 
-/// Whether the next claim, if there is one, is of another key. The fault is Clash if the next claim clashes with this
-/// one.
+/// Returns true if no claim comes next or the next claim is of another key. The fault is Clash if the next claim
+/// clashes with this one.
 #[inline]
 pub fn is_last(claim: &Claim<'_>, later: &[Claim<'_>]) -> Result<bool, ReplayFault>
     ensures last { IfOk result (λ last. last ≡ is_last (claimed claim.now) (map claimed later.now)) }
@@ -42,8 +42,8 @@ pub fn is_last(claim: &Claim<'_>, later: &[Claim<'_>]) -> Result<bool, ReplayFau
     }
 }
 
-/// The objects among the last claims of their keys, in memory of their own. The fault is Clash if two neighbours
-/// clash.
+/// Returns the objects among the last claims of the keys in sorted claims, in memory of their own. The fault is Clash
+/// if a claim clashes with the next one, or NoMemory.
 pub fn winners(alloc: Global, claims: &[Claim<'_>]) -> Result<Objects, ReplayFault>
     ensures objects { IfOk result (λ objects. objects ≡ objects_in (tops (map claimed claims.now))) }
     ensures valid { IfOk result (λ objects. All IsObject objects) }

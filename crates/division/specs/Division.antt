@@ -1,4 +1,4 @@
--- A division of a segment: to each partition its objects and tombstones.
+-- A division of a segment: each partition gets the objects and tombstones whose keys are in it.
 use Rattle.std.specs.Prelude.{◌≡◌, ℕ, ◌<◌, List, [], ◌∷◌, ◌++◌, map, filter, Bool, false, ◌==◌, if◌then◌else◌}
 use Rattle.std.specs.Prelude.{Option, Some, None, is_some, true, IfSome}
 use Rattle.std.specs.List.{range_with_len}
@@ -19,7 +19,7 @@ use Rattle.division.specs.Groups.{Grouped}
 
 -- ---- the groups of a segment
 
--- the partition of an object's or a tombstone's key
+-- the partition of the entry's key, if the entry is an object or a tombstone
 abbrev pub partition_in : List Part → Entry → Option ℕ
 partition_in qs (entry.Header h) = None
 partition_in qs (entry.Digest ids) = None
@@ -35,7 +35,7 @@ is_number n (Some m) = m == n
 abbrev pub goes_to : List Part → ℕ → Entry → Bool
 goes_to qs n e = is_number n (partition_in qs e)
 
--- what the entries have in a partition
+-- the group of partition n: the entries whose keys are in this partition
 abbrev pub group_in : List Part → ℕ → List Entry → ℕ → Grouped
 group_in qs segment es n = record { segment = segment; partition = n; entries = filter (goes_to qs n) es }
 
@@ -43,7 +43,7 @@ group_in qs segment es n = record { segment = segment; partition = n; entries = 
 abbrev pub groups_of : List Part → ℕ → List Entry → List Grouped
 groups_of qs segment es = map (group_in qs segment es) (range_with_len 0 (partitions_of qs))
 
--- the groups are those of a segment, by the id in its header
+-- the groups are those of a segment with these entries, whose header has its id
 abbrev pub IsDivision : List Part → List Entry → List Grouped → Type 0
 IsDivision qs es groups = (h : Header) × (header_of es ≡ Some h) × (groups ≡ groups_of qs h.segment es)
 
@@ -53,7 +53,7 @@ IsDivision qs es groups = (h : Header) × (header_of es ≡ Some h) × (groups �
 abbrev pub IsCovered : List Part → Entry → Type 0
 IsCovered qs e = (k : Key) → IsOfKey k e → is_some (partition_of_key qs k) ≡ true
 
--- each key has a partition
+-- the key of each object and tombstone has a partition
 abbrev pub AreCovered : List Part → List Entry → Type 0
 AreCovered qs es = (e : Entry) → IsAmong e es → IsCovered qs e
 
@@ -65,18 +65,19 @@ IsStray qs e k = IsOfKey k e × (partition_of_key qs k ≡ None)
 abbrev pub HasStray : List Part → List Entry → Key → Type 0
 HasStray qs es k = (e : Entry) × IsAmong e es × IsStray qs e k
 
--- The named key is that of an entry, and has no partition. Memory is wanted only if each key has one.
+-- The fault is one that a division may have: Stray if the named key is that of an entry and has no partition, and
+-- NoMemory only if each key has a partition.
 abbrev pub IsDivideFault : List Part → List Entry → DivideFault → Type 0
 IsDivideFault qs es (fault.Stray k) = HasStray qs es (shown_key k)
 IsDivideFault qs es fault.NoMemory = AreCovered qs es
 
 -- ---- one entry
 
--- what is known of an entry once its partition was found
+-- what is known of an entry once its partition was sought: if it has a key, the key has a partition of the will
 abbrev pub IsSought : List Part → Entry → Option ℕ → Type 0
 IsSought qs e n = (partition_in qs e ≡ n) × IsCovered qs e × IfSome n (λ m. m < partitions_of qs)
 
--- what is known of a key once its partition was found
+-- what is known of a key once its partition was found: the number is below the number of partitions
 abbrev pub IsFound : List Part → Key → Option ℕ → Type 0
 IsFound qs k n = (partition_of_key qs k ≡ n) × (is_some n ≡ true) × IfSome n (λ m. m < partitions_of qs)
 
@@ -99,7 +100,7 @@ IsStrayIn qs es None = AreCovered qs es
 abbrev pub with_entry : Entry → Grouped → Grouped
 with_entry e g = record { segment = g.segment; partition = g.partition; entries = g.entries ++ e ∷ [] }
 
--- the groups, each with the entry if that goes to its partition
+-- the groups once the entry is added to the group of its partition, if it has one
 abbrev pub added : List Part → Entry → List Grouped → List Grouped
 added qs e groups = map (λ (g : Grouped). if goes_to qs g.partition e then with_entry e g else g) groups
 

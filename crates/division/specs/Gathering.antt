@@ -14,16 +14,16 @@ abbrev pub group_at : ℕ → List ℕ → Gathered → Grouped
 group_at segment text g =
     record { segment = segment; partition = g.partition; entries = entries_at text g.places.items }
 
--- at each place an entry stands
+-- an entry stands at each of the gathered places
 abbrev pub ArePlaces : List ℕ → List Gathered → Type 0
 ArePlaces text gs = AllByRecursion (λ (g : Gathered). AllStand text g.places.items) gs
 
--- no places, for each of so many partitions
+-- for each of so many partitions, in order, no place is gathered
 pub record AreEmpty (partitions : ℕ) (gs : List Gathered) : Type 0 where
   pub numbers : map (λ (g : Gathered). g.partition) gs ≡ range_with_len 0 partitions
   pub empty : AllByRecursion (λ (g : Gathered). g.places.items ≡ []) gs
 
--- at the places are what the segment's entries have in each partition, whatever the segment's id is
+-- The entries at the gathered places are the groups of a segment with these entries, whatever the segment's id is.
 pub record AreGathered (qs : List Part) (es : List Entry) (gs : List Gathered) : Type 0 where
   pub stand : ArePlaces (text_of es) gs
   pub groups : (segment : ℕ) → map (group_at segment (text_of es)) gs ≡ groups_of qs segment es

@@ -1,4 +1,4 @@
--- Groups: what one segment has in one partition.
+-- Groups: the objects and tombstones that one segment has in one partition.
 use Rattle.std.specs.Prelude.{ℕ, List, map}
 use Rattle.std.specs.List.{flat_map}
 use Rattle.entry.specs.declared.entry.Entry.{Entry}

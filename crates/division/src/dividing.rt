@@ -17,7 +17,7 @@ use segment::SegmentRef;
 use std::alloc::{AllocError, Global};
 use tablet_will::Will;
 
-/// A walk over a segment went no further: a key has no partition, or memory ran out.
+/// The error of a walk over a segment that stopped: a key has no partition, or memory ran out.
 #[derive(Drop)]
 struct Stopped;
 
@@ -27,7 +27,7 @@ impl From<AllocError> for Stopped {
     }
 }
 
-/// The partition of a key.
+/// The partition of a key, which is never `Ok(None)`. The walk stops if the key has no partition.
 #[inline(always)]
 fn partition_of_key(key: &KeyRef<'_>, will: &Will) -> Result<Option<u32>, Stopped>
     ensures { IfOk result (IsFound will.now (shown_key key.now)) }
@@ -38,7 +38,8 @@ fn partition_of_key(key: &KeyRef<'_>, will: &Will) -> Result<Option<u32>, Stoppe
     }
 }
 
-/// The partition of an object's or a tombstone's key. Another entry has none.
+/// The partition of the key of an object or a tombstone, or `Ok(None)` for another entry. The walk stops if the key has
+/// no partition.
 #[inline(always)]
 fn sought(entry: &EntryRef<'_>, will: &Will) -> Result<Option<u32>, Stopped>
     ensures { IfOk result (IsSought will.now (shown entry.now)) }
@@ -50,7 +51,7 @@ fn sought(entry: &EntryRef<'_>, will: &Will) -> Result<Option<u32>, Stopped>
     }
 }
 
-/// No places, for each partition.
+/// Makes an empty list of places for each partition.
 fn none_gathered(alloc: Global, partitions: u32) -> Result<Vec<Gathered>, NoMemory>
     ensures { IfOk result (λ all. AreEmpty partitions all.items) }
 {
@@ -65,8 +66,8 @@ fn none_gathered(alloc: Global, partitions: u32) -> Result<Vec<Gathered>, NoMemo
     Ok(all)
 }
 
-/// Takes memory for one more place if there is none: for as many as there are. The first gets memory for itself alone,
-/// since with many partitions most groups of a segment have an entry or two.
+/// Makes room for one more place. If the list is full, its memory doubles. The first place gets memory for one place
+/// only, because with many partitions most groups of a segment have an entry or two.
 fn make_room(places: &mut Vec<u32>) -> Result<(), NoMemory>
     ensures items { places.new.items ≡ places.old.items }
     ensures room { OnOk result (vec_len places.new < vec_capacity places.new) }
@@ -77,7 +78,7 @@ fn make_room(places: &mut Vec<u32>) -> Result<(), NoMemory>
     places.reserve_exact(places.len().max(1))
 }
 
-/// The places of the objects and tombstones of a segment, for each partition of the will.
+/// Gathers the places of a segment's objects and tombstones, for each partition of the will.
 fn gather(alloc: Global, segment: &SegmentRef<'_>, will: &Will) -> Result<Vec<Gathered>, Stopped>
     ensures ok { IfOk result (λ all. AreGathered will.now segment.now all.items) }
     ensures covered { OnOk result (AreCovered will.now segment.now) }
@@ -99,7 +100,7 @@ fn gather(alloc: Global, segment: &SegmentRef<'_>, will: &Will) -> Result<Vec<Ga
     Ok(all)
 }
 
-/// The groups of the entries at these places of the segment, which has this id.
+/// Makes a group of each partition's places in the segment, which has this id.
 fn groups_at<'a>(
     alloc: Global,
     id: u64,
@@ -122,7 +123,7 @@ fn groups_at<'a>(
     Ok(groups)
 }
 
-/// Why a walk over the segment stopped: a key has no partition, or else memory is all that was wanted.
+/// Finds out why a walk over the segment stopped: Stray if some key has no partition, else NoMemory.
 fn fault_of<'a>(segment: &SegmentRef<'a>, will: &Will) -> DivideFault<'a>
     ensures { IsDivideFault will.now segment.entry.now result }
 {
@@ -132,10 +133,10 @@ fn fault_of<'a>(segment: &SegmentRef<'a>, will: &Will) -> DivideFault<'a>
     }
 }
 
-/// The segment's groups: for each partition of the will, in order, the objects and tombstones whose keys are in it. A
-/// group may be empty. The entries stay in the segment's bytes: a group takes 4 bytes for each, and a few words
-/// besides. A key that is in no partition is named by Stray, and lies in the segment's bytes. NoMemory says that each
-/// key has a partition.
+/// Divides a segment: returns a group for each partition of the will, in order, with the objects and tombstones whose
+/// keys are in the partition. A group may be empty. The entries stay in the segment's bytes: a group takes 4 bytes for
+/// each entry, and a few words besides. If some key is in no partition, the fault is Stray with such a key. NoMemory
+/// comes only if each key has a partition.
 pub fn divide<'a>(
     alloc: Global,
     segment: &SegmentRef<'a>,

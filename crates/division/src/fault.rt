@@ -10,9 +10,9 @@ use std::fmt;
 /// Why a segment is not divided. The numbers are fixed.
 #[derive(Drop)]
 pub enum DivideFault<'a> {
-    /// 1: the key of an object or a tombstone is in no partition. It lies in the segment's bytes.
+    /// 1: the key of an object or a tombstone is in no partition. The key is borrowed from the segment's bytes.
     Stray(KeyRef<'a>),
-    /// 2: memory ran out.
+    /// 2: memory ran out, and each key of the segment is in a partition.
     NoMemory,
 }
 

@@ -1,4 +1,4 @@
-//! The places of what a segment has in one partition, before they are a group.
+//! The places of a segment's entries in one partition, before a group is made of them.
 
 /// The offsets of a partition's objects and tombstones in the segment's bytes, in order.
 #[derive(Drop)]

@@ -31,7 +31,7 @@ impl<'a> Model for GroupEntries<'a> {
     ghost invariant = { λ g. AllStand (text_of g.segment) g.places.items };
 }
 
-/// The entries of a group that are still to come. Each is read from the segment's bytes when it is asked for.
+/// An iterator over the entries of a group. Each entry is read from the segment's bytes when it is asked for.
 #[derive(Drop)]
 pub struct EntriesLeft<'a, 'g> {
     segment: SegmentRef<'a>,

@@ -7,7 +7,7 @@ use entry::{EntryRef, KeyRef};
 use segment::SegmentRef;
 use tablet_will::Will;
 
-/// The key of an object or a tombstone.
+/// The key of an object or a tombstone, or None for another entry.
 fn key_of<'a>(entry: &EntryRef<'a>) -> Option<KeyRef<'a>>
     ensures { IsKeyOf (shown entry.entry.now) result }
 {
@@ -18,7 +18,7 @@ fn key_of<'a>(entry: &EntryRef<'a>) -> Option<KeyRef<'a>>
     }
 }
 
-/// The key of an object or a tombstone, if it has no partition.
+/// The key of the entry, if the entry is an object or a tombstone and its key has no partition.
 fn stray_of<'a>(entry: &EntryRef<'a>, will: &Will) -> Option<KeyRef<'a>>
     ensures { IsStrayOf will.now (shown entry.entry.now) result }
 {
@@ -34,7 +34,7 @@ fn stray_of<'a>(entry: &EntryRef<'a>, will: &Will) -> Option<KeyRef<'a>>
     }
 }
 
-/// The first key of the segment that has no partition.
+/// The first key of the segment that has no partition, or None if each key has one. It takes no memory.
 pub(crate) fn first_stray<'a>(segment: &SegmentRef<'a>, will: &Will) -> Option<KeyRef<'a>>
     ensures { IsStrayIn will.now segment.entry.now result }
 {

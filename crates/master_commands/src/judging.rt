@@ -40,8 +40,9 @@ fn admit(core: &Core, command: &CommandRef<'_>) -> Result<(), Refusal>
     Ok(())
 }
 
-/// Tests if the unit of a change can be appended. A change without a unit passes. The refusal is Rolling if a roll is
-/// under way or has to come first, or a failover is open. It is Full if no roll may begin.
+/// Tests if the unit of a change can be appended. A change without a unit passes. The refusal is Rolling if the head
+/// isn't open, a failover is open, or a roll has to come first. The refusal is Full if the unit doesn't fit the head
+/// and no roll may begin for the command.
 fn fit(core: &Core, command: &CommandRef<'_>, change: &Change) -> Result<(), Refusal>
     ensures { IsChangeNow core.now (shown_command command.now) change.now →
         result_err result ≡ unit_refusal core.now (shown_command command.now)

@@ -97,7 +97,7 @@ segments_entering d = option_map_or (λ (p : Pass). p.survivors.count) d.pass 1
 
 -- There is space for a roll. Its digest may list one id more than the newest digest. The digest of the next commit may
 -- then list the commit's survivors and head in place of its victims. So many whole segments are free once the old head
--- counts its length; one of them may be taken by the open pass.
+-- counts its length. An open pass has taken one of them already.
 abbrev pub has_space : MasterData → ℕ → Bool
 has_space d segments =
     let more = length (newest_digest d.head) + 1 in

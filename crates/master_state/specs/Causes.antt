@@ -135,8 +135,8 @@ compact_refusal d id =
 
 -- ---- a pass
 
--- why one of these segments may not be a victim; the first such segment counts. It is among the segments before it, it
--- is a head, or the digest in force doesn't list it.
+-- Why the first segment that may not be a victim may not. Twice: the segment is also among those before it. IsHead: the
+-- segment is the head, or the head that a roll is opening. NotInLog: the digest in force doesn't list the segment.
 abbrev pub victim_fault : MasterData → List ℕ → List ℕ → Option PassFault
 victim_fault d before [] = None
 victim_fault d before (id ∷ ids) =

@@ -92,7 +92,8 @@ pub record AreVictims (d : MasterData) (victims : List ℕ) : Type 0 where
   pub apart : AreApart victims
   pub older : AllByRecursion (λ (s : ℕ). has (head_of d.head).start.others s ≡ true) victims
 
--- No digest lists a survivor of an open pass yet. A survivor begins with its header, and isn't longer than a segment.
+-- What holds of a survivor of an open pass: the digest in force doesn't list it, and no roll is opening it. It begins
+-- with its header, and isn't longer than a segment.
 pub record IsSurvivor (d : MasterData) (s : ℕ) : Type 0 where
   pub outside : has (ids_of (head_of d.head).start) s ≡ false
   pub not_new : IfSome d.head.roll (λ r. (r.id == s) ≡ false)

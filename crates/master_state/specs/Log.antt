@@ -90,7 +90,7 @@ is_opened h = nat_le h.replicas (length h.taken)
 abbrev pub is_headless : MasterData → Bool
 is_headless d = option_map_or (λ (f : Failover). f.is_first) d.failover (not (is_opened d.head))
 
--- the head in force; the model's head without a number and without units if the master is headless
+-- the head in force; if the master is headless, a head with the number 0, which stands for no head
 abbrev pub in_force : MasterData → FailHead
 in_force d =
     if is_headless d then record { start = no_head d.config.format; loaded = []; units = [] }

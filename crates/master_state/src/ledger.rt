@@ -28,7 +28,7 @@ pub enum Posting {
     Settled,
 }
 
-/// All postings, the last one first. It has no bytes when the program runs.
+/// All postings, the last one first. The list has no bytes when the program runs.
 #[derive(Drop)]
 pub struct Ledger {
     pub ghost postings: { List PostingValue },
@@ -60,7 +60,7 @@ impl Ledger {
     }
 }
 
-/// The heads that a roll was opening as a failover began. It has no bytes when the program runs.
+/// The heads that a roll was opening as a failover began. The list has no bytes when the program runs.
 #[derive(Drop)]
 pub struct Abandoned {
     pub ghost heads: { List Start },

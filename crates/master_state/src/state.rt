@@ -69,7 +69,8 @@ pub struct Core {
     pub first_safe: SafeVersion,
     /// What the master's backups answered.
     pub ledger: Ledger,
-    /// The heads that a roll was opening as the last failover began. It is empty again once the new head is in force.
+    /// The heads that a roll was opening as the last failover began. The list is empty again once the new head is in
+    /// force.
     pub abandoned: Abandoned,
     /// The bytes of the live objects. `u64::MAX` stands for as many or more.
     pub live: u64,
