@@ -121,7 +121,7 @@ impl Slots {
         lowest(same.to_bitmask())
     }
 
-    /// Touches both cache lines early. Always false: `u64::MAX` is no segment.
+    /// Reads the first and the last segment early. False for every log: no segment has the id `u64::MAX`.
     #[inline(always)]
     fn has_last_segment(&self) -> bool {
         (self.segments[0] == u64::MAX) | (self.segments[SLOTS - 1] == u64::MAX)
