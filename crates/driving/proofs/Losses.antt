@@ -166,3 +166,4 @@ unlost (refusal.Pass fault) other = refl
 unlost refusal.Spent other = refl
 unlost refusal.SegmentsSpent other = refl
 unlost refusal.NoTablet other = refl
+unlost refusal.Overcommit other = refl

@@ -256,20 +256,21 @@ early_unspent false false true f e = cc
 early_unspent false false false true e = cc
 early_unspent false false false false e = cc
 
-late_unspent : (v e f r : Bool)
-    → (if v then Some refusal.VersionsSpent else if e then None else if f then Some refusal.Full
-    else if r then Some refusal.Rolling else None) ≡ Some refusal.Spent → ⊥
-late_unspent true e f r is = cc
-late_unspent false true f r is = cc
-late_unspent false false true r is = cc
-late_unspent false false false true is = cc
-late_unspent false false false false is = cc
+late_unspent : (v o e f r : Bool)
+    → (if v then Some refusal.VersionsSpent else if o then Some refusal.Overcommit else if e then None
+    else if f then Some refusal.Full else if r then Some refusal.Rolling else None) ≡ Some refusal.Spent → ⊥
+late_unspent true o e f r is = cc
+late_unspent false true e f r is = cc
+late_unspent false false true f r is = cc
+late_unspent false false false true r is = cc
+late_unspent false false false false true is = cc
+late_unspent false false false false false is = cc
 
 unspent : (d : MasterData) (command : Command) → command_refusal d command ≡ Some refusal.Spent → ⊥
 unspent d command is = go (is_none (early_refusal d command)) is
   where
     go : (b : Bool) → (if b then late_refusal d command else early_refusal d command) ≡ Some refusal.Spent → ⊥
-    go true e = late_unspent _ _ _ _ e
+    go true e = late_unspent _ _ _ _ _ e
     go false e = early_unspent _ _ _ _ e
 
 -- a command is refused as spent by a fleet that is: by none

@@ -55,7 +55,7 @@ unit_can d command unit = pick _ None _ nothing (pick _ (Some refusal.Full) _ (m
 
 late_can : (d : MasterData) (command : Command) → CanRefuse (late_refusal d command)
 late_can d command = pick _ (Some refusal.VersionsSpent) _ (may refusal.VersionsSpent tt)
-    (unit_can d command (unit_now d command))
+    (pick _ (Some refusal.Overcommit) _ (may refusal.Overcommit tt) (unit_can d command (unit_now d command)))
 
 command_can : (d : MasterData) (command : Command) → CanRefuse (command_refusal d command)
 command_can d command = pick _ (late_refusal d command) (early_refusal d command) (late_can d command)
@@ -80,6 +80,7 @@ no_roll (refusal.Pass fault) h other = h
 no_roll refusal.Spent h other = tt
 no_roll refusal.SegmentsSpent h other = tt
 no_roll refusal.NoTablet h other = tt
+no_roll refusal.Overcommit h other = tt
 no_roll (refusal.Lost b) h other = h
 
 -- a command that needn't wait for a roll
@@ -131,6 +132,7 @@ module _ (s t : World) where
   take_ends (refusal.Pass fault) h = absurd h
   take_ends refusal.SegmentsSpent h = absurd h
   take_ends refusal.NoTablet h = absurd h
+  take_ends refusal.Overcommit h = absurd h
 
   fails : (r : Refusal) → IsStuck s r t ⊎ (FailsTurn s r t ⊎ FailsPush s r t) → Ends r
   fails r (inl x) = subst Ends (sym x.2) tt
@@ -159,6 +161,7 @@ stops refusal.Nothing h idle lost = absurd (idle refl)
 stops (refusal.Pass fault) h idle lost = h
 stops refusal.SegmentsSpent h idle lost = h
 stops refusal.NoTablet h idle lost = h
+stops refusal.Overcommit h idle lost = h
 
 module _ (s t : Held) (answer : Result StepAnswer Refusal) (r : Refusal) (h : Turns s turn.Push answer t) where
   -- a push that is refused for another reason

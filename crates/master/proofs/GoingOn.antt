@@ -193,6 +193,7 @@ fails_stays Is old refusal.Nothing new other is = absurd is
 fails_stays Is old (refusal.Pass fault) new other is = absurd is
 fails_stays Is old refusal.SegmentsSpent new other is = absurd is
 fails_stays Is old refusal.NoTablet new other is = absurd is
+fails_stays Is old refusal.Overcommit new other is = absurd is
 
 declined_stays : (old : World) (step : Step) (r : Refusal) (new : World) → IsCore old.knows
     → ((b : ℕ) → r ≡ refusal.Lost b → ⊥) → Declines old step r new → left_now new.knows ≤ left_now old.knows

@@ -198,6 +198,7 @@ take_failed IsOp old new refusal.Rolling t same loses halts = absurd t
 take_failed IsOp old new refusal.Nothing t same loses halts = absurd t
 take_failed IsOp old new (refusal.Pass fault) t same loses halts = absurd t
 take_failed IsOp old new refusal.NoTablet t same loses halts = absurd t
+take_failed IsOp old new refusal.Overcommit t same loses halts = absurd t
 take_failed IsOp old new refusal.SegmentsSpent t same loses halts = absurd t
 
 -- ---- the durable count

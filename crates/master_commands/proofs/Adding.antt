@@ -45,7 +45,7 @@ use Rattle.master_state.specs.cleaner.Seals.{first_lacking}
 use Rattle.master_state.specs.declared.failover.Failover.{Failover}
 use Rattle.master_state.specs.Budget.{head_seglets, used_seglets, newest_digest, is_working}
 use Rattle.master_state.specs.Budget.{victims_of, survivors_of, is_committing}
-use Rattle.master_state.specs.Causes.{command_refusal, dead_segment, unit_now, is_empty}
+use Rattle.master_state.specs.Causes.{live_now, command_refusal, dead_segment, unit_now, is_empty}
 use Rattle.master_commands.specs.Change.{unit_of_change, safe_of_change, IsJudged, IsSought}
 use Rattle.master_state.specs.Steps.{appended, reply_now, record_now, Applies, Fits, MayApplyNow}
 use Rattle.master_state.specs.Data.{MasterData}
@@ -173,6 +173,7 @@ module _ (d : MasterData) (core : IsCore d) (command : Command) (change : Change
       index = new;
       safe = safe_of_change d.safe change;
       history = d.history ++ record_now d seat command ∷ [];
+      live = live_now d command;
     }
 
     admitted : IsAdmitted d command

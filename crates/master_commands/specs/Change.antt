@@ -1,5 +1,5 @@
 -- Changes: what a change appends to the head, and which change a command makes.
-use Rattle.std.specs.Prelude.{◌≡◌, ℕ, ◌+◌, max, List, [], ◌∷◌, ◌++◌, Bool, true, false, Option, Some, None}
+use Rattle.std.specs.Prelude.{◌≡◌, ℕ, ◌+◌, ◌-◌, max, List, [], ◌∷◌, ◌++◌, Bool, true, false, Option, Some, None}
 use Rattle.std.specs.Option.{option_map}
 use Rattle.entry.specs.declared.key.Key.{Key}
 use Rattle.entry.specs.declared.entry.Object.{Object}
@@ -18,6 +18,8 @@ use Rattle.versioned_map.specs.Versioned.{is_spent, reply_given}
 use Rattle.versioned_map.specs.Units.{object_entry, tombstone_entry, unit_given, safe_given}
 use Rattle.master_state.specs.Causes.{is_empty, dead_segment}
 use Rattle.master_state.specs.Data.{MasterData}
+use Rattle.master_state.specs.Live.{bytes_of, live_after, object_bytes, with_bytes}
+use Rattle.versioned_map.specs.Command.{command_key}
 use Rattle.places.specs.declared.place.Held.{Held}
 use Rattle.places.specs.declared.place.Place.{Place}
 use Rattle.places.specs.Hashing.{hash_of}
@@ -44,15 +46,18 @@ safe_of_change safe (change.Create version) = version + 1
 safe_of_change safe (change.Replace dead version) = safe
 safe_of_change safe (change.Delete dead) = max safe (dead + 1)
 
--- what the bytes of the live objects are after a change of a key whose object had this many
+-- so many bytes of live objects, with those of the object that a put makes
+abbrev pub with_object_of : ℕ → Command → ℕ
+with_object_of live (Get k) = live
+with_object_of live (Put k value when) = with_bytes live (object_bytes k value)
+with_object_of live (Delete k) = live
+
+-- the bytes of the live objects after a change, where the key's object had this many
 abbrev pub live_of_change : ℕ → ℕ → Command → Change → ℕ
 live_of_change live had command change.Nothing = live
-live_of_change live had (Put k value when) (change.Create version) =
-    with_bytes (live - had) (object_bytes k value)
-live_of_change live had (Put k value when) (change.Replace dead version) =
-    with_bytes (live - had) (object_bytes k value)
-live_of_change live had (Put k value when) (change.Delete dead) = live - had
-live_of_change live had command change = live - had
+live_of_change live had command (change.Create version) = with_object_of (live - had) command
+live_of_change live had command (change.Replace dead version) = with_object_of (live - had) command
+live_of_change live had command (change.Delete dead) = live - had
 
 -- ---- the change that a command makes
 
@@ -84,7 +89,9 @@ pub record IsChangeOf (safe : ℕ) (x : Option Versioned) (command : Command) (c
   -- the change is Nothing exactly if the command appends nothing
   pub nothing : (segment : ℕ) → is_nothing change ≡ is_empty (unit_given safe segment x command)
   pub not_spent : is_spent safe x command ≡ false
-  pub live : (live : ℕ) → live_of_change live (bytes_of (command_key command) x) command change ≡ live_after live x command
+  -- and it makes as many bytes live
+  pub live : (live : ℕ)
+      → live_of_change live (bytes_of (command_key command) x) command change ≡ live_after live x command
 
 -- the change is that of a put under this condition, for each absent key and each value
 abbrev pub Creates : ℕ → If → Change → Type 0

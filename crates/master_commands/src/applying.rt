@@ -3,7 +3,7 @@
 ghost use Rattle.std.specs.Prelude.{◌⊎◌, ◌≡◌, None, Some, IfOk, IfErr, OnOk, OnErr};
 ghost use Rattle.std.specs.Result.{result_err};
 ghost use Rattle.history.specs.View.{shown_command, shown_reply, shown_record};
-ghost use Rattle.master_state.specs.Causes.{command_refusal};
+ghost use Rattle.master_state.specs.Causes.{command_refusal, live_now};
 ghost use Rattle.master_state.specs.Index.{object_found};
 ghost use Rattle.master_state.specs.Invariant.{IsCore};
 ghost use Rattle.master_state.specs.Steps.{Applies, AppliesAs, MayApplyNow, reply_now, record_now, IsFound};
@@ -110,6 +110,7 @@ fn consider(core: &Core, command: &CommandRef<'_>) -> Result<(Judged, Reply), Re
     ensures passed { IfOk result (λ _. command_refusal core.now (shown_command command.now) ≡ None) }
     ensures judged { IfOk result (λ considered.
         IsJudged core.now (shown_command command.now) considered.0.change considered.0.held.place.segment) }
+    ensures live { IfOk result (λ considered. considered.0.live ≡ live_now core.now (shown_command command.now)) }
     ensures sought { IfOk result (λ considered.
         IsSought core.now (command_key (shown_command command.now)) considered.0.held) }
     ensures reply { IfOk result (λ considered. considered.1 ≡ reply_now core.now (shown_command command.now)) }
@@ -132,6 +133,7 @@ fn add(core: &mut Core, accepted: &RecordRef<'_>, judged: &Judged) -> Result<u64
     requires judged { IsJudged core.old (shown_command accepted.now.command) judged.now.change
         judged.now.held.place.segment }
     requires sought { IsSought core.old (command_key (shown_command accepted.now.command)) judged.now.held }
+    requires live { judged.now.live ≡ live_now core.old (shown_command accepted.now.command) }
     requires reply { shown_reply accepted.now.reply ≡ reply_now core.old (shown_command accepted.now.command) }
     ensures added { IfOk result (λ place. AppliesAs core.old
         (record_now core.old accepted.now.seat (shown_command accepted.now.command)) place core.new) }
@@ -151,6 +153,7 @@ fn add(core: &mut Core, accepted: &RecordRef<'_>, judged: &Judged) -> Result<u64
         core.config.segment as usize,
     )?;
     core.safe = judged.change.safe_after(core.safe);
+    core.live = judged.live;
     replies_have_one_value();
     core.history.push(accepted);
     Ok(place as u64)
@@ -169,6 +172,7 @@ fn add_change(
     requires passed { command_refusal core.old (shown_command command.now) ≡ None }
     requires judged { IsJudged core.old (shown_command command.now) judged.now.change judged.now.held.place.segment }
     requires sought { IsSought core.old (command_key (shown_command command.now)) judged.now.held }
+    requires live { judged.now.live ≡ live_now core.old (shown_command command.now) }
     requires present { IsPresent core.old (shown_command command.now) judged.now.present judged.now.held.place }
     ensures added { IfOk result (λ place.
         AppliesAs core.old (record_now core.old seat (shown_command command.now)) place core.new) }
@@ -195,6 +199,7 @@ fn add_judged(
     requires passed { command_refusal core.old (shown_command command.now) ≡ None }
     requires judged { IsJudged core.old (shown_command command.now) judged.now.change judged.now.held.place.segment }
     requires sought { IsSought core.old (command_key (shown_command command.now)) judged.now.held }
+    requires live { judged.now.live ≡ live_now core.old (shown_command command.now) }
     requires present { IsPresent core.old (shown_command command.now) judged.now.present judged.now.held.place }
     ensures added { IfOk result (λ place.
         AppliesAs core.old (record_now core.old seat (shown_command command.now)) place core.new) }

@@ -6,9 +6,9 @@ ghost use Rattle.entry.specs.Meaning.{Versioned};
 ghost use Rattle.history.specs.View.{shown_command};
 ghost use Rattle.versioned_map.specs.Versioned.{reply_given};
 ghost use Rattle.versioned_map.specs.Versioned.{is_spent};
-ghost use Rattle.master_commands.specs.Change.{is_nothing, creates, safe_of_change};
+ghost use Rattle.master_commands.specs.Change.{is_nothing, creates, live_of_change, safe_of_change, with_object_of};
 ghost use Rattle.master_state.specs.Budget.{segments_for};
-ghost use Rattle.master_state.specs.Causes.{is_too_big};
+ghost use Rattle.master_state.specs.Causes.{is_longer, is_too_big};
 ghost use Rattle.master_commands.specs.Change.{Creates, CreatesSpent, Replaces, ReplacesSpent, IsChangeFrom};
 ghost use Rattle.master_commands.specs.Change.{IsSpentFrom, RepliesFrom};
 
@@ -40,6 +40,8 @@ pub struct Judged {
     pub held: Held,
     /// The version of the key's object, if there is one.
     pub present: Option<Version>,
+    /// The bytes of the live objects once the command is done.
+    pub live: u64,
 }
 
 /// No version is left for a put.
@@ -128,6 +130,17 @@ impl Change {
         }
     }
 
+    /// The bytes of the live objects afterwards, where the key's object had this many.
+    pub fn live_after(&self, live: u64, had: u64, command: &CommandRef<'_>) -> u64
+        ensures { result ≡ live_of_change live had (shown_command command.now) self.now }
+    {
+        match self {
+            Change::Nothing => live,
+            Change::Create(_) | Change::Replace(_, _) => with_object(live.saturating_sub(had), command),
+            Change::Delete(_) => live.saturating_sub(had),
+        }
+    }
+
     /// The reply to a put or a delete that makes this change, if its key has an object of this version, or none. Such a
     /// reply has no value.
     pub fn reply(&self, command: &CommandRef<'_>, present: Option<Version>) -> Reply
@@ -150,6 +163,32 @@ fn unchanged_reply(command: &CommandRef<'_>, present: Option<Version>) -> Reply
         CommandRef::Get(_) => Reply::None,
         CommandRef::Delete(_) => Reply::None,
         CommandRef::Put(_, _, _) => Reply::Mismatch(present),
+    }
+}
+
+/// So many bytes of live objects, with those of the object that a put makes.
+fn with_object(live: u64, command: &CommandRef<'_>) -> u64
+    ensures { result ≡ with_object_of live (shown_command command.now) }
+{
+    match command {
+        CommandRef::Put(key, value, _) => {
+            let bytes = OBJECT_LEN + key.bytes.len() + value.bytes.len();
+            live.saturating_add(bytes as u64)
+        }
+        _ => live,
+    }
+}
+
+/// Returns true for a put whose object has more than so many bytes.
+pub fn is_longer(command: &CommandRef<'_>, largest: u64) -> bool
+    ensures { result ≡ is_longer (shown_command command.now) largest }
+{
+    match command {
+        CommandRef::Put(key, value, _) => {
+            let bytes = OBJECT_LEN + key.bytes.len() + value.bytes.len();
+            bytes as u64 > largest
+        }
+        _ => false,
     }
 }
 

@@ -8,15 +8,16 @@ ghost use Rattle.places.specs.declared.place.Place.{Place as PlaceValue};
 ghost use Rattle.places.specs.Hashing.{hash_of};
 ghost use Rattle.versioned_map.specs.Command.{command_key};
 ghost use Rattle.history.specs.View.{shown_command};
-ghost use Rattle.master_state.specs.Causes.{early_refusal, unit_refusal, command_refusal, unit_now};
+ghost use Rattle.master_state.specs.Causes.{early_refusal, unit_refusal, command_refusal, live_now, unit_now};
+ghost use Rattle.master_state.specs.Live.{bytes_of};
 ghost use Rattle.master_state.specs.Index.{segment_at, place_found, object_found};
 ghost use Rattle.master_state.specs.Log.{held_now, find, images_of};
 ghost use Rattle.master_commands.specs.Change.{version_in, IsChangeNow, IsJudged, IsSought, IsPresent};
 
-use crate::change::{Change, Judged, change_of, is_too_big, segments_for};
+use crate::change::{Change, Judged, change_of, is_longer, is_too_big, segments_for};
 use crate::index::find_object;
 use crate::unit::unit_len;
-use entry::{ObjectRef, Version};
+use entry::{OBJECT_LEN, ObjectRef, Version};
 use hash_index::{Held, Place};
 use history::{CommandRef, key_of};
 use master_state::{Core, Refusal};
@@ -28,7 +29,7 @@ fn admit(core: &Core, command: &CommandRef<'_>) -> Result<(), Refusal>
     if core.is_halted {
         return Err(Refusal::Halted);
     }
-    if is_too_big(command, core.config.segment) {
+    if is_too_big(command, core.config.segment) || is_longer(command, core.config.largest) {
         return Err(Refusal::TooBig);
     }
     if !core.config.tablets.have(&key_of(command)) {
@@ -107,6 +108,18 @@ fn version_of(found: &Option<(Place, ObjectRef<'_>)>) -> Option<Version>
     }
 }
 
+/// The bytes of the object that was found, which has the command's key; 0 if there is none.
+fn bytes_of(command: &CommandRef<'_>, found: &Option<(Place, ObjectRef<'_>)>) -> u64
+    ensures { result ≡ bytes_of (command_key (shown_command command.now)) (object_found found.now) }
+{
+    match found {
+        None => 0,
+        Some((_, object)) => {
+            (OBJECT_LEN + key_of(command).bytes.len() + object.value.len()) as u64
+        }
+    }
+}
+
 /// Makes all tests of a command, in order. Returns what they found, and the place and the object of the command's key.
 #[inline(always)]
 pub(crate) fn judge<'a>(
@@ -116,6 +129,7 @@ pub(crate) fn judge<'a>(
     ensures passed { IfOk result (λ _. command_refusal core.entry.now (shown_command command.now) ≡ None) }
     ensures judged { IfOk result (λ found.
         IsJudged core.entry.now (shown_command command.now) found.0.change found.0.held.place.segment) }
+    ensures live { IfOk result (λ found. found.0.live ≡ live_now core.entry.now (shown_command command.now)) }
     ensures sought { IfOk result (λ found.
         IsSought core.entry.now (command_key (shown_command command.now)) found.0.held) }
     ensures object { IfOk result (λ found. object_found found.1 ≡ held_now core.entry.now (shown_command command.now)) }
@@ -129,6 +143,10 @@ pub(crate) fn judge<'a>(
     let Ok(change) = change_of(command, core.safe, version_of(&found)) else {
         return Err(Refusal::VersionsSpent);
     };
+    let live = change.live_after(core.live, bytes_of(command, &found), command);
+    if core.config.most_live < live && core.live < live {
+        return Err(Refusal::Overcommit);
+    }
     fit(core, command, &change)?;
     let place = place_of(&found);
     let held = Held { hash, place };
@@ -136,6 +154,7 @@ pub(crate) fn judge<'a>(
         change,
         held,
         present: version_of(&found),
+        live,
     };
     Ok((judged, found))
 }
@@ -145,6 +164,7 @@ pub(crate) fn weigh(core: &Core, command: &CommandRef<'_>) -> Result<Judged, Ref
     ensures passed { IfOk result (λ _. command_refusal core.now (shown_command command.now) ≡ None) }
     ensures judged { IfOk result (λ judged.
         IsJudged core.now (shown_command command.now) judged.change judged.held.place.segment) }
+    ensures live { IfOk result (λ judged. judged.live ≡ live_now core.now (shown_command command.now)) }
     ensures sought { IfOk result (λ judged.
         IsSought core.now (command_key (shown_command command.now)) judged.held) }
     ensures present { IfOk result (λ judged.

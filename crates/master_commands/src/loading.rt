@@ -76,6 +76,7 @@ impl Loads for Core {
             self.config.segment as usize,
         )?;
         self.loaded = Loaded::with(&self.loaded, object);
+        self.live = self.live.saturating_add(object_len(object) as u64);
         Ok(())
     }
 

@@ -1,6 +1,6 @@
 -- Which test refuses a step.
 use Rattle.std.proofs.Common.{◌≡◌, ◌+◌, ◌<◌, ◌≤◌, Bool, true, false, cond, List, length, refl, arith}
-use Rattle.std.specs.Prelude.{Option, Some, None, ◌^◌, ◌*◌, ◌/◌, ◌%◌, not, nat_le, nat_lt, ◌==◌, ◌&&◌, is_none}
+use Rattle.std.specs.Prelude.{Option, Some, None, ◌^◌, ◌*◌, ◌/◌, ◌%◌, not, nat_le, nat_lt, ◌==◌, ◌&&◌, ◌||◌, is_none}
 use Rattle.std.proofs.lemmas.Bool.{and_parts, not-false, leb-true, leb-false, ltb-false, eqb-true}
 use Rattle.std.proofs.lemmas.Bool.Decides.{nat_tests}
 use Rattle.std.proofs.Math.Bool.{and-false}
@@ -11,11 +11,12 @@ use Rattle.versioned_map.specs.declared.command.Command.{Command}
 use Rattle.master_state.specs.declared.config.Config.{Config}
 use Rattle.master_state.specs.declared.step.Refusal.{Refusal}
 use Rattle.master_state.specs.declared.step.Refusal.TheVariants.{Halted, TooBig, NoTablet, HistoryFull, VersionsSpent}
-use Rattle.master_state.specs.declared.step.Refusal.TheVariants.{Full, Rolling, Nothing, SegmentsSpent}
+use Rattle.master_state.specs.declared.step.Refusal.TheVariants.{Full, Rolling, Nothing, SegmentsSpent, Overcommit}
 use Rattle.master_state.specs.Causes.{early_refusal, late_refusal, command_refusal, unit_refusal, has_room, unit_now}
 use Rattle.master_state.specs.declared.failover.Failover.{Failover}
 use Rattle.master_state.specs.Budget.{is_working, segments_for, may_roll}
-use Rattle.master_state.specs.Causes.{roll_refusal, is_pushed, push_refusal, is_too_big, is_empty}
+use Rattle.master_state.specs.Causes.{roll_refusal, is_pushed, push_refusal, is_too_big, is_longer, is_empty}
+use Rattle.master_state.specs.Causes.{is_overcommitted, live_now}
 use Rattle.versioned_map.specs.Versioned.{is_spent}
 use Rattle.versioned_map.specs.Command.{command_key}
 use Rattle.images.specs.Images.{AreSizes}
@@ -95,7 +96,7 @@ pub record IsAdmitted (d : MasterData) (command : Command) : Type 0 where
 pub is_admitted : (d : MasterData) (command : Command) → early_refusal d command ≡ None → IsAdmitted d command
 is_admitted d command e =
     let a = passes d.is_halted Halted _ e in
-    let b = passes (is_too_big command d.config.segment) TooBig _ a.1 in
+    let b = passes (is_too_big command d.config.segment || is_longer command d.config.largest) TooBig _ a.1 in
     let t = passes (not (have_key d.config.tablets (command_key command))) NoTablet _ b.1 in
     let h = passes (nat_le d.config.history (length d.history)) HistoryFull None t.1 in
     record { running = a.0; key = not-false _ t.0; room = leb-false d.config.history (length d.history) h.0 }
@@ -122,10 +123,17 @@ module _ (d : MasterData) (command : Command) where
   pub refused_spent : early_refusal d command ≡ None → spent ≡ true → command_refusal d command ≡ Some VersionsSpent
   refused_spent e s = rw (e, s) refl
 
-  pub refused_late : (o : Option Refusal) → early_refusal d command ≡ None → spent ≡ false
-      → unit_refusal d command own_unit ≡ o
-      → command_refusal d command ≡ o
-  refused_late o e s u = rw (e, s, u) refl
+  abbrev over : Bool
+  over = is_overcommitted d (live_now d command)
+
+  pub refused_over : early_refusal d command ≡ None → spent ≡ false → over ≡ true
+      → command_refusal d command ≡ Some Overcommit
+  refused_over e s o = rw (e, s, o) refl
+
+  pub refused_late : (r : Option Refusal) → early_refusal d command ≡ None → spent ≡ false → over ≡ false
+      → unit_refusal d command own_unit ≡ r
+      → command_refusal d command ≡ r
+  refused_late r e s o u = rw (e, s, o, u) refl
 
 -- a master that takes units has an open head, and no failover is open
 pub working_parts : (d : MasterData) → is_working d ≡ true → (is_open d.head ≡ true) × (d.failover ≡ None)
@@ -152,8 +160,9 @@ unit_room : (d : MasterData) (command : Command) → command_refusal d command �
     → (is_working d ≡ true) × (has_room d (unit_now d command) ≡ true)
 unit_room d command passed some =
     let late = (early_first d command (early_refusal d command) (late_refusal d command) passed).1 in
-    let unit = (passes (is_spent (state_now d).safe ((state_now d).contents (command_key command)) command)
+    let left = (passes (is_spent (state_now d).safe ((state_now d).contents (command_key command)) command)
     VersionsSpent _ late).1 in
+    let unit = (passes (is_overcommitted d (live_now d command)) Overcommit _ left).1 in
     room_then d command (unit_now d command) some unit
 
 pub unit_fits : (d : MasterData) (command : Command) → command_refusal d command ≡ None

@@ -29,6 +29,8 @@ config_of o master = record {
   history = o.history;
   hasher = fast_hasher;
   format = o.format;
+  largest = o.largest;
+  most_live = o.live;
 }
 
 -- the format of masters that start later: once format 2 was asked for, they list each segment with its length

@@ -46,6 +46,8 @@ pub fn configuration(alloc: Global, options: &Options, master: u64) -> Result<Co
         history: options.history,
         hasher: KeyHasher::new(),
         format: options.format,
+        largest: options.largest,
+        most_live: options.live,
     })
 }
 

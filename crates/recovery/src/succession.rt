@@ -81,6 +81,8 @@ fn numbered(alloc: Global, config: &Config, master: u64) -> Result<Config, NoMem
         history: config.history,
         hasher: config.hasher,
         format: config.format,
+        largest: config.largest,
+        most_live: config.most_live,
     })
 }
 

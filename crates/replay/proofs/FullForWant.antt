@@ -25,7 +25,7 @@ use Rattle.driving.specs.master_core.master_state.declared.step.Step.TheVariants
 use Rattle.driving.specs.master_core.master_state.declared.step.StepAnswer.{StepAnswer}
 use Rattle.driving.specs.master_core.master_state.Budget.{is_working, may_roll}
 use Rattle.driving.specs.master_core.master_state.Causes.{has_room, is_done}
-use Rattle.driving.specs.master_core.master_state.Config.{config_fault}
+use Rattle.driving.specs.master_core.master_state.Config.{config_fault, sizes_of}
 use Rattle.driving.specs.master_core.master_state.Data.{MasterData}
 use Rattle.driving.specs.master_core.master_state.Loading.{load_refusal, loaded_unit, is_object_too_big, restored_data}
 use Rattle.driving.specs.master_core.master_state.Loading.{Loads}
@@ -39,7 +39,7 @@ use Rattle.driving.proofs.Heads.{no_roll, works_parts}
 use Rattle.driving.proofs.of_master.log_head.Heads.{text_more}
 use Rattle.driving.proofs.of_master.master_state.Refusals.{sizes_of as config_sizes}
 use Rattle.replay.specs.Adopting.{HasToWait, HasRoomMade, LoadsOne, HasLoaded, DeclinesOne, IsStuck, Stops}
-use Rattle.replay.specs.Needs.{sizes_of, length_of, lengths_of, CanBeAdopted}
+use Rattle.replay.specs.Needs.{length_of, lengths_of, CanBeAdopted}
 use Rattle.replay.proofs.LoadTests.{full_tells, wait_tells, load_tells, roll_full_tells, rolls_tell}
 use Rattle.replay.proofs.LoadedLogs.{lens_on, opening_at, IsQuiet, IsBusy, IsBusyOrNext, quiet_pushed, busy_pushed}
 use Rattle.replay.proofs.LoadedLogs.{begins, may_now, may_listed}

@@ -40,7 +40,7 @@ use Rattle.driving.specs.master_core.master_state.Data.{MasterData}
 use Rattle.driving.specs.master_core.master_state.Images.{with_closed}
 use Rattle.driving.specs.master_core.master_state.Steps.{start_now, listed_in, rolling_data, taken_data, pushed_data}
 use Rattle.driving.specs.master_core.master_state.Steps.{ledger_after, roll_ended, closed_data}
-use Rattle.replay.specs.Needs.{sizes_of}
+use Rattle.driving.specs.master_core.master_state.Config.{sizes_of}
 
 -- ---- openings
 

@@ -8,7 +8,8 @@ use Rattle.packing.specs.declared.new_log.NewLog.{NewLog}
 use Rattle.packing.specs.Packing.{IsSmall, empty_log, most_ids, packed, seglets_at, with_object}
 use Rattle.packing.proofs.Packed.{closed_grows, loads_from, loads_since}
 use Rattle.driving.specs.master_core.master_state.declared.config.Config.{Config}
-use Rattle.replay.specs.Needs.{sizes_of, length_of, lengths_of, needed_for, IsNeeded, NoneIsEnough}
+use Rattle.driving.specs.master_core.master_state.Config.{sizes_of}
+use Rattle.replay.specs.Needs.{length_of, lengths_of, needed_for, IsNeeded, NoneIsEnough}
 
 -- So far as the count has come: with the objects that are left, the log becomes what all of them make of it.
 pub record IsOnTheWay (c : Config) (os left : List Object) (l : NewLog) : Type 0 where

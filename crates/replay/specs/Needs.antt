@@ -3,18 +3,13 @@ use Rattle.std.specs.Prelude.{◌≡◌, ◌<◌, ◌≤◌, ℕ, List, map, len
 use Rattle.entry.specs.declared.entry.Object.{Object}
 use Rattle.entry.specs.Text.{text_of}
 use Rattle.replica.specs.Picture.{FleetState}
-use Rattle.packing.specs.declared.sizes.Sizes.{Sizes}
 use Rattle.packing.specs.Packing.{can_load, seglets_needed}
 use Rattle.claims.specs.declared.rebuilt.Rebuilt.{Rebuilt}
 use Rattle.driving.specs.master_core.master_state.declared.config.Config.{Config}
 use Rattle.driving.specs.master_core.master_state.declared.step.Refusal.TheVariants as refusal
-use Rattle.driving.specs.master_core.master_state.Config.{config_fault}
+use Rattle.driving.specs.master_core.master_state.Config.{config_fault, sizes_of}
 use Rattle.driving.specs.master_core.master_state.Loading.{loaded_unit}
 use Rattle.replay.specs.Adopting.{DeclinesList}
-
--- the sizes of a configuration
-abbrev pub sizes_of : Config → Sizes
-sizes_of c = record { segment = c.segment; seglet = c.seglet; seglets = c.seglets; format = c.format }
 
 -- the bytes that an object has in a segment
 abbrev pub length_of : Object → ℕ

@@ -6,7 +6,7 @@ ghost use Rattle.replay.specs.Needs.{needed_for, IsNeeded, NoneIsEnough};
 
 use claims::Rebuilt;
 use driving::master_core::Config;
-use packing::{NewLog, Sizes};
+use packing::NewLog;
 
 /// How many seglets a master of this configuration needs to adopt the list, if no take ends in a fault. The number of
 /// seglets that the configuration has plays no part. None if no number is enough: the digest of a head has too few
@@ -18,12 +18,7 @@ pub fn seglets_needed(rebuilt: &Rebuilt, config: &Config) -> Option<u64>
     ensures enough { IfSome result (λ n. IsNeeded config.now rebuilt.now.objects n) }
     ensures none { result ≡ None → NoneIsEnough config.now rebuilt.now.objects }
 {
-    let sizes = Sizes {
-        segment: config.segment,
-        seglet: config.seglet,
-        seglets: config.seglets,
-        format: config.format,
-    };
+    let sizes = config.sizes();
     let mut log = NewLog::new(&sizes);
     for object in rebuilt.objects.iter() {
         match log.with_object(&sizes, object.spelled_len() as u64) {

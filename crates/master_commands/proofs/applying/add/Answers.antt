@@ -6,7 +6,7 @@ use Rattle.versioned_map.specs.declared.command.Reply.{Reply}
 use Rattle.master_commands.specs.declared.change.Change.{Change}
 use Rattle.log_head.specs.Head.{HeadValue, IsHeadValue}
 use Rattle.master_state.specs.declared.step.StepAnswer.TheVariants.{Applied}
-use Rattle.master_state.specs.Causes.{command_refusal, is_empty}
+use Rattle.master_state.specs.Causes.{command_refusal, is_empty, live_now}
 use Rattle.master_commands.specs.Change.{unit_of_change, IsJudged, IsSought}
 use Rattle.master_state.specs.Steps.{appended, reply_now, Applies, MayApplyNow}
 use Rattle.master_state.specs.contracts.state.Core.{the_view}
@@ -70,6 +70,9 @@ module _ (c : goal.After-push) where
   reply : shown_reply c.args.accepted.now.reply ≡ reply_now d command
   reply = rw (← c.core.view_is) at c.requires.reply
 
+  live : c.args.judged.now.live ≡ live_now d command
+  live = rw (← c.core.view_is) at c.requires.live
+
   head_is : c.enact.new.head ≡ appended d.head (length d.history) (unit_of_change dead command change)
   head_is =
       c.in_ok-enact.ensures.head
@@ -114,6 +117,7 @@ module _ (c : goal.After-push) where
     index = c.enact.new.index.held;
     safe = c.safe_after-core-inside.result;
     history = c.push.new.self.records;
+    live = c.args.judged.now.live;
   }
 
   abbrev with_reply : Reply → List Record
@@ -125,6 +129,7 @@ module _ (c : goal.After-push) where
     index = c.enact.new.index.held;
     safe = sym c.safe_after-core-inside.ensures i;
     history = sym (items ∙ ap with_reply reply) i;
+    live = sym live i;
   }
 
   core : IsCore left
