@@ -33,7 +33,7 @@ abbrev pub TakesOp : ℕ → FleetState → Op → FleetState → Type 0
 TakesOp master f (On b s act) g = Takes f b (op_of master (log_op_for master b s act)) g
 TakesOp master f (Raise id) g = Raises f master id g
 
--- the fleet refuses the master's op; after a fault nobody knows whether it was taken
+-- the fleet refuses the master's op; after a fault the op may have been taken or not
 abbrev pub RefusesOp : ℕ → FleetState → Op → TakeFault → FleetState → Type 0
 RefusesOp master f (On b s act) fault g = Refuses f b (op_of master (log_op_for master b s act)) fault g
 RefusesOp master f (Raise id) fault g = RefusesRaise f master id fault g

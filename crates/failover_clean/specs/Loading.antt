@@ -107,21 +107,22 @@ LoadKeeps = (d : FailData) (m : FailMemory) (p : Shown) (o : Object) → IsLoadi
     → IsLoading (with_object d o) (object_loaded d m o) p
     × (Knows d m p → Knows (with_object d o) (object_loaded d m o) p)
 
--- The master goes on to load once an op on a head is taken, whether or not it learns that the op was taken. The next
--- law says that the op fits.
+-- The master goes on to load once an op on a head is taken, whether or not it learns that the op was taken.
 abbrev pub LoadingOpKeeps : Type 0
 LoadingOpKeeps = (d e : FailData) (m : FailMemory) (p q : Shown) (o : Op) → IsLoading d m p → IsHeadOp d o e
     → IsThere d.config o → taken p o ≡ Some q → IsLoading d m q × IsLoading e m q
 
+-- An op on a head fits, and the loading master knows what is held once the op is taken.
 abbrev pub LoadingOpFits : Type 0
 LoadingOpFits = (d e : FailData) (m : FailMemory) (p : Shown) (o : Op) → IsLoading d m p → Knows d m p
     → IsHeadOp d o e → (q : Shown) × (taken p o ≡ Some q) × Knows e m q
 
--- The master goes on to load once a repair is taken, and the repair fits.
+-- The master goes on to load once a repair is taken, whether or not it learns that the repair was taken.
 abbrev pub LoadingRepairKeeps : Type 0
 LoadingRepairKeeps = (d e : FailData) (m : FailMemory) (p q : Shown) (o : Op) → IsLoading d m p → RepairsImage d m o e
     → IsThere d.config o → taken p o ≡ Some q → IsLoading d m q × IsLoading e m q
 
+-- A repair fits, and the loading master knows what is held once the repair is taken.
 abbrev pub LoadingRepairFits : Type 0
 LoadingRepairFits = (d e : FailData) (m : FailMemory) (p : Shown) (o : Op) → IsLoading d m p → Knows d m p
     → RepairsImage d m o e → (q : Shown) × (taken p o ≡ Some q) × Knows e m q
