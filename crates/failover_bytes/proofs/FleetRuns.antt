@@ -7,7 +7,7 @@ use Rattle.failover_bytes.specs.Spelled.{IsSpelled, read_replica}
 use Rattle.failover_bytes.specs.Runs.{read_fleet}
 use Rattle.failover_bytes.proofs.Reading.{texts_are_spelled}
 
--- a fleet without a replica of the master spells that
+-- a fleet without a replica of the master spells what it is read to show
 pub nothing_spelled : (master : ℕ) (f : FleetState) → ((b s : ℕ) → (read_fleet master f).holds b s ≡ None)
     → IsSpelled master (shown_of f master) (read_fleet master f)
 nothing_spelled master f nothing =

@@ -1,4 +1,4 @@
--- A text with less at its end is a whole segment's if the text is.
+-- A whole segment with fewer units at its end is a whole segment too.
 use Rattle.std.proofs.Common.{◌≡◌, ℕ, true, List, ◌++◌, length, take, drop, Some, refl, sym, ap, subst, ◌∙◌}
 use Rattle.std.proofs.Common.{append_assoc, arith}
 use Rattle.std.proofs.lemmas.Bool.{and_parts}

@@ -1,4 +1,4 @@
--- Of a log that is kept the newest opened head is the newest that counts.
+-- The head that `newest_opened` gives is the newest opened head of a kept log.
 use Rattle.std.proofs.Common.{◌≡◌, ℕ, ◌≤◌, ◌⊎◌, inl, inr, Bool, true, false, cond, List, [], ◌∷◌, ◌++◌, length, max}
 use Rattle.std.proofs.Common.{Some, refl, sym, ap, subst, ◌∙◌, arith}
 use Rattle.std.specs.Prelude.{Option, None, IsSome, IsSomeAnd, nat_le, option_to_list}

@@ -1,4 +1,4 @@
--- What a log writes are segments.
+-- A log writes whole segments.
 use Rattle.std.proofs.Common.{◌≡◌, ℕ, ◌⊎◌, inl, inr, Bool, true, false, cond, List, length, Some, refl, sym}
 use Rattle.std.proofs.Common.{ap, subst, ◌∙◌, arith}
 use Rattle.std.specs.Prelude.{Option, None, ◌==◌, ◌&&◌}

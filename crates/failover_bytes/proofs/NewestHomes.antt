@@ -1,4 +1,4 @@
--- Of a log that is kept each home of the newest head that counts holds it.
+-- Each home of the newest opened head of a kept log holds it.
 use Rattle.std.proofs.Common.{◌≡◌, ℕ, ◌<◌, inl, inr, true, List, [], ◌∷◌, length, refl, sym, ap}
 use Rattle.std.proofs.Common.{subst, ◌∙◌, arith}
 use Rattle.std.specs.Prelude.{IsSome, ◌==◌}

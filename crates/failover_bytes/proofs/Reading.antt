@@ -1,4 +1,4 @@
--- What is written is what is read.
+-- A reader of a text's bytes gets the text that was written.
 use Rattle.std.proofs.Common.{◌≡◌, ℕ, arith, true, List, ◌∷◌, Some, refl, sym, ap, subst, ◌∙◌}
 use Rattle.std.specs.Prelude.{Option, None, IsSomeAnd, filter, length}
 use Rattle.std.specs.Option.{option_map}

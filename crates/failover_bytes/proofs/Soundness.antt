@@ -1,4 +1,4 @@
--- If the model's picture is sound, so is the one that spells it.
+-- A picture that spells a sound picture of the model is sound.
 use Rattle.std.proofs.Common.{List, take, max, sym, ap}
 use Rattle.std.proofs.Common.{subst, ◌∙◌}
 use Rattle.entry.specs.declared.entry.Entry.{Entry}

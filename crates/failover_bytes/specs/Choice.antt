@@ -1,4 +1,4 @@
--- The model's choices as replicas with bytes, and which head counts.
+-- The model's choices as replicas with bytes, and the newest opened head.
 use Rattle.std.specs.Prelude.{ℕ, ◌≤◌, max, List, [], ◌∷◌, ◌++◌, map, length, Bool, Option, Some, None, nat_le}
 use Rattle.std.specs.Prelude.{if◌then◌else◌, option_to_list}
 use Rattle.replica.specs.declared.holding.Holding.{Holding}
@@ -30,19 +30,20 @@ choice_for master c = record {
 
 -- ---- which losses leave one
 
--- an opened head: as many backups as replicas took its Open, and one of them holds it
+-- An opened head: as many backups as a segment has replicas took its Open, and one of them holds it as a head that may
+-- be used.
 abbrev pub IsOpenedHead : FailData → ℕ → Shown → ℕ → Type 0
 IsOpenedHead d master shown s =
     (d.config.replicas ≤ length (d.took s)) × ((b : ℕ) × HasTaken d s b × HoldsHead shown master b s)
 
--- the newest opened head, if it may be used; None if no opened head may be used
+-- `Some s` is the newest opened head, and a recovery may use it; None means that no opened head may be used
 abbrev pub IsNewestOpenedOrNone : (ℕ → Type 0) → ℕ → Option ℕ → Type 0
 IsNewestOpenedOrNone IsOpened least (Some s) = IsNewestOpened IsOpened least s
 IsNewestOpenedOrNone IsOpened least None = (s : ℕ) → IsOpened s → least ≤ s → ⊥
 
 -- ---- which that is, of a log that is kept
 
--- as many backups as replicas took the head's Open
+-- true if as many backups as a segment has replicas took the head's Open
 abbrev pub is_opened : FailData → ℕ → Bool
 is_opened d s = nat_le d.config.replicas (length (d.took s))
 
@@ -51,15 +52,15 @@ abbrev pub greater : ℕ → Option ℕ → Option ℕ
 greater s None = Some s
 greater s (Some t) = Some (max s t)
 
--- the greatest of these heads that was opened on as many backups as replicas
+-- the greatest of these heads that as many backups took as a segment has replicas
 abbrev pub greatest_opened : FailData → List Start → Option ℕ
 greatest_opened d [] = None
 greatest_opened d (n ∷ ns) = if is_opened d n.id then greater n.id (greatest_opened d ns) else greatest_opened d ns
 
--- the head in force, and those that a roll is opening, or was opening as a failover began
+-- the new heads and the head in force
 abbrev pub heads_now : FailData → List Start
 heads_now d = option_to_list (new_of d.mode) ++ (d.abandoned ++ d.head.start ∷ [])
 
--- the newest head that was opened on as many backups as replicas
+-- the newest head that as many backups took as a segment has replicas
 abbrev pub newest_opened : FailData → Option ℕ
 newest_opened d = greatest_opened d (heads_now d)

@@ -1,4 +1,4 @@
--- What a fleet keeps of a master's log, by the answer of each op.
+-- What a fleet keeps of a master's log, and what each answer to an op says of it.
 use Rattle.std.specs.Prelude.{◌≡◌, ℕ, Some, IsSome}
 use Rattle.replica.specs.declared.op.TakeFault.TheVariants as take_fault
 use Rattle.replica.specs.Picture.{FleetState, shown_of}
@@ -13,24 +13,24 @@ use Rattle.failover_bytes.specs.Segments.{HeadsAreSegments, SealsSegment, IsHeld
 use Rattle.failover_bytes.specs.Runs.{read_fleet}
 use Rattle.failover_bytes.specs.Sound.{IsSoundInBytes}
 
--- The fleet spells a log that is kept, and whose heads are segments.
+-- The fleet keeps the log: it spells one that is kept, and the texts of the log's heads are segments.
 pub record KeepsLog (master : ℕ) (d : FailData) (f : FleetState) : Type 0 where
   pub spelled : IsSpelled master (shown_of f master) (read_fleet master f)
   pub heads : HeadsAreSegments master d
   pub kept : IsKept d (read_fleet master f)
 
--- And the master knows what backups that haven't failed hold.
+-- The fleet keeps the log, and the master knows what the backups that haven't failed hold.
 pub record HoldsLog (master : ℕ) (d : FailData) (f : FleetState) : Type 0 where
   pub keeps : KeepsLog master d f
   pub known : IsKnown d (read_fleet master f)
 
--- The op may come next, and what it seals is a segment. If it is taken the master is the second of these.
+-- The master `d` may ask for the op next, and what the op seals is a segment. The master is `e` once the op is taken.
 pub record IsLogOp (master : ℕ) (d : FailData) (texts : Texts) (f : FleetState) (o : Op) (e : FailData) : Type 0 where
   pub there : IsThere d.config o
   pub next : IsNext d texts (read_fleet master f) o e
   pub seals : SealsSegment master o
 
--- what the op frees is there
+-- the backup holds the replica that the op frees; true of an op that frees nothing
 abbrev pub IsFreedThere : ModelShown → Op → Type 0
 IsFreedThere p (On b s (Open text)) = Unit {0}
 IsFreedThere p (On b s (Extend at more)) = Unit {0}
@@ -53,8 +53,8 @@ NewHoldsLog = (master : ℕ) (c : FailConfig) (f : FleetState) → MayBegin c (r
 
 -- ---- laws, of a master that is still loading too
 
--- What an op is asked of: a fleet that spells what the model shows, where this holds the log's texts, and the heads are
--- segments.
+-- The master `d`, which may be loading, asks for the op, and is `e` once the op is taken. The fleet spells what the
+-- model shows, this has the log's texts, and the texts of the heads and what the op seals are segments.
 pub record IsAsked (master : ℕ) (d : FailData) (texts : Texts) (f : FleetState) (p : ModelShown) (o : Op)
     (e : FailData) : Type 0 where
   pub spelled : IsSpelled master (shown_of f master) p
@@ -63,19 +63,20 @@ pub record IsAsked (master : ℕ) (d : FailData) (texts : Texts) (f : FleetState
   pub op : IsHeldOp d texts p o e
   pub seals : SealsSegment master o
 
--- If the op is answered Ok, it fits in the model, and the fleet spells what that then shows.
+-- If the fleet answers Ok, the op fits in the model, and the fleet spells what the model shows once the op is taken.
 abbrev pub OkIsSpelled : Type 0
 OkIsSpelled = (master : ℕ) (d e : FailData) (texts : Texts) (f g : FleetState) (p : ModelShown) (o : Op)
     → IsAsked master d texts f p o e → TakesOp master f o g
     → (q : ModelShown) × (taken p o ≡ Some q) × IsSpelled master (shown_of g master) q × HeadsAreSegments master e
 
--- If it ends in a fault, the fleet spells that, or what the model showed before.
+-- If the op ends in a fault, the fleet spells what the model shows once the op is taken, or what it showed before.
 abbrev pub FaultIsEither : Type 0
 FaultIsEither = (master : ℕ) (d e : FailData) (texts : Texts) (f g : FleetState) (p : ModelShown) (o : Op)
     → IsAsked master d texts f p o e → RefusesOp master f o take_fault.Fault g
     → (q : ModelShown) × IsFaulted p o q × IsSpelled master (shown_of g master) q
 
--- The fleet never answers Wrong to it, if the master knows what is held, and what it frees is there.
+-- The fleet never answers Wrong to the op, if the master knows what is held, and if the replica that the op frees is
+-- there.
 abbrev pub HeldOpIsNeverWrong : Type 0
 HeldOpIsNeverWrong = (master : ℕ) (d e : FailData) (texts : Texts) (f g : FleetState) (p : ModelShown) (o : Op)
     → IsAsked master d texts f p o e → IsKnown d p → IsOnFleet f o → IsFreedThere p o

@@ -1,4 +1,4 @@
--- What the model says of a log is so of the bytes that spell it.
+-- What is true of a log in the model is true of the bytes that spell it.
 use Rattle.std.specs.Prelude.{◌≡◌, ◌↔◌, ℕ, length, Bool, Option, Some}
 use Rattle.replica.specs.declared.op.TakeFault.TheVariants as take_fault
 use Rattle.entry.specs.Text.{Opening}
@@ -27,13 +27,13 @@ use Rattle.failover_bytes.specs.Sound.{IsSoundInBytes}
 abbrev pub LengthIsSame : Type 0
 LengthIsSame = (master segment : ℕ) (t : Text) → length (bytes_for master segment t) ≡ length_of t
 
--- Replicas that are segments' texts, whose headers name them, spell what is read of them.
+-- Replicas whose bytes are segments' texts, with headers that name them, spell what is read of them.
 abbrev pub TextsAreSpelled : Type 0
 TextsAreSpelled = (master : ℕ) (shown : Shown)
     → ((b s : ℕ) (r : Replica) → shown.holds b master s ≡ Some r → IsTextOfSegment r.bytes master s)
     → IsSpelled master shown (read_shown master shown)
 
--- They spell nothing else, and are segments' texts.
+-- Replicas that spell what the model shows are segments' texts, and a reader gets what the model shows.
 abbrev pub SpelledIsRead : Type 0
 SpelledIsRead = (master : ℕ) (shown : Shown) (p : ModelShown) → IsSpelled master shown p
     → (read_shown master shown ≡ p)
@@ -41,7 +41,7 @@ SpelledIsRead = (master : ℕ) (shown : Shown) (p : ModelShown) → IsSpelled ma
 
 -- ---- ops
 
--- No fleet answers Wrong to it.
+-- No fleet answers Wrong to an op that fits in the model.
 abbrev pub OpIsNeverWrong : Type 0
 OpIsNeverWrong = (master : ℕ) (f g : FleetState) (p q : ModelShown) (o : Op) → IsSpelled master (shown_of f master) p
     → taken p o ≡ Some q → IsOnFleet f o → RefusesOp master f o take_fault.Wrong g → ⊥
@@ -52,7 +52,7 @@ TakenIsSpelled = (master : ℕ) (f g : FleetState) (p : ModelShown) (o : Op) →
     → TakesOp master f o g
     → (q : ModelShown) × (taken p o ≡ Some q) × (AreSegments master q → IsSpelled master (shown_of g master) q)
 
--- After a fault it spells what the model showed, or what it shows with the op taken.
+-- After a fault the fleet spells what the model showed before the op, or what it shows once the op is taken.
 abbrev pub FaultIsSpelled : Type 0
 FaultIsSpelled = (master : ℕ) (f g : FleetState) (p : ModelShown) (o : Op) → IsSpelled master (shown_of f master) p
     → RefusesOp master f o take_fault.Fault g
@@ -60,7 +60,7 @@ FaultIsSpelled = (master : ℕ) (f g : FleetState) (p : ModelShown) (o : Op) →
 
 -- ---- choices
 
--- A replica may be used in the model just if the real one may.
+-- A recovery may use a replica of the model exactly if it may use the replica in bytes.
 abbrev pub UsableIsSame : Type 0
 UsableIsSame = (master : ℕ) (opening : Opening) (h : ModelHolding)
     → IsUsable opening.digest h.segment h.replica ↔ IsUsableReplica opening (holding_for master h)
@@ -71,7 +71,7 @@ ChoiceIsSpelled = (master : ℕ) (shown : Shown) (p : ModelShown) (keep : ℕ �
     → IsSpelled master shown p → IsShownChoice (survivors keep shown) master c
     → (m : ModelChoice) × IsChoice (model_survivors keep p) m × (c ≡ choice_for master m) × (bag_of c ≡ model_bag m)
 
--- Each choice of the model is spelled by one.
+-- Each choice of the model is spelled by a choice of the newest log in bytes.
 abbrev pub SpelledIsChoice : Type 0
 SpelledIsChoice = (master : ℕ) (shown : Shown) (p : ModelShown) (keep : ℕ → Bool) (m : ModelChoice)
     → IsSpelled master shown p → IsChoice (model_survivors keep p) m
@@ -79,19 +79,20 @@ SpelledIsChoice = (master : ℕ) (shown : Shown) (p : ModelShown) (keep : ℕ �
 
 -- ---- soundness
 
--- If both survive, they do so in the model.
+-- If head and segments both survive in bytes, they do so in the model.
 abbrev pub SurvivesInModel : Type 0
 SurvivesInModel = (master : ℕ) (d : FailData) (shown : Shown) (p : ModelShown) (keep : ℕ → Bool) (newest : Option ℕ)
     → IsSpelled master shown p → IsNewestOpenedOrNone (IsOpenedHead d master shown) shown.least newest
     → BothSurvive (IsHome d) newest shown master keep → ModelBothSurvive (IsHome d) (ModelOpenedHead d p) p keep
 
--- Of a log that is kept the newest opened head is the newest that counts.
+-- The head that `newest_opened` gives is the newest opened head that a recovery may use. If it gives none, there is no
+-- such head.
 abbrev pub NewestIsOpened : Type 0
 NewestIsOpened = (master : ℕ) (d : FailData) (texts : Texts) (shown : Shown) (p : ModelShown)
     → IsSpelled master shown p → IsLogHeld d texts p
     → IsNewestOpenedOrNone (IsOpenedHead d master shown) shown.least (newest_opened d)
 
--- If the model's picture is sound, so is the one that spells it.
+-- A picture that spells a sound picture of the model is sound.
 abbrev pub SpelledIsSound : Type 0
 SpelledIsSound = (master : ℕ) (d : FailData) (shown : Shown) (p : ModelShown) → IsSpelled master shown p → IsSound d p
     → IsSoundInBytes master d shown

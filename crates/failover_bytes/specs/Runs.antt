@@ -7,6 +7,6 @@ use Rattle.failover_bytes.specs.Spelled.{read_shown}
 
 -- ---- runs
 
--- what the fleet shows of the master, as it is read
+-- what the model shows of the master, as it is read from the fleet's bytes
 abbrev pub read_fleet : ℕ → FleetState → ModelShown
 read_fleet master f = read_shown master (shown_of f master)

@@ -1,4 +1,4 @@
--- What a log writes are whole segments.
+-- A log writes whole segments.
 use Rattle.std.specs.Prelude.{◌≡◌, ◌⊎◌, ℕ, length, Some, None}
 use Rattle.versioned_map.specs.Versioned.{State}
 use Rattle.failover_model.specs.log_model.Data.{Start}
@@ -10,12 +10,12 @@ use Rattle.failover_model.specs.Steps.{Raises, ClosesOld, Reseals, Seals, Frees}
 use Rattle.failover_bytes.specs.Text.{IsWholeText}
 use Rattle.failover_bytes.specs.Spelled.{AreSegments}
 
--- The text of the head in force is a segment, and so is the opening of each new one.
+-- The text of the head in force is a whole segment, and so is the opening of each new head.
 pub record HeadsAreSegments (master : ℕ) (d : FailData) : Type 0 where
   pub head : IsWholeText master d.head.start.id (front d.head (length d.head.units))
   pub new : (n : Start) → IsNew d n → IsWholeText master n.id (bare n)
 
--- what the op seals is a segment
+-- the text that the op seals is a whole segment; true of an op that seals nothing
 abbrev pub SealsSegment : ℕ → Op → Type 0
 SealsSegment master (On b s (Open text)) = Unit {0}
 SealsSegment master (On b s (Extend at more)) = Unit {0}
@@ -24,30 +24,30 @@ SealsSegment master (On b s (Seal text)) = IsWholeText master s text
 SealsSegment master (On b s Free) = Unit {0}
 SealsSegment master (Raise id) = Unit {0}
 
--- with the op taken the master is the second of these, also while it is still loading
+-- the master `d`, which may be loading, may ask for the op, and is `e` once the op is taken
 abbrev pub IsHeldOp : FailData → Texts → ModelShown → Op → FailData → Type 0
 IsHeldOp d texts p o e = Extends d o e ⊎ (OpensNew d o e ⊎ (Replaces d o e ⊎ (Raises d o e
     ⊎ (ClosesOld d o e ⊎ (Reseals d texts o e ⊎ (Seals d texts p o e ⊎ Frees d o e))))))
 
 -- ---- laws
 
--- If the heads are segments, an op leaves replicas that are segments, if they were and what it seals is one.
+-- An op leaves replicas that are segments, if the replicas, the heads and what the op seals are segments.
 abbrev pub OpLeavesSegments : Type 0
 OpLeavesSegments = (master : ℕ) (d e : FailData) (texts : Texts) (p q : ModelShown) (o : Op) → IsLogHeld d texts p
     → IsHeldOp d texts p o e → taken p o ≡ Some q → HeadsAreSegments master d → SealsSegment master o
     → AreSegments master p → AreSegments master q
 
--- The heads are segments once a roll to a head has begun whose opening is one.
+-- The heads are segments once a new head is being opened, if its opening is a segment.
 abbrev pub RollingHasSegments : Type 0
 RollingHasSegments = (master : ℕ) (d : FailData) (n : Start) (mode : Mode) → HeadsAreSegments master d
     → new_of mode ≡ Some n → IsWholeText master n.id (bare n) → HeadsAreSegments master (rolling d n mode)
 
--- So they are once a new head is in force.
+-- The heads are segments once a new head is in force.
 abbrev pub EndedHasSegments : Type 0
 EndedHasSegments = (master : ℕ) (d : FailData) (n : Start) (mode : Mode) → HeadsAreSegments master d
     → new_of d.mode ≡ Some n → new_of mode ≡ None → HeadsAreSegments master (ended d n mode)
 
--- They stay so with an op, an id, a backup's failure, the end of a failover, and adoption.
+-- The heads stay segments through an op, an id that is taken, a backup's failure, the end of a failover, and adoption.
 abbrev pub OpHasSegments : Type 0
 OpHasSegments = (master : ℕ) (d e : FailData) (texts : Texts) (p : ModelShown) (o : Op) → HeadsAreSegments master d
     → IsHeldOp d texts p o e → HeadsAreSegments master e

@@ -1,4 +1,4 @@
--- What a master whose backups may fail keeps true of the replicas on them, whichever of these are left.
+-- What the bytes of replicas on the backups mean, whichever backups are left.
 use Rattle.std.specs.Prelude.{◌≡◌, ℕ, ◌≤◌, max, length, take, Bool, Option, Some}
 use Rattle.entry.specs.Meaning.{IsMeaning, IsClean, among, bound_of}
 use Rattle.replica.specs.Choice.{Choice, IsShownChoice, bag_of}
@@ -15,20 +15,21 @@ use Rattle.failover_bytes.specs.Choice.{IsOpenedHead, IsNewestOpenedOrNone}
 abbrev pub IsLeftChoice : ℕ → Shown → (ℕ → Bool) → Choice → Type 0
 IsLeftChoice master shown keep c = IsShownChoice (survivors keep shown) master c
 
--- The choice stands for the map after this many of the commands, each durable one among them, and gives a safe
--- version for what follows.
+-- The entries of the choice mean the map after the first `count` commands, and every durable command is among these.
+-- The choice also gives a safe version for the commands that follow.
 pub record StandsForPrefix (d : FailData) (c : Choice) (count : ℕ) : Type 0 where
   pub durable : durable_of d ≤ count
   pub within : count ≤ length d.history
   pub meaning : IsMeaning (among (bag_of c)) (state_after d count).contents
   pub safe : IsSafeAfter d.opening (take count (commands_of d.history)) (max c.opening.safe (bound_of (bag_of c)))
 
--- The sound picture, as it is shown.
+-- What the backups show is sound: whichever of them are left, no choice of the newest log loses a durable command, and
+-- there is a choice if both survive.
 pub record IsSoundInBytes (master : ℕ) (d : FailData) (shown : Shown) : Type 0 where
-  -- each replica of the master is a segment's text whose header names it
+  -- each replica of the master is a segment's text, whose header names the master and the segment
   pub texts : (b s : ℕ) (r : Replica) → shown.holds b master s ≡ Some r → IsTextOfSegment r.bytes master s
   pub digests : BearOneDigest shown.holds master
-  -- whichever backups are left, each choice is clean, holds the master's keys alone, and stands for a prefix
+  -- whichever backups are left, each choice is clean, has only keys of the master's tablets, and means a prefix
   pub clean : (keep : ℕ → Bool) (c : Choice) → IsLeftChoice master shown keep c → IsClean (among (bag_of c))
   pub keys : (keep : ℕ → Bool) (c : Choice) → IsLeftChoice master shown keep c → AreOfTablets d.config (bag_of c)
   pub prefix : (keep : ℕ → Bool) (c : Choice) → IsLeftChoice master shown keep c

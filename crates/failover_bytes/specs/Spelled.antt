@@ -17,7 +17,7 @@ spelled_replica master segment r = record { bytes = bytes_for master segment r.t
 abbrev pub AreSegments : ℕ → ModelShown → Type 0
 AreSegments master p = (b s : ℕ) (r : ModelReplica) → p.holds b s ≡ Some r → IsWholeText master s r.text
 
--- The replicas of this master and its least head spell what the model shows.
+-- The replicas of this master, and its least head in the registry, spell what the model shows.
 pub record IsSpelled (master : ℕ) (shown : Shown) (p : ModelShown) : Type 0 where
   pub replicas : (b s : ℕ) → shown.holds b master s ≡ option_map (spelled_replica master s) (p.holds b s)
   pub least : shown.least ≡ p.least
@@ -32,7 +32,7 @@ read_replica r = record {
   is_open = r.is_open;
 }
 
--- what the model shows of this master, as it is read
+-- what the model shows of this master, as it is read from the replicas' bytes
 abbrev pub read_shown : ℕ → Shown → ModelShown
 read_shown master shown = record {
   holds = λ b s. option_map read_replica (shown.holds b master s);

@@ -11,14 +11,15 @@ ghost use Rattle.failover_bytes.specs.Keeping.{KeepingIsSound, NewHoldsLog};
 ghost use Rattle.failover_bytes.specs.Keeping.{OkIsSpelled, FaultIsEither, HeldOpIsNeverWrong};
 ghost use Rattle.failover_bytes.specs.Held.{UnitsAreHeld};
 
-/// A text has as many bytes as the model counts, and what is written is what is read.
+/// A text has as many bytes as the model counts, and a reader of the bytes gets the text that was written.
 pub fn texts_spelled()
     ensures lengths { LengthIsSame }
     ensures written { TextsAreSpelled }
     ensures read { SpelledIsRead }
 {}
 
-/// A fleet never answers Wrong to an op of the model, and then spells what the model shows.
+/// A fleet never answers Wrong to an op that fits in the model, and spells what the model shows once the op is taken
+/// or has ended in a fault.
 pub fn ops_spelled()
     ensures never_wrong { OpIsNeverWrong }
     ensures taken { TakenIsSpelled }
@@ -32,14 +33,15 @@ pub fn choices_spelled()
     ensures choice { SpelledIsChoice }
 {}
 
-/// A picture that spells a sound one is sound.
+/// A picture that spells a sound one of the model is sound. Head and segments that both survive in bytes do so in the
+/// model, and `newest_opened` is the newest opened head.
 pub fn spelled_sound()
     ensures survival { SurvivesInModel }
     ensures newest { NewestIsOpened }
     ensures sound { SpelledIsSound }
 {}
 
-/// Each op leaves replicas that are whole segments, and the heads' texts stay so.
+/// Each op leaves replicas that are whole segments, and the texts of the heads stay whole segments.
 pub fn segments_written()
     ensures ops { OpLeavesSegments }
     ensures rolling { RollingHasSegments }
@@ -48,21 +50,22 @@ pub fn segments_written()
     ensures others { OthersHaveSegments }
 {}
 
-/// A fleet holds a new master's log, and the picture of one that keeps a log is sound.
+/// The picture of a fleet that keeps a log is sound. A fleet that holds nothing of a new master holds its log.
 pub fn fleet_keeps()
     ensures sound { KeepingIsSound }
     ensures new { NewHoldsLog }
 {}
 
-/// What an op that was asked leaves, of a master that is still loading too: the fleet spells what the model shows with the op
-/// taken, or, after a fault, what it showed before.
+/// The fleet spells what the model shows once an op of a master is taken, or, after a fault, perhaps what the model
+/// showed before the op. The fleet never answers Wrong if the master knows what is held. All this is true while the
+/// master is loading too.
 pub fn asked_is_spelled()
     ensures ok { OkIsSpelled }
     ensures fault { FaultIsEither }
     ensures never_wrong { HeldOpIsNeverWrong }
 {}
 
-/// Each backup of the head holds its durable units.
+/// Each backup that took the head's Open holds the head's durable units.
 pub fn bytes_held()
     ensures { UnitsAreHeld }
 {}

@@ -1,4 +1,4 @@
--- What was answered Ok, through every step and by the answer of each op.
+-- What a master counts is what was answered Ok, through every step and each answer to an op.
 use Rattle.std.proofs.Common.{◌≡◌, ℕ, zero, suc, ◌<◌, ◌≤◌, ◌⊎◌, inl, inr, Bool, true, false, cond, List, [], ◌∷◌, ◌++◌, length, take}
 use Rattle.std.proofs.Common.{append_assoc, append-nil, Some, refl, sym, ap, subst, ◌∙◌, arith}
 use Rattle.std.specs.Prelude.{None, ◌==◌}

@@ -1,4 +1,4 @@
--- A command that is applied leaves all intact, while a pass or a failover is open too.
+-- A command that is applied leaves the log intact, while a pass or a failover is open too.
 use Rattle.std.proofs.Common.{◌≡◌, ℕ, ◌≤◌, ◌⊎◌, inl, inr, List, [], ◌∷◌, ◌++◌, Some, refl, sym, ap, subst, ◌∙◌, arith}
 use Rattle.std.specs.Prelude.{None, filter}
 use Rattle.entry.specs.declared.entry.Entry.{Entry}

@@ -1,4 +1,4 @@
--- A pass that begins leaves all intact: it is opened, and then its survivors take their ids one after the other.
+-- A pass that begins leaves the log intact: it is opened, and then its survivors take their ids one after the other.
 use Rattle.std.proofs.Common.{◌≡◌, ℕ, zero, suc, ◌<◌, ◌⊎◌, inl, inr, true, false, List, [], ◌∷◌, refl, sym, ap, subst}
 use Rattle.std.proofs.Common.{◌∙◌, Some, arith}
 use Rattle.std.specs.Prelude.{None, IsSome, ◌==◌, filter}

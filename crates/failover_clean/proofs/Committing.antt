@@ -1,4 +1,4 @@
--- The commit of a pass that is ready leaves all intact, as it begins and as it ends.
+-- The commit of a pass that is ready leaves the log intact when it begins and when it ends.
 use Rattle.std.proofs.Common.{◌≡◌, ℕ, ◌<◌, ◌⊎◌, inl, inr, Bool, true, false, List, [], ◌∷◌, length, Some, refl}
 use Rattle.std.proofs.Common.{sym, ap, subst, ◌∙◌, arith}
 use Rattle.std.specs.Prelude.{Option, None, ◌==◌, if◌then◌else◌}

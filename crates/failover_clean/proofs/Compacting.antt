@@ -1,4 +1,4 @@
--- Compaction leaves all intact.
+-- Compaction leaves the log intact.
 use Rattle.std.proofs.Common.{refl, ◌≡◌, ℕ, inl, inr, List, sym, ap, subst, ◌∙◌}
 use Rattle.std.specs.Prelude.{filter}
 use Rattle.entry.specs.declared.entry.Entry.{Entry}

@@ -1,4 +1,4 @@
--- A copy leaves all intact: moved, carried or dropped.
+-- A pass's step over one entry leaves the log intact, whether it moves, carries or drops the entry.
 use Rattle.std.proofs.Common.{◌≡◌, ℕ, ◌<◌, inl, inr, Bool, true, false, cond, List, [], ◌∷◌, ◌++◌, refl, sym, ap}
 use Rattle.std.proofs.Common.{subst, ◌∙◌}
 use Rattle.std.specs.Prelude.{Some}

@@ -1,4 +1,4 @@
--- What is tracked is covered by images and replicas.
+-- A log that memory tracks is covered.
 use Rattle.std.proofs.Common.{ℕ, inl, inr}
 use Rattle.entry.specs.declared.key.Key.{Key}
 use Rattle.entry.specs.declared.entry.Object.{Object as ObjectValue}

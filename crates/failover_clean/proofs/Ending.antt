@@ -1,4 +1,4 @@
--- An ordinary roll that ends leaves all intact, or the fifth part of a failover.
+-- The end of an ordinary roll, also of a failover's, leaves the log intact.
 use Rattle.std.proofs.Common.{◌≡◌, ℕ, ◌⊎◌, inl, inr, true, false, Some, refl, sym, ap, subst, ◌∙◌, arith}
 use Rattle.std.specs.Prelude.{Option, None}
 use Rattle.entry.specs.Bag.{IsAmong}

@@ -1,4 +1,4 @@
--- A backup's failure leaves all intact, and the end of a failover.
+-- A backup's failure leaves the log intact, and so does the end of a failover.
 use Rattle.std.proofs.Common.{◌≡◌, ℕ, ◌⊎◌, inl, inr, false, List, [], ◌∷◌, refl, sym, ap, subst, ◌∙◌}
 use Rattle.entry.specs.declared.key.Key.{Key}
 use Rattle.entry.specs.declared.entry.Entry.{Entry}

@@ -1,4 +1,4 @@
--- What a fleet keeps of a master by the answer of each op.
+-- What a fleet keeps of a master after each answer to an op.
 use Rattle.std.proofs.Common.{◌≡◌, ℕ, inl, inr, List, ◌∷◌, Some, refl, sym, ap, subst, ◌∙◌}
 use Rattle.std.specs.Prelude.{None}
 use Rattle.std.proofs.lemmas.Option.{same_Some}

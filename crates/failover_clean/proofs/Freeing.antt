@@ -1,4 +1,4 @@
--- A replica that waits is freed: all is intact without it, whether the master knows it or not.
+-- A replica that waited and is freed leaves the log intact, whether or not the master learns it.
 use Rattle.std.proofs.Common.{◌≡◌, ℕ, ◌⊎◌, inl, inr, Bool, true, false, cond, List, [], ◌∷◌, Some, refl, sym, ap}
 use Rattle.std.proofs.Common.{subst, ◌∙◌}
 use Rattle.std.specs.Prelude.{Option, not, filter, IsSome}

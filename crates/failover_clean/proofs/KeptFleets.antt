@@ -1,4 +1,4 @@
--- What a fleet shows that keeps all of a master.
+-- What is true of a fleet that keeps all of a master.
 use Rattle.std.proofs.Common.{◌≡◌, ℕ, ◌⊎◌, inl, inr, List, length, refl, sym, ap, subst, ◌∙◌, arith}
 use Rattle.entry.specs.declared.entry.Entry.{Entry}
 use Rattle.entry.specs.Bag.{IsAmong}

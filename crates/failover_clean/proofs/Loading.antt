@@ -1,4 +1,4 @@
--- Another memory serves a master that is loading as well, and it finishes.
+-- A loading master goes on to load with another memory of the same images, and begins its history.
 use Rattle.std.proofs.Common.{◌≡◌, ℕ, inl, true, false, List, [], ◌∷◌, length, refl, sym, subst, ap, ◌∙◌, arith}
 use Rattle.std.specs.Prelude.{Some, None}
 use Rattle.entry.specs.Bag.{IsAmong}

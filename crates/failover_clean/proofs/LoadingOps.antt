@@ -1,4 +1,4 @@
--- An op of the head that is taken leaves a master that is loading so.
+-- A loading master goes on to load once an op on a head is taken.
 use Rattle.std.proofs.Common.{◌≡◌, ℕ, ◌⊎◌, inl, inr, true, List, ◌++◌, refl, sym, ap, subst, ◌∙◌}
 use Rattle.std.specs.Prelude.{Option, Some}
 use Rattle.entry.specs.Bag.{IsAmong}

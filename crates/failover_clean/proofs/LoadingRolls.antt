@@ -1,4 +1,4 @@
--- A roll that begins or ends leaves a master that is loading so.
+-- A loading master goes on to load when a roll begins or ends.
 use Rattle.std.proofs.Common.{◌≡◌, ℕ, ◌<◌, ◌⊎◌, inl, inr, true, false, List, [], ◌++◌, length, refl, sym, ap, subst}
 use Rattle.std.proofs.Common.{◌∙◌, arith}
 use Rattle.std.specs.Prelude.{Option, Some, None}

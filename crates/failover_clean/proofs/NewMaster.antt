@@ -1,4 +1,4 @@
--- Of a new master of which nothing is held all is intact.
+-- A new master's log is intact if the backups hold nothing of the master.
 use Rattle.std.proofs.Common.{◌≡◌, ℕ, inl, inr, List, [], Some, refl, sym, ap, subst, ◌∙◌, arith}
 use Rattle.std.proofs.lemmas.Option.{same_Some}
 use Rattle.entry.specs.declared.key.Key.{Key}

@@ -1,4 +1,4 @@
--- Each op of a master leaves all intact, and fits.
+-- Each op of a master leaves the log intact, and fits what is held.
 use Rattle.std.proofs.Common.{◌≡◌, ℕ, ◌<◌, inl, inr, Bool, true, false, cond, List, [], ◌∷◌, Some, refl, sym, ap, subst}
 use Rattle.std.proofs.Common.{◌∙◌, arith}
 use Rattle.std.specs.Prelude.{Option, not, filter, IsSome}

@@ -1,4 +1,4 @@
--- A roll that begins leaves all intact, or the third part of a failover.
+-- A roll that begins leaves the log intact, and so does a failover that begins to open its new head.
 use Rattle.std.proofs.Common.{◌≡◌, ℕ, ◌<◌, ◌≤◌, ◌⊎◌, inl, inr, Bool, true, false, List, [], Some, refl, sym, ap, subst}
 use Rattle.std.proofs.Common.{◌∙◌, arith}
 use Rattle.std.specs.Prelude.{Option, None, filter}

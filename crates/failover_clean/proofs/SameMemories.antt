@@ -1,4 +1,4 @@
--- All is intact of another memory that has the same images and pass, and whose index leads to the same objects.
+-- A log is intact with another memory that has the same images and pass, and whose index leads to the same objects.
 use Rattle.std.proofs.Common.{◌≡◌, ℕ, ◌⊎◌, inl, inr, true, List, refl, sym, ap, subst, ◌∙◌, arith}
 use Rattle.std.specs.Prelude.{Some, filter}
 use Rattle.std.proofs.lemmas.Option.{same_Some}

@@ -1,4 +1,4 @@
--- An op of a roll or a failover that is taken leaves all intact.
+-- An op of a roll or a failover that is taken leaves the log intact.
 use Rattle.std.proofs.Common.{◌≡◌, ℕ, ◌⊎◌, inl, inr, true, List, [], ◌∷◌, ◌++◌, length, Some, refl, sym, ap, subst, ◌∙◌}
 use Rattle.std.specs.Prelude.{Option, IsSome}
 use Rattle.std.proofs.lemmas.Option.{same_Some}

@@ -1,4 +1,4 @@
--- What images and replicas of the log set together keep of the map.
+-- What images and replicas of the log set together say of the map.
 use Rattle.std.specs.Prelude.{◌≡◌, ℕ, ◌⊎◌, Some}
 use Rattle.entry.specs.declared.entry.Object.{Object}
 use Rattle.entry.specs.declared.entry.Tombstone.{Tombstone}
@@ -29,21 +29,21 @@ pub record IsInReplica (d : FailData) (m : FailMemory) (p : Shown) (s : ℕ) (e 
 abbrev pub IsInLogBag : FailData → FailMemory → Shown → ℕ → Entry → Type 0
 IsInLogBag d m p s e = (IsAmong s (log_ids d m) × among (m.images s) e) ⊎ IsInReplica d m p s e
 
--- all that images hold
+-- an entry of an image of a segment of the log set
 abbrev pub image_bag : FailData → FailMemory → Entry → Type 0
 image_bag d m e = ImagesHave (log_ids d m) m.images e
 
--- all that images and replicas hold
+-- an entry of an image or of a replica of some segment of the log set
 abbrev pub log_bag : FailData → FailMemory → Shown → Entry → Type 0
 log_bag d m p e = (s : ℕ) × IsInLogBag d m p s e
 
--- a tombstone of the object in a segment may name that segment, or, if the segment is a victim, the open pass's
--- survivor that holds its copy
+-- The tombstone of an object that is in segment `s` may name `s`. If `s` is a victim, it may also name the survivor
+-- whose image has a copy of the object.
 abbrev pub MayName : FailMemory → ℕ → Object → ℕ → Type 0
 MayName m s o named = (named ≡ s)
     ⊎ (IsAmong s m.pass.victims × IsAmong named m.pass.survivors × among (m.images named) (entry.Object o))
 
--- The object's own tombstone is in an image, and names its segment.
+-- The object's own tombstone is in an image, and names the object's segment or the survivor that has its copy.
 pub record HasGrave (d : FailData) (m : FailMemory) (s : ℕ) (o : Object) : Type 0 where
   pub grave : Tombstone
   pub of_key : grave.key ≡ o.key
@@ -51,7 +51,8 @@ pub record HasGrave (d : FailData) (m : FailMemory) (s : ℕ) (o : Object) : Typ
   pub stands : image_bag d m (entry.Tombstone grave)
   pub names : MayName m s o grave.segment
 
--- The covered memory: images alone, and images with replicas, keep the map.
+-- The log is covered: images alone, and images with replicas, mean the map, and each dead object has its tombstone in
+-- an image.
 pub record IsCovered (d : FailData) (m : FailMemory) (p : Shown) : Type 0 where
   -- no two different objects share key and version
   pub image_clean : IsClean (image_bag d m)
@@ -59,5 +60,5 @@ pub record IsCovered (d : FailData) (m : FailMemory) (p : Shown) : Type 0 where
   -- both mean the map after the history
   pub image_meaning : IsMeaning (image_bag d m) (map_of d)
   pub log_meaning : IsMeaning (log_bag d m p) (map_of d)
-  -- each object that isn't its key's has its tombstone in an image, which names its segment
+  -- each dead object has its tombstone in an image
   pub dead : (s : ℕ) (o : Object) → IsInLogBag d m p s (entry.Object o) → IsDead (map_of d) o → HasGrave d m s o

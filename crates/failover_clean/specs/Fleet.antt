@@ -1,4 +1,4 @@
--- What a fleet keeps of a master and its memory, in bytes, by the answer of each op.
+-- What a fleet keeps of a master and its memory, in bytes, and what each answer to an op says of it.
 use Rattle.std.specs.Prelude.{◌≡◌, ◌⊎◌, ℕ, ◌<◌, ◌≤◌, List, [], length, true, false, Some, slice_get}
 use Rattle.std.specs.List.Sorted.{IsStrictlySortedBy}
 use Rattle.std.specs.Ordering.{nat_cmp}
@@ -52,37 +52,38 @@ shown_for d f = shown_of f d.config.master
 
 -- ---- a master
 
--- The fleet spells a log of whole segments, all is intact, and what the master counts was answered Ok.
+-- The fleet keeps all of a master: it spells an intact log of whole segments, and what the master counts was answered
+-- Ok.
 pub record KeepsAll (d : FailData) (m : FailMemory) (f : FleetState) : Type 0 where
   pub spelled : IsSpelled d.config.master (shown_for d f) (read_of d f)
   pub heads : HeadsAreSegments d.config.master d
   pub intact : IsIntact d m (read_of d f)
   pub acked : AreAcked d.config.master d f.acks intact.past
 
--- And the master knows what backups that haven't failed hold.
+-- The fleet holds all of a master: it keeps all, and the master knows what the backups that haven't failed hold.
 pub record HoldsAll (d : FailData) (m : FailMemory) (f : FleetState) : Type 0 where
   pub keeps : KeepsAll d m f
   pub knows : Knows d m (read_of d f)
 
 -- ---- durable
 
--- The replica is an image of the head that a repair sealed after a backup had failed: closed, with nothing but the
--- head's entries, and with each of them that memory still has.
+-- The replica is an image of the head that a failover sealed, so a backup had failed. The replica is closed. It has no
+-- other entries than the head, and all objects and tombstones of the head's image in memory.
 pub record IsSealedImage (d : FailData) (m : FailMemory) (h : Head) (r : Replica) : Type 0 where
   pub failed : d.failed ≡ [] → ⊥
   pub shut : r.is_open ≡ false
   pub within : (e : Entry) → among (data_in r.bytes) e → among (front_entries h (length h.units)) e
   pub whole : (k : Key) (e : Entry) → IsOfKey k e → IsAmong e (m.images h.start.id) → IsAmong e (data_in r.bytes)
 
--- The backup holds the head's whole text; or an image of it that a repair sealed.
+-- The backup holds the head's whole text, or an image of the head that a failover sealed.
 pub record HoldsPast (d : FailData) (m : FailMemory) (f : FleetState) (b : ℕ) (h : Head) : Type 0 where
   pub r : Replica
   pub held : f.picture b d.config.master h.start.id ≡ Some r
   pub text : (r.bytes ≡ bytes_up_to d.config.master h (length h.units)) ⊎ IsSealedImage d m h r
 
--- The durable count is the most records, from the first on, that are durable: each of their units was taken whole by as
--- many backups as replicas, by takes that answered Ok. While a failover is open it stays as it was, and all it counts
--- was so taken.
+-- The master's durable count is the greatest number of first records that are durable: as many backups as a segment
+-- has replicas took each of their units whole, in takes that answered Ok. While a failover is open, the count stays
+-- what it was, and all records that it counts are durable.
 pub record CountsDurable (d : FailData) (m : FailMemory) (f : FleetState) : Type 0 where
   -- the heads before the one in force
   pub past : List TakenHead
@@ -90,7 +91,7 @@ pub record CountsDurable (d : FailData) (m : FailMemory) (f : FleetState) : Type
   pub older : (h : TakenHead) → IsAmong h past → h.head.start.id < d.head.start.id
   pub counted : is_failing d.mode ≡ false → IsDurable d past (durable_of d)
   pub taken : AreTaken d past (durable_of d)
-  -- a backup that is counted for a head answered Ok to the head's bytes up to just as many units as it is counted to have
+  -- a backup that is counted for a head took, with Ok, just the head's bytes up to the units that are counted for it
   pub acked : (h : TakenHead) (b : ℕ) → IsAmong h (heads_of past d) → IsAmong b h.took
       → WasAcked f.acks b d.config.master h.head.start.id (bytes_up_to d.config.master h.head (h.counts b))
   -- a backup that is counted for any segment answered Ok to an Open or a Seal of it
@@ -98,13 +99,13 @@ pub record CountsDurable (d : FailData) (m : FailMemory) (f : FleetState) : Type
   -- each backup that took the head's Open holds each durable unit of it
   pub units : (place b : ℕ) (u : LogUnit) → slice_get d.head.units place ≡ Some u → u.number < durable_of d
       → HasTaken d d.head.start.id b → HoldsUnit (shown_for d f) d.config.master b d.head.start.id u
-  -- each home of a head that went before holds it, while the segment is of the log
+  -- each home of an earlier head holds it, as long as a digest lists the segment
   pub heads : (h : TakenHead) (b : ℕ) → IsAmong h past → IsOther d h.head.start.id → IsHome d h.head.start.id b
       → HoldsPast d m f b h.head
 
 -- ---- laws of what is kept
 
--- The picture is sound, and the newest opened head is the one that the master names.
+-- The picture is sound, and `newest_opened` gives the newest opened head that may be used, or none if there is none.
 abbrev pub KeptIsSound : Type 0
 KeptIsSound = (d : FailData) (m : FailMemory) (f : FleetState) → KeepsAll d m f
     → IsSoundInBytes d.config.master d (shown_for d f)
@@ -117,7 +118,7 @@ abbrev pub KeptIsDurable : Type 0
 KeptIsDurable = (d : FailData) (m : FailMemory) (f : FleetState) → KeepsAll d m f
     → length (homes d d.head.start.id) ≤ d.config.replicas → CountsDurable d m f
 
--- Replicas of other masters, their acks and their least heads don't matter.
+-- Nothing here depends on replicas, acks and least heads of other masters.
 abbrev pub OthersLeaveAll : Type 0
 OthersLeaveAll = (d : FailData) (m : FailMemory) (f g : FleetState)
     → ((b s : ℕ) → g.picture b d.config.master s ≡ f.picture b d.config.master s)
@@ -127,23 +128,23 @@ OthersLeaveAll = (d : FailData) (m : FailMemory) (f g : FleetState)
 
 -- ---- laws of ops
 
--- If the op is answered Ok, the fleet holds all that it leads to.
+-- If the op is answered Ok, the fleet holds all of the new master and memory.
 abbrev pub OkHoldsAll : Type 0
 OkHoldsAll = (d e : FailData) (m n : FailMemory) (f g : FleetState) (o : Op) → HoldsAll d m f → IsOp d m o e n
     → IsThere d.config o → TakesOp d.config.master f o g → HoldsAll e n g
 
--- If it ends in a fault, the fleet keeps all of the master as it was, which may halt.
+-- If the op ends in a fault, the fleet keeps all of the old master and memory, so the master may halt.
 abbrev pub FaultKeepsAll : Type 0
 FaultKeepsAll = (d e : FailData) (m n : FailMemory) (f g : FleetState) (o : Op) → HoldsAll d m f → IsOp d m o e n
     → IsThere d.config o → RefusesOp d.config.master f o take_fault.Fault g → KeepsAll d m g
 
--- And it holds all of a master whose failover is open.
+-- If the op ends in a fault that may open a failover, the fleet holds all of the master that has opened it.
 abbrev pub FaultFailsOver : Type 0
 FaultFailsOver = (d e : FailData) (m n : FailMemory) (f g : FleetState) (o : Op) (b : ℕ) → HoldsAll d m f
     → IsOp d m o e n → IsThere d.config o → IsOn b o → MayFail d
     → RefusesOp d.config.master f o take_fault.Fault g → HoldsAll (failing d b) (stopped m) g
 
--- The fleet never answers Wrong to it.
+-- The fleet never answers Wrong to the op.
 abbrev pub OpIsNeverWrong : Type 0
 OpIsNeverWrong = (d e : FailData) (m n : FailMemory) (f g : FleetState) (o : Op) → HoldsAll d m f → IsOp d m o e n
     → IsOnFleet f o → RefusesOp d.config.master f o take_fault.Wrong g → ⊥
@@ -154,7 +155,7 @@ abbrev pub FreshHoldsAll : Type 0
 FreshHoldsAll = (c : FailConfig) (f : FleetState) → MayBegin c (read_fleet c.master f)
     → HeadsAreSegments c.master (fresh c) → HoldsAll (fresh c) (first_memory c 1) f
 
--- The head is a whole segment with what is appended to it.
+-- A premise is that the head is a whole segment with the unit appended.
 abbrev pub ApplyHoldsAll : Type 0
 ApplyHoldsAll = (d : FailData) (m : FailMemory) (f : FleetState) (segment : ℕ) (r : Record) → HoldsAll d m f
     → MayApply d segment r → IsNamed m segment r
@@ -174,7 +175,7 @@ abbrev pub CopyHoldsAll : Type 0
 CopyHoldsAll = (d : FailData) (m : FailMemory) (f : FleetState) (first : Place) (rest : List Place) (s : ℕ) (e : Entry)
     → HoldsAll d m f → MayCopy d m first rest s e → HoldsAll d (copy_done d m first rest s e) f
 
--- The opening of the new head is a whole segment.
+-- A premise is that the opening of the new head is a whole segment.
 abbrev pub RollHoldsAll : Type 0
 RollHoldsAll = (d : FailData) (m : FailMemory) (f : FleetState) (mode : Mode) → HoldsAll d m f → MayTurn d mode
     → IsWholeText d.config.master (next_start d).id (bare (next_start d))
@@ -193,7 +194,7 @@ abbrev pub FinishHoldsAll : Type 0
 FinishHoldsAll = (d : FailData) (m : FailMemory) (f : FleetState) (n : Start) (mode : Mode) → HoldsAll d m f
     → EndsRoll d n mode → m.commits ≡ true → HoldsAll (ended d n mode) (finished d m) f
 
--- A failover ends.
+-- The fleet holds all once a failover has ended.
 abbrev pub MendHoldsAll : Type 0
 MendHoldsAll = (d : FailData) (m : FailMemory) (f : FleetState) → HoldsAll d m f → d.mode ≡ Repairs
     → HoldsAll (mended d) m f
@@ -204,7 +205,8 @@ SameHoldsAll = (d : FailData) (m n : FailMemory) (f : FleetState) → IsSameMemo
 
 -- ---- a master that is loading
 
--- The fleet spells a log of whole segments, which stands for what was loaded, and the master knows it.
+-- The fleet holds all of a loading master: it spells a log of whole segments, which represents what was loaded, and
+-- the master knows what is held.
 pub record HoldsLoading (d : FailData) (m : FailMemory) (f : FleetState) : Type 0 where
   pub spelled : IsSpelled d.config.master (shown_for d f) (read_of d f)
   pub heads : HeadsAreSegments d.config.master d
@@ -230,7 +232,7 @@ abbrev pub LoadingIsNeverWrong : Type 0
 LoadingIsNeverWrong = (d e : FailData) (m : FailMemory) (f g : FleetState) (o : Op) → HoldsLoading d m f
     → IsHeadOp d o e → IsOnFleet f o → RefusesOp d.config.master f o take_fault.Wrong g → ⊥
 
--- So it is with a repair in a failover.
+-- The fleet holds all of a loading master once an op of a failover seals a lost replica anew and is answered Ok.
 abbrev pub RepairHoldsLoading : Type 0
 RepairHoldsLoading = (d e : FailData) (m : FailMemory) (f g : FleetState) (o : Op) → HoldsLoading d m f
     → RepairsImage d m o e → IsThere d.config o → TakesOp d.config.master f o g → HoldsLoading e m g
@@ -239,7 +241,7 @@ abbrev pub RepairIsNeverWrong : Type 0
 RepairIsNeverWrong = (d e : FailData) (m : FailMemory) (f g : FleetState) (o : Op) → HoldsLoading d m f
     → RepairsImage d m o e → IsOnFleet f o → RefusesOp d.config.master f o take_fault.Wrong g → ⊥
 
--- If an op ends in a fault, the fleet holds what was loaded of a master whose failover is open.
+-- If an op ends in a fault, the fleet holds all of the loading master that has opened a failover.
 abbrev pub FaultFailsLoading : Type 0
 FaultFailsLoading = (d e : FailData) (m : FailMemory) (f g : FleetState) (o : Op) (b : ℕ) → HoldsLoading d m f
     → IsLoadingOp d m o e → IsThere d.config o → IsOn b o → MayFail d
@@ -262,7 +264,7 @@ abbrev pub SameHoldsLoading : Type 0
 SameHoldsLoading = (d : FailData) (m n : FailMemory) (f : FleetState) → IsSameMemory d m n → HoldsLoading d m f
     → HoldsLoading d n f
 
--- With all of it on the backups the history begins.
+-- Once all that was loaded is on the backups, the fleet holds all of the master whose history begins.
 abbrev pub FinishedHoldsAll : Type 0
 FinishedHoldsAll = (d : FailData) (m : FailMemory) (f : FleetState) → HoldsLoading d m f → d.mode ≡ Calm
     → ((b : ℕ) → HasTaken d d.head.start.id b → d.counts b ≡ length d.head.units)

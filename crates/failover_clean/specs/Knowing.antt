@@ -1,4 +1,4 @@
--- What a master knows stays so through every step that takes no op.
+-- A master that knows what its backups hold also knows it after every step that takes no op.
 use Rattle.std.specs.Prelude.{◌≡◌, ℕ, List, true, false}
 use Rattle.versioned_map.specs.declared.command.Record.{Record}
 use Rattle.failover_bytes.specs.log_model.Data.{Start}
@@ -18,7 +18,7 @@ abbrev pub ApplyKnows : Type 0
 ApplyKnows = (d : FailData) (m : FailMemory) (p : Shown) (segment : ℕ) (r : Record) → IsIntact d m p → Knows d m p
     → MayApply d segment r → Knows (applied d segment r) (recorded d m segment r) p
 
--- Another memory in which the same replicas wait.
+-- The master knows what is held with another memory too, if the same replicas wait to be freed in it.
 abbrev pub WaitingKnows : Type 0
 WaitingKnows = (d : FailData) (m n : FailMemory) (p : Shown) → Knows d m p → n.waiting ≡ m.waiting → Knows d n p
 
@@ -38,12 +38,12 @@ abbrev pub EndKnows : Type 0
 EndKnows = (d : FailData) (m : FailMemory) (p : Shown) (n : Start) (mode : Mode) → IsIntact d m p → Knows d m p
     → EndsRoll d n mode → m.commits ≡ false → Knows (ended d n mode) m p
 
--- Each home of a victim holds a replica of it, which then may be freed.
+-- Each home of a victim holds a replica of it, which waits to be freed once the commit has ended.
 abbrev pub FinishKnows : Type 0
 FinishKnows = (d : FailData) (m : FailMemory) (p : Shown) (n : Start) (mode : Mode) → IsIntact d m p → Knows d m p
     → EndsRoll d n mode → m.commits ≡ true → Knows (ended d n mode) (finished d m) p
 
--- After a fault of one backup, whatever it has done, the master knows what the others hold.
+-- The master knows what the other backups hold once one backup has failed, whatever that one did with its last op.
 abbrev pub FailKnows : Type 0
 FailKnows = (d : FailData) (m : FailMemory) (p q : Shown) (b : ℕ) → Knows d m p
     → ((c s : ℕ) → (c ≡ b → ⊥) → q.holds c s ≡ p.holds c s) → Knows (failing d b) (stopped m) q

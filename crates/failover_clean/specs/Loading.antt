@@ -27,7 +27,8 @@ use Rattle.failover_clean.specs.Steps.{first_memory, rolled, stopped}
 
 -- ---- an object is loaded
 
--- the master with the object, whose opening has it too: what is loaded is a unit of the head, and of no record
+-- The master once the object is loaded: it is a unit of the head that belongs to no record, and the state that the
+-- history will begin with has it.
 abbrev pub with_object : FailData → Object → FailData
 with_object d o = record d {
   opening = with_loaded d.opening o;
@@ -41,8 +42,8 @@ object_loaded d m o = record m {
   index = index_after m.images m.index d.head.start.id (entry.Object o);
 }
 
--- No roll is under way, the object's key is of the master's tablets and was not loaded, and its version is below the
--- safe one.
+-- The object may be loaded: no roll and no failover is under way, its key lies in the master's tablets and was not
+-- loaded before, and its version is below the safe version.
 pub record MayLoad (d : FailData) (o : Object) : Type 0 where
   pub calm : d.mode ≡ Calm
   pub key : have_key d.config.tablets o.key ≡ true
@@ -51,7 +52,7 @@ pub record MayLoad (d : FailData) (o : Object) : Type 0 where
 
 -- ---- ops
 
--- the op is on a replica of the head in force or of a new one, or a repair
+-- the op is one on the head in force or a new head, a raise of the registry, or a repair
 abbrev pub IsLoadingOp : FailData → FailMemory → Op → FailData → Type 0
 IsLoadingOp d m o e = IsHeadOp d o e ⊎ RepairsImage d m o e
 
@@ -64,15 +65,15 @@ pub record IsIdle (m : FailMemory) : Type 0 where
   pub commits : m.commits ≡ false
   pub waiting : m.waiting ≡ []
 
--- The backups hold texts that stand for what was loaded so far, which is the opening; images and index track it, and no
--- pass is open. A failover may be.
+-- What is true of a loading master. The opening is the state that was loaded so far. The backups hold texts that
+-- represent it, and images and index track it. No pass is open, but a failover may be open.
 pub record IsLoading (d : FailData) (m : FailMemory) (p : Shown) : Type 0 where
   pub texts : Texts
   pub held : IsLogHeld d texts p
-  -- it has no history, and its units are of no record
+  -- the master has no history, and its units belong to no record
   pub begins : d.history ≡ []
   pub numbers : (u : LogUnit) → IsAmong u d.head.units → u.number ≡ 0
-  -- if there is a head, bases with it stand for the opening, and so do those of the head that a roll is opening
+  -- if there is a head, its base with all its units represents the opening, and so does the base of a new head
   pub stands : (d.head.start.id ≡ 0 → ⊥) → (base : List Entry) → IsBase texts d.head.start.others base
       → Represents d.head.start.safe (base ++ front_entries d.head (length d.head.units)) d.opening
   pub new : (n : Start) → new_of d.mode ≡ Some n → BasesStand texts n d.opening
@@ -95,36 +96,38 @@ pub record IsLoading (d : FailData) (m : FailMemory) (p : Shown) : Type 0 where
 
 -- ---- laws
 
--- A new master of which nothing is held is loading, and knows it.
+-- A new master is loading and knows what is held, if the backups hold nothing of it.
 abbrev pub RestoredIsLoading : Type 0
 RestoredIsLoading = (c : FailConfig) (safe : ℕ) (p : Shown) → MayBegin c p
     → IsLoading (restored c safe) (first_memory c safe) p × Knows (restored c safe) (first_memory c safe) p
 
--- It goes on with one object more.
+-- The master goes on to load once it has loaded one more object.
 abbrev pub LoadKeeps : Type 0
 LoadKeeps = (d : FailData) (m : FailMemory) (p : Shown) (o : Object) → IsLoading d m p → MayLoad d o
     → IsLoading (with_object d o) (object_loaded d m o) p
     × (Knows d m p → Knows (with_object d o) (object_loaded d m o) p)
 
--- With an op of the head taken it goes on, whether the master knows it or not; and the op fits.
+-- The master goes on to load once an op on a head is taken, whether or not it learns that the op was taken.
 abbrev pub LoadingOpKeeps : Type 0
 LoadingOpKeeps = (d e : FailData) (m : FailMemory) (p q : Shown) (o : Op) → IsLoading d m p → IsHeadOp d o e
     → IsThere d.config o → taken p o ≡ Some q → IsLoading d m q × IsLoading e m q
 
+-- An op on a head fits, and the loading master knows what is held once the op is taken.
 abbrev pub LoadingOpFits : Type 0
 LoadingOpFits = (d e : FailData) (m : FailMemory) (p : Shown) (o : Op) → IsLoading d m p → Knows d m p
     → IsHeadOp d o e → (q : Shown) × (taken p o ≡ Some q) × Knows e m q
 
--- So it does with a repair.
+-- The master goes on to load once a repair is taken, whether or not it learns that the repair was taken.
 abbrev pub LoadingRepairKeeps : Type 0
 LoadingRepairKeeps = (d e : FailData) (m : FailMemory) (p q : Shown) (o : Op) → IsLoading d m p → RepairsImage d m o e
     → IsThere d.config o → taken p o ≡ Some q → IsLoading d m q × IsLoading e m q
 
+-- A repair fits, and the loading master knows what is held once the repair is taken.
 abbrev pub LoadingRepairFits : Type 0
 LoadingRepairFits = (d e : FailData) (m : FailMemory) (p : Shown) (o : Op) → IsLoading d m p → Knows d m p
     → RepairsImage d m o e → (q : Shown) × (taken p o ≡ Some q) × Knows e m q
 
--- It goes on when a backup fails, whatever the op that it was asked for has done, and when the failover ends.
+-- The master goes on to load when a backup fails, and when the failover ends.
 abbrev pub LoadingFails : Type 0
 LoadingFails = (d : FailData) (m : FailMemory) (p : Shown) (b : ℕ) → IsLoading d m p → MayFail d
     → IsLoading (failing d b) (stopped m) p
@@ -133,7 +136,7 @@ abbrev pub LoadingMends : Type 0
 LoadingMends = (d : FailData) (m : FailMemory) (p : Shown) → IsLoading d m p → Knows d m p → d.mode ≡ Repairs
     → IsLoading (mended d) m p × Knows (mended d) m p
 
--- It goes on when a roll begins, and when one ends, in a failover too.
+-- The master goes on to load when a roll begins and when it ends, in a failover too.
 abbrev pub LoadingRollKeeps : Type 0
 LoadingRollKeeps = (d : FailData) (m : FailMemory) (p : Shown) (mode : Mode) → IsLoading d m p → MayTurn d mode
     → IsLoading (rolling d (next_start d) mode) (rolled d m (next_start d) false) p
@@ -143,12 +146,14 @@ abbrev pub LoadingEndKeeps : Type 0
 LoadingEndKeeps = (d : FailData) (m : FailMemory) (p : Shown) (n : Start) (mode : Mode) → IsLoading d m p
     → Knows d m p → EndsRoll d n mode → IsLoading (ended d n mode) m p × Knows (ended d n mode) m p
 
--- Another memory with the same images and pass, whose index leads to the same objects, serves it as well.
+-- The master goes on to load with another memory that has the same images and pass, and whose index leads to the same
+-- objects.
 abbrev pub SameIsLoading : Type 0
 SameIsLoading = (d : FailData) (m n : FailMemory) (p : Shown) → IsLoading d m p → IsSameMemory d m n
     → IsLoading d n p
 
--- With all of it on the backups all is intact of the master whose history begins with what was loaded.
+-- Once all that was loaded is on the backups, the log is intact of the master whose history begins with what was
+-- loaded.
 abbrev pub FinishIsIntact : Type 0
 FinishIsIntact = (d : FailData) (m : FailMemory) (p : Shown) → IsLoading d m p → Knows d m p → d.mode ≡ Calm
     → ((b : ℕ) → HasTaken d d.head.start.id b → d.counts b ≡ length d.head.units)

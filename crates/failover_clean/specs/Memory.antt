@@ -1,4 +1,4 @@
--- What memory has of a log whose backups may fail.
+-- What a master's memory has of a log whose backups may fail.
 use Rattle.std.specs.Prelude.{ℕ, ◌≡◌, ◌++◌, List, Bool, filter}
 use Rattle.entry.specs.declared.entry.Entry.{Entry}
 use Rattle.entry.specs.Bag.{IsAmong}
@@ -16,16 +16,16 @@ pub record Spot : Type 0 where
   pub segment : ℕ
   pub backup : ℕ
 
--- All that memory has.
+-- A master's memory: images, index, the open pass, and the replicas that wait to be freed.
 pub record FailMemory : Type 0 where
   pub images : Images
   pub index : Index
   pub pass : Pass
-  -- the places that the pass has before its cursor
+  -- the places that lie ahead of the pass's cursor
   pub rest : List Place
-  -- the roll that is under way is the pass's commit
+  -- true if the roll that is under way is the commit of the pass
   pub commits : Bool
-  -- replicas of victims of earlier passes
+  -- the replicas of victims of earlier passes that wait to be freed
   pub waiting : List Spot
 
 -- the objects and tombstones of each segment's text
@@ -46,11 +46,12 @@ log_set_of d m texts = record { ids = log_ids d m; image = m.images; text = entr
 abbrev pub data_of : FailMemory → ℕ → List Entry
 data_of m s = filter is_data (m.images s)
 
--- what memory has of a segment, as a text
+-- the text that a segment's image spells: its opening, if it has one, and its objects and tombstones
 abbrev pub text_in : FailMemory → ℕ → Text
 text_in m s = record { opening = opening_of (m.images s); entries = data_of m s }
 
--- the image of each segment of the log set is what its text begins with, and then objects and tombstones
+-- the image of each segment of the log set has the header and opening of the segment's text, and then objects and
+-- tombstones
 abbrev pub AreImages : FailData → FailMemory → Texts → Type 0
 AreImages d m texts = (s : ℕ) → IsAmong s (log_ids d m)
     → m.images s ≡ entries_for d.config.master s (record (texts.text s) { entries = data_of m s })

@@ -1,4 +1,4 @@
--- The ops of a master: of its head and the next one, of a failover, seals, repairs and frees.
+-- The ops of a master: on the head in force and a new head, seals of survivors, repairs and frees.
 use Rattle.std.specs.Prelude.{◌≡◌, ◌⊎◌, ℕ, Some}
 use Rattle.failover_bytes.specs.failover_model.Shown.{Shown, Op, taken}
 use Rattle.failover_bytes.specs.failover_model.Data.{FailData}
@@ -22,7 +22,7 @@ pub record SealsSurvivor (d : FailData) (m : FailMemory) (o : Op) (e : FailData)
   pub op : o ≡ seal_op m s b
   pub gives : e ≡ record d { took = with_taken d.took s b }
 
--- A lost replica of a segment of the log is sealed anew, from its image.
+-- A lost replica of a segment of the log is sealed anew, with the segment's image in memory.
 pub record RepairsImage (d : FailData) (m : FailMemory) (o : Op) (e : FailData) : Type 0 where
   pub s : ℕ
   pub b : ℕ
@@ -31,7 +31,7 @@ pub record RepairsImage (d : FailData) (m : FailMemory) (o : Op) (e : FailData) 
   pub op : o ≡ seal_op m s b
   pub gives : e ≡ record d { took = with_taken d.took s b }
 
--- A replica that waits is freed.
+-- A replica that waits to be freed is freed.
 pub record FreesSpot (d : FailData) (m : FailMemory) (o : Op) (n : FailMemory) : Type 0 where
   pub s : ℕ
   pub b : ℕ
@@ -39,7 +39,7 @@ pub record FreesSpot (d : FailData) (m : FailMemory) (o : Op) (n : FailMemory) :
   pub op : o ≡ free_op s b
   pub gives : n ≡ freed m (record { segment = s; backup = b })
 
--- with the op taken master and memory are these
+-- the master may ask for the op; once the op is taken, `e` is the master and `n` its memory
 abbrev pub IsOp : FailData → FailMemory → Op → FailData → FailMemory → Type 0
 IsOp d m o e n =
     (IsHeadOp d o e × (n ≡ m))
@@ -49,12 +49,13 @@ IsOp d m o e n =
 
 -- ---- laws
 
--- With an op taken all is intact, whether the master knows it or not.
+-- The log is intact once an op is taken: with the old master and memory, if the master doesn't learn that the op was
+-- taken, and with the new ones, if it does.
 abbrev pub OpKeeps : Type 0
 OpKeeps = (d e : FailData) (m n : FailMemory) (p q : Shown) (o : Op) → (i : IsIntact d m p) → IsOp d m o e n
     → IsThere d.config o → taken p o ≡ Some q → IsIntactWith i.past d m q × IsIntactWith i.past e n q
 
--- The op fits, and then the master knows what is held.
+-- The op fits what is held, and the master knows what is held once the op is taken.
 abbrev pub OpFits : Type 0
 OpFits = (d e : FailData) (m n : FailMemory) (p : Shown) (o : Op) → IsIntact d m p → Knows d m p → IsOp d m o e n
     → (q : Shown) × (taken p o ≡ Some q) × Knows e n q

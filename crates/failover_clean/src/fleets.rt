@@ -10,7 +10,8 @@ ghost use Rattle.failover_clean.specs.Fleet.{RepairHoldsLoading, RepairIsNeverWr
 ghost use Rattle.failover_clean.specs.Fleet.{MendHoldsLoading};
 ghost use Rattle.failover_clean.specs.Fleet.{SameHoldsLoading, FinishedHoldsAll};
 
-/// A fleet that keeps all shows a sound picture, which memory and replicas cover, and has each durable unit.
+/// If a fleet keeps all of a master, its picture is sound, memory and replicas are covered, and the durable count is
+/// that of the takes that answered Ok. Other masters' replicas don't matter to this.
 pub fn what_fleets_keep()
     ensures sound { KeptIsSound }
     ensures covered { KeptIsCovered }
@@ -18,8 +19,8 @@ pub fn what_fleets_keep()
     ensures others { OthersLeaveAll }
 {}
 
-/// What an op leaves, by its answer: after Ok the fleet holds all, and after a fault it keeps all, of a master that
-/// halts and of one whose failover is open.
+/// After an op that is answered Ok, the fleet holds all of the master. After a fault that halts the master, the fleet
+/// keeps all, and after one that opens a failover it holds all. The fleet never answers Wrong.
 pub fn answers_keep()
     ensures ok { OkHoldsAll }
     ensures fault { FaultKeepsAll }
@@ -37,7 +38,8 @@ pub fn steps_hold()
     ensures same { SameHoldsAll }
 {}
 
-/// So it does as a roll begins and as it ends, an ordinary one or a pass's commit, in a failover too, and as that ends.
+/// A fleet holds all when an ordinary roll or a commit begins and when it ends, in a failover too, and when a failover
+/// ends.
 pub fn rolls_hold()
     ensures rolls { RollHoldsAll }
     ensures commits { CommitHoldsAll }
@@ -46,7 +48,8 @@ pub fn rolls_hold()
     ensures mends { MendHoldsAll }
 {}
 
-/// What a fleet holds of a master that is loading, also while a failover is open.
+/// A fleet holds all of a loading master through each object, op, roll and failover. It holds all of the master whose
+/// history begins with what was loaded.
 pub fn loading_holds()
     ensures restored { RestoredHoldsLoading }
     ensures loads { LoadHoldsLoading }

@@ -13,32 +13,33 @@ ghost use Rattle.failover_clean.specs.Loading.{RestoredIsLoading, LoadKeeps, Loa
 ghost use Rattle.failover_clean.specs.Loading.{LoadingRepairKeeps, LoadingRepairFits, LoadingFails, LoadingMends};
 ghost use Rattle.failover_clean.specs.Loading.{LoadingRollKeeps, LoadingEndKeeps, SameIsLoading, FinishIsIntact};
 
-/// If all is intact, images and replicas together keep the map, and the picture is sound.
+/// An intact log is covered: images alone, and images and replicas together, mean the map.
 pub fn what_intact_says()
     ensures { IntactIsCovered }
 {}
 
-/// Of a new master of which nothing is held all is intact.
+/// A new master's log is intact if the backups hold nothing of the master.
 pub fn fresh_is_intact()
     ensures { FreshIsIntact }
 {}
 
-/// A command that is applied leaves all intact, while a pass or a failover is open too.
+/// A command that is applied leaves the log intact, while a pass or a failover is open too.
 pub fn apply_keeps()
     ensures { ApplyKeeps }
 {}
 
-/// Compaction leaves all intact.
+/// Compaction leaves the log intact.
 pub fn compact_keeps()
     ensures { CompactKeeps }
 {}
 
-/// A copy of one entry of the victims leaves all intact.
+/// A pass's step over one entry of the victims leaves the log intact.
 pub fn copy_keeps()
     ensures { CopyKeeps }
 {}
 
-/// An op of a roll or a failover that is taken leaves all intact, also if nobody knows that it was.
+/// An op of a roll or a failover that is taken leaves the log intact, also if the master doesn't learn that the op was
+/// taken.
 pub fn op_keeps()
     ensures extends { ExtendKeeps }
     ensures opens { OpenKeeps }
@@ -47,7 +48,7 @@ pub fn op_keeps()
     ensures closes { CloseKeeps }
 {}
 
-/// A roll, ordinary or a pass's commit, leaves all intact as it begins and as it ends, in a failover too.
+/// A roll, ordinary or a commit, leaves the log intact when it begins and when it ends, in a failover too.
 pub fn roll_keeps()
     ensures begins { RollKeeps }
     ensures commits { CommitKeeps }
@@ -55,47 +56,50 @@ pub fn roll_keeps()
     ensures finishes { FinishKeeps }
 {}
 
-/// A repair may seal an image, and leaves all intact, also if nobody knows that it was taken.
+/// A failover may seal a segment's image anew. This leaves the log intact, also if the master doesn't learn that the
+/// op was taken.
 pub fn repair_keeps()
     ensures image { ImageIsRepair }
     ensures keeps { RepairKeeps }
 {}
 
-/// A pass that begins leaves all intact, with however many survivors.
+/// A pass that begins leaves the log intact, whatever number of survivors it has.
 pub fn begin_keeps()
     ensures kept { BeginKeeps }
     ensures survivors { BegunSurvivors }
 {}
 
-/// A replica of a survivor that is sealed leaves all intact, also if nobody knows that it was.
+/// A survivor that is sealed on a backup leaves the log intact, also if the master doesn't learn that the op was
+/// taken.
 pub fn seal_keeps()
     ensures { SealKeeps }
 {}
 
-/// A backup's failure leaves all intact, and so does the end of a failover.
+/// A backup's failure leaves the log intact, and so does the end of a failover.
 pub fn failure_keeps()
     ensures fails { FailKeeps }
     ensures mends { MendKeeps }
 {}
 
-/// A replica that is freed leaves all intact, also if nobody knows that it was.
+/// A replica that is freed leaves the log intact, also if the master doesn't learn that the op was taken.
 pub fn free_keeps()
     ensures { FreeKeeps }
 {}
 
-/// All is intact of another memory if it has the same images and pass, and its index leads to the same objects.
+/// A log is also intact with another memory that has the same images and pass, and whose index leads to the same
+/// objects. The master then knows what it knew.
 pub fn same_is_intact()
     ensures intact { SameIsIntact }
     ensures knows { SameKnows }
 {}
 
-/// Each op of a master fits, and leaves all intact, whether the master knows that it was taken or not.
+/// Each op of a master fits, and leaves the log intact whether or not the master learns that the op was taken.
 pub fn ops_keep()
     ensures keeps { OpKeeps }
     ensures fits { OpFits }
 {}
 
-/// What a master knows of its backups stays so through each step that takes no op.
+/// A master that knows what its backups hold also knows it after each step that takes no op.
 pub fn knowing_stays()
     ensures fresh { FreshKnows }
     ensures applied { ApplyKnows }
@@ -109,8 +113,8 @@ pub fn knowing_stays()
     ensures mends { MendKnows }
 {}
 
-/// A master that is loading goes on with each object, op and roll, and through a failover; with all of it on the
-/// backups all is intact.
+/// A loading master goes on to load through each object, op, roll and failover. Once all that it loaded is on the
+/// backups, its log is intact.
 pub fn loading_keeps()
     ensures restored { RestoredIsLoading }
     ensures loads { LoadKeeps }

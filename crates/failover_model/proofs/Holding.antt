@@ -1,4 +1,4 @@
--- What replicas hold of their texts, and what is on all backups of the head.
+-- Which entries of their texts replicas hold, and which units all backups of the head hold.
 use Rattle.std.proofs.Common.{◌≡◌, ℕ, ◌<◌, inl, inr, [], length, Some, sym, subst, arith}
 use Rattle.std.specs.Prelude.{slice_get}
 use Rattle.std.proofs.lemmas.Bool.{cases_lt}

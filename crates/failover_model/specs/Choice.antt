@@ -42,7 +42,7 @@ pub record IsChoice (s : Shown) (c : Choice) : Type 0 where
 -- ---- which losses leave it
 
 -- The layer above names the homes of segments (the backups that took an Open or a Seal of them and haven't failed), and
--- the opened heads (as many backups as replicas took their Open).
+-- the opened heads (as many backups as a segment has replicas took their Open).
 
 -- a replica of the head is on a backup that is left
 abbrev pub IsHeadLeft : Shown → (ℕ → Bool) → ℕ → Type 0

@@ -47,7 +47,7 @@ pub record IsDurable (d : FailData) (past : List TakenHead) (count : ℕ) : Type
   pub greatest : (more : ℕ) → more ≤ length d.history → AreTaken d past more → more ≤ count
 
 -- The earlier heads and the head in force have the units of the history, in order. As many backups as a segment has
--- replicas took each unit of an earlier head, and also each unit of the head in force once a new head is opened.
+-- replicas took each unit of an earlier head, and also each unit of the head in force once a backup opened a new head.
 pub record IsPast (d : FailData) (past : List TakenHead) : Type 0 where
   pub units : AreNumbered d.opening 0 (commands_of d.history) (units_in (heads_of past d))
   pub whole : (h : TakenHead) (place : ℕ) (u : LogUnit) → IsAmong h past → slice_get h.head.units place ≡ Some u

@@ -327,8 +327,8 @@ pub record ClosesOld (d : FailData) (o : Op) (e : FailData) : Type 0 where
   pub op : o ≡ On b d.head.start.id Close
   pub gives : e ≡ record d { shut = b ∷ d.shut }
 
--- A lost replica of another segment is sealed anew on a backup that hasn't failed. It gets the segment's image, which
--- has no entry that the text lacks.
+-- A lost replica of another segment is sealed anew on a backup that hasn't failed. It gets an image of the segment,
+-- which has no entry that the text lacks.
 pub record Reseals (d : FailData) (texts : Texts) (o : Op) (e : FailData) : Type 0 where
   pub b : ℕ
   pub s : ℕ

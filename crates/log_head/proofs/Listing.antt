@@ -1,4 +1,4 @@
--- The next head's digest, if it lists lengths.
+-- The next head's digest under format 2, which lists lengths.
 use Rattle.std.proofs.Common.{◌≡◌, ℕ, zero, suc, ◌+◌, ◌<◌, ◌≤◌, ◌^◌, inl, inr, Bool, true, false, cond, List, []}
 use Rattle.std.proofs.Common.{◌∷◌, ◌++◌, length, refl, sym, ap, subst, ◌∙◌, arith}
 use Rattle.std.specs.Prelude.{Option, Some, None, slice_get, unwrap_or, map, ◌*◌, ◌==◌, if◌then◌else◌}

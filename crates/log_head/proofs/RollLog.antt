@@ -1,4 +1,4 @@
--- What a roll of a head is to the log.
+-- A roll of a head is a roll of the log's head.
 use Rattle.std.proofs.Common.{◌≡◌, ℕ, suc, Bool, true, false, List, [], ◌∷◌, length, refl, sym, ap, subst, ◌∙◌}
 use Rattle.std.specs.Prelude.{Option, Some, None, IfSome, map, if◌then◌else◌}
 use Rattle.std.proofs.lemmas.List.{append-nil}

@@ -13,11 +13,11 @@ use Rattle.log_head.specs.declared.head.UnitEnd.{UnitEnd}
 
 pub record HeadValue : Type 0 where
   pub id : ℕ
-  -- how many replicas it will have
+  -- how many replicas the head will have
   pub replicas : ℕ
   -- what the image holds
   pub image : List Entry
-  -- where the units begin in the image: behind the opening and what was loaded
+  -- the offset in bytes at which the units begin in the image, behind the opening and what was loaded
   pub base : ℕ
   pub units : List UnitEnd
   -- how many units each opened replica has
@@ -25,29 +25,29 @@ pub record HeadValue : Type 0 where
   -- the roll that is under way
   pub roll : Option Roll
 
--- the digest that an image bears
+-- the digest in an image; an image without an opening counts as one whose digest lists nothing
 abbrev pub digest_in : List Entry → Digest
 digest_in image = option_map_or (λ (o : Opening). o.digest) (opening_of image) (digest.Ids [])
 
--- the ids of it
+-- the ids of the digest in an image
 abbrev pub digest_of : List Entry → List ℕ
 digest_of image = listed_ids (digest_in image)
 
--- all replicas are open, and no roll is under way
+-- true if all replicas are open and no roll is under way
 abbrev pub is_open : HeadValue → Bool
 is_open h = (length h.taken == h.replicas) && is_none h.roll
 
--- where the first units end: the length of a replica that has just these units
+-- the offset at which the first units end: the length of a replica that has just these units
 abbrev pub end_of : ℕ → List UnitEnd → ℕ → ℕ
 end_of from us zero = from
 end_of from [] (suc n) = from
 end_of from (u ∷ us) (suc n) = end_of u.end us n
 
--- the record of the unit at this place
+-- the number of the record of the unit at this place; None if no unit is there
 abbrev pub record_at : List UnitEnd → ℕ → Option ℕ
 record_at us place = option_map (λ (u : UnitEnd). u.number) (slice_get us place)
 
--- the length of the image once this unit is at its end
+-- the length in bytes of the image once this unit is at its end
 abbrev pub len_with : List Entry → List Entry → ℕ
 len_with image unit = length (text_of image) + length (text_of unit)
 
@@ -82,14 +82,14 @@ IsLagging units ns (Some j) =
     (n : ℕ) × (slice_get ns j ≡ Some n) × (n < units) × AllByRecursion (λ m. n ≤ m) ns
     × AllByRecursion (λ m. n < m) (take j ns)
 
--- how many units every replica has
+-- how many of the first units every replica has; none while a replica isn't open yet
 abbrev pub everywhere : HeadValue → ℕ
 everywhere h = if nat_lt (length h.taken) h.replicas then 0 else fewest (length h.units) h.taken
 
--- there is a record, and its number is at most this one
+-- true if there is a record and its number is at most this one
 abbrev pub is_up_to : ℕ → Option ℕ → Bool
 is_up_to number first = option_map_or (λ (n : ℕ). nat_le n number) first false
 
--- some replica lacks a unit of a record up to this number: the first unit that one lacks is of such a record
+-- true if some replica lacks a unit of a record up to this number
 abbrev pub lacks_to : HeadValue → ℕ → Bool
 lacks_to h number = is_up_to number (record_at h.units (everywhere h))

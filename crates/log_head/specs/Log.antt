@@ -1,4 +1,4 @@
--- What a head is to the log: its opening, what was loaded, and the units in its image between the ends.
+-- Which head of a log an image holds: its opening, what was loaded, and the units between the ends.
 use Rattle.std.specs.Prelude.{◌≡◌, ℕ, ◌+◌, ◌-◌, List, [], ◌∷◌, length, take, drop, Option, Some, None}
 use Rattle.std.specs.Prelude.{map, IfSome}
 use Rattle.entry.specs.declared.digest.Listed.{Listed}
@@ -23,7 +23,7 @@ abbrev pub other_lens : Digest → Option (List ℕ)
 other_lens (digest.Ids ids) = None
 other_lens (digest.Lengths segments) = Some (but_last (map (λ (s : Listed). s.len) segments))
 
--- what a head with this id begins with, if its image has this opening
+-- the start of a head with this id, whose image has this opening
 abbrev pub start_in : ℕ → Option Opening → Start
 start_in id None = record { id = id; others = []; lens = None; safe = 0 }
 start_in id (Some o) = record {
@@ -51,7 +51,7 @@ units_from bytes from (e ∷ es) =
 abbrev pub loaded_in : HeadValue → List Entry
 loaded_in h = data_in (take h.base (text_of h.image))
 
--- the head as the log knows it
+-- the head of the log that is read from the image, with the counts of its replicas
 abbrev pub head_of : HeadValue → Head
 head_of h = record {
   start = start_in h.id (opening_of h.image);
@@ -60,7 +60,7 @@ head_of h = record {
   taken = h.taken;
 }
 
--- a head of the log once all that it holds was loaded, and each of its replicas has that
+-- a head of the log once all that it holds counts as loaded, and each of its replicas has it
 abbrev pub settled_head : ℕ → Head → Head
 settled_head replicas l = record {
   start = l.start;
@@ -69,7 +69,7 @@ settled_head replicas l = record {
   taken = no_units replicas;
 }
 
--- what the new head of a roll begins with
+-- the start of a roll's new head
 abbrev pub start_of : Roll → Start
 start_of r = start_in r.id (opening_of r.image)
 

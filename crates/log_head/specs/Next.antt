@@ -9,13 +9,14 @@ use Rattle.log_head.specs.declared.next.Next.{Next}
 use Rattle.log_head.specs.declared.next.Next.TheVariants as next
 use Rattle.log_head.specs.Head.{HeadValue, end_of, IsLagging}
 
--- each replica is open and has each unit
+-- Each replica is open and has each unit.
 pub record IsWholeHead (h : HeadValue) : Type 0 where
   pub opened : length h.taken ≡ h.replicas
   pub none_lags : IsLagging (length h.units) h.taken None
 
--- The order of pushes: first the first head is opened, then the replica that lags most is extended, then the new head
--- of a roll is opened, and then the old head is closed. A replacement of a lost replica is never among them.
+-- The order of pushes: first each replica of the head is opened, then the replica that lags most is extended, then the
+-- new head of a roll is opened, and then the old head is closed. None means that nothing is to push. A replacement of
+-- a lost replica is no part of this order.
 abbrev pub IsNextPush : HeadValue → Option Next → Type 0
 IsNextPush h None = IsWholeHead h × (h.roll ≡ None)
 IsNextPush h (Some (next.OpenFirst j)) = (j ≡ length h.taken) × (j < h.replicas)
@@ -26,9 +27,9 @@ IsNextPush h (Some (next.OpenNew j)) =
 IsNextPush h (Some (next.CloseOld j)) =
     IsWholeHead h × (r : Roll) × (h.roll ≡ Some r) × (j ≡ r.closed) × (r.opened ≡ h.replicas)
 
--- ---- its op
+-- ---- the op of a push
 
--- What the op of a push needs: a replica that it extends is open, and a new head is that of a roll.
+-- The push has an op: a replica that it extends is open, and if it opens a new head, a roll is under way.
 abbrev pub HasOp : HeadValue → Next → Type 0
 HasOp h (next.OpenFirst j) = Unit {0}
 HasOp h (next.Extend j) = j < length h.taken
@@ -36,7 +37,7 @@ HasOp h (next.OpenWhole j) = Unit {0}
 HasOp h (next.OpenNew j) = IsSome h.roll
 HasOp h (next.CloseOld j) = Unit {0}
 
--- the replica that it is for
+-- the number of the replica to which the push does something
 abbrev pub replica_of : Next → ℕ
 replica_of (next.OpenFirst j) = j
 replica_of (next.Extend j) = j
@@ -54,12 +55,12 @@ bytes_between h from to =
     let start = end_of h.base h.units from in
     take (end_of h.base h.units to - start) (drop start (text_of h.image))
 
--- the segment that it is for
+-- the segment that the op of the push names: a roll's new head or this head
 abbrev pub segment_of : HeadValue → Next → ℕ
 segment_of h (next.OpenNew j) = option_map_or (λ (r : Roll). r.id) h.roll h.id
 segment_of h _ = h.id
 
--- the image of the new head's opening
+-- the bytes of the image of a roll's new head: its opening
 abbrev pub new_bytes : HeadValue → List ℕ
 new_bytes h = option_map_or (λ (r : Roll). text_of r.image) h.roll []
 

@@ -1,4 +1,4 @@
--- What a head becomes.
+-- How a head changes by each call.
 use Rattle.std.specs.Prelude.{◌≡◌, ◌≤◌, ℕ, suc, ◌==◌, List, [], ◌∷◌, ◌++◌, length, Option, Some, None, slice_set}
 use Rattle.std.specs.Prelude.{unwrap_or, if◌then◌else◌}
 use Rattle.std.specs.List.{AllByRecursion, remove}
@@ -13,7 +13,7 @@ use Rattle.log_model.specs.Data.{Start, len_next, lens_next, start_entries}
 use Rattle.log_model.specs.Ids.{all_inserted, without}
 use Rattle.log_model.specs.Steps.{no_lens, no_units}
 
--- what a head with this id begins with, in this format, if it is the log's only segment: its digest lists itself alone
+-- the start of a head with this id, in this format, that is the log's only segment: its digest lists it alone
 abbrev pub lone_start : ℕ → ℕ → ℕ → Start
 lone_start id format safe = record { id = id; others = []; lens = no_lens format; safe = safe }
 
@@ -29,26 +29,26 @@ fresh_head master replicas start = record {
   roll = None;
 }
 
--- one more unit
+-- the head once this unit of the record with this number is appended
 abbrev pub with_unit_end : HeadValue → ℕ → List Entry → HeadValue
 with_unit_end h number unit = record h {
   image = h.image ++ unit;
   units = h.units ++ record { number = number; end = length (text_of (h.image ++ unit)) } ∷ [];
 }
 
--- one more replica is open, and holds what comes before the units
+-- the head once one more replica is open, which holds all that comes before the units
 abbrev pub with_opened_replica : HeadValue → HeadValue
 with_opened_replica h = record h { taken = h.taken ++ 0 ∷ [] }
 
--- the replacement of a lost replica is open, and holds all units
+-- the head once the replacement of a lost replica is open, which holds all units
 abbrev pub with_whole_replica : HeadValue → HeadValue
 with_whole_replica h = record h { taken = h.taken ++ length h.units ∷ [] }
 
--- all units on a replica
+-- the head once this replica has all units
 abbrev pub with_all_taken : HeadValue → ℕ → HeadValue
 with_all_taken h j = record h { taken = slice_set h.taken j (length h.units) }
 
--- all that the head holds was loaded: it has no units, and so each open replica has none
+-- the head once all that it holds counts as loaded: it has no units, so each open replica has none
 abbrev pub settled : HeadValue → HeadValue
 settled h = record h { base = length (text_of h.image); units = []; taken = no_units (length h.taken) }
 
@@ -59,24 +59,24 @@ abbrev pub counts_without : List ℕ → Option ℕ → List ℕ
 counts_without ns None = ns
 counts_without ns (Some j) = remove ns j
 
--- a replica is lost, if one is named, and a roll that was under way is abandoned
+-- the head once this replica, if one is named, is lost, and a roll that was under way is abandoned
 abbrev pub lost : HeadValue → Option ℕ → HeadValue
 lost h replica = record h { taken = counts_without h.taken replica; roll = None }
 
 -- ---- a roll
 
--- the length that the next digest lists for a segment, after the head of this id with this image; these survivors have
--- the lengths that they come with
+-- the length that the next digest lists for a segment, after the head of this id with this image; for a survivor it is
+-- the length that comes with it
 abbrev pub len_after : ℕ → List Entry → List Listed → ℕ → ℕ
 len_after head image survivors s =
     unwrap_or (len_in s survivors) (len_next (digest_in image) head (length (text_of image)) s)
 
--- the lengths that it lists for these
+-- the lengths that the next digest lists for these segments, or None if it lists no lengths
 abbrev pub lens_after : ℕ → List Entry → List Listed → List ℕ → Option (List ℕ)
 lens_after head image survivors others = lens_next (digest_in image) (len_after head image survivors) others
 
--- what the next head begins with: its id, the ids of the digest in force less the victims and with the survivors, their
--- lengths if that digest lists lengths, and the safe version
+-- the start of the next head: its id, the ids of the digest in force without the victims and with the survivors, their
+-- lengths if the digest in force lists lengths, and the safe version
 abbrev pub start_after : HeadValue → List ℕ → List Listed → ℕ → ℕ → Start
 start_after h victims survivors id safe =
     let others = all_inserted (ids_in survivors) (without victims (digest_of h.image)) in
@@ -86,12 +86,12 @@ start_after h victims survivors id safe =
 abbrev pub others_after : List Entry → Leaving → List ℕ
 others_after image l = all_inserted (ids_in l.survivors.now) (without l.victims.now (digest_of image))
 
--- a segment may have this length
+-- A segment may have this length in bytes: at least a header's, and at most 8 MiB.
 pub record IsLen (len : ℕ) : Type 0 where
   pub least : 18 ≤ len
   pub greatest : len ≤ 8388608
 
--- each of these has the length that is said of its id
+-- each of these listed segments has the length that `len` gives for its id
 abbrev pub AreListedBy : (ℕ → ℕ) → List Listed → Type 0
 AreListedBy len segments = AllByRecursion (λ (s : Listed). IsListed s × (s.len ≡ len s.id)) segments
 
@@ -100,15 +100,15 @@ abbrev pub fresh_roll : ℕ → Start → Roll
 fresh_roll master start =
     record { id = start.id; image = start_entries master start; opened = 0; closed = 0 }
 
--- a roll to this head has begun
+-- the head once a roll to the head with this start has begun
 abbrev pub with_roll : HeadValue → ℕ → Start → HeadValue
 with_roll h master start = record h { roll = Some (fresh_roll master start) }
 
--- one more replica of the new head is open
+-- the head once one more replica of the roll's new head is open
 abbrev pub with_new_replica : HeadValue → Roll → HeadValue
 with_new_replica h r = record h { roll = Some (record r { opened = suc r.opened }) }
 
--- the new head is in force, and each replica of it has the opening alone
+-- the new head once it is in force: each of its replicas has the opening alone
 abbrev pub in_force : HeadValue → Roll → HeadValue
 in_force h r = record {
   id = r.id;
@@ -120,11 +120,11 @@ in_force h r = record {
   roll = None;
 }
 
--- one more replica of the old head is closed; the last one puts the new head in force
+-- the head once one more replica of it is closed; the last Close puts the new head in force
 abbrev pub with_closed_replica : HeadValue → Roll → HeadValue
 with_closed_replica h r =
     if suc r.closed == h.replicas then in_force h r else record h { roll = Some (record r { closed = suc r.closed }) }
 
--- the image of the old head, once its last replica is closed
+-- the image of the old head, if the next Close is the last one
 abbrev pub old_image : HeadValue → Roll → Option (List Entry)
 old_image h r = if suc r.closed == h.replicas then Some h.image else None

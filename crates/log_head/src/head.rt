@@ -14,12 +14,12 @@ use segment::{AppendFault, Segment};
 use std::alloc::Global;
 use std::marker::Model;
 
-/// What one command appended to the head.
+/// Where the unit of one command ends.
 #[derive(Clone, Copy)]
 pub struct UnitEnd {
     /// The number of the command's record in the history, from 0.
     pub number: u32,
-    /// Where the unit ends in the image.
+    /// The offset in bytes at which the unit ends in the image.
     pub end: u32,
 }
 
@@ -36,14 +36,15 @@ pub struct Roll {
     pub closed: usize,
 }
 
-/// The head. Its replicas are opened in order. Each replica is a front of the image and ends where a unit ends.
+/// The head of a log. Its replicas are opened in order. Each replica has the first bytes of the image, up to the
+/// opening's or a unit's end.
 #[derive(Drop)]
 pub struct Head {
     pub(crate) id: u64,
-    /// How many replicas it will have.
+    /// How many replicas the head will have.
     pub(crate) replicas: usize,
     pub(crate) image: Segment,
-    /// Where the units begin in the image: behind the opening and what was loaded.
+    /// The offset in bytes at which the units begin in the image, behind the opening and what was loaded.
     pub(crate) base: usize,
     pub(crate) units: Vec<UnitEnd>,
     /// How many units each opened replica has.
@@ -88,8 +89,8 @@ impl Head {
     ghost use Rattle.log_head.specs.Next.{bytes_between};
     ghost use Rattle.log_model.specs.Data.{Start};
 
-    /// A head with this id of a log without other segments, in this format. Its image holds the opening alone, and has
-    /// room for `room` bytes more. No replica is open.
+    /// Makes a head with this id of a log without other segments, in this format. The image holds the opening alone,
+    /// and has memory for `room` bytes in all. No replica is open yet.
     pub fn begin(
         alloc: Global,
         master: u64,
@@ -118,14 +119,14 @@ impl Head {
         })
     }
 
-    /// What is true of every head.
+    /// Shows, to proofs alone, what is true of every head.
     pub fn show_valid(&self)
         ensures { IsHeadValue self.now }
     {
         let _id = self.id;
     }
 
-    /// The segment's number.
+    /// Returns the head's id.
     pub fn id(&self) -> u64
         ensures id { result ≡ self.now.id }
         ensures valid { IsHeadValue self.now }
@@ -140,21 +141,21 @@ impl Head {
         &self.image
     }
 
-    /// How many units it has.
+    /// Returns the number of units.
     pub fn count(&self) -> usize
         ensures { result ≡ length self.now.units }
     {
         self.units.len()
     }
 
-    /// How many replicas were opened.
+    /// Returns the number of replicas that were opened.
     pub fn opened(&self) -> usize
         ensures { result ≡ length self.now.taken }
     {
         self.taken.len()
     }
 
-    /// Whether all replicas are open, and no roll is under way.
+    /// Returns true if all replicas are open and no roll is under way.
     pub fn is_open(&self) -> bool
         ensures open { result ≡ is_open self.now }
         ensures valid { IsHeadValue self.now }
@@ -162,14 +163,14 @@ impl Head {
         self.taken.len() == self.replicas && self.roll.is_none()
     }
 
-    /// The roll that is under way.
+    /// Returns the roll that is under way, if any.
     pub fn roll(&self) -> Option<&Roll>
         ensures { option_copied result ≡ self.entry.now.roll }
     {
         self.roll.as_ref()
     }
 
-    /// Whether the image stays within the limit with this many bytes more.
+    /// Returns true if the image with `bytes` more bytes has at most `limit` bytes.
     pub fn fits(&self, bytes: usize, limit: usize) -> bool
         requires { bytes ≤ 2 ^ 32 }
         ensures { result ≡ nat_le (length (text_of self.now.image) + bytes) limit }
@@ -177,7 +178,7 @@ impl Head {
         self.image.bytes().len() + bytes <= limit
     }
 
-    /// What a new replica holds: the bytes of the opening and of what was loaded.
+    /// Returns the bytes with which a replica is opened: the opening, and what was loaded.
     pub fn opening(&self) -> &[u8]
         ensures { result.now ≡ take self.entry.now.base (text_of self.entry.now.image) }
     {
@@ -185,7 +186,7 @@ impl Head {
         &self.image.bytes()[..end]
     }
 
-    /// How many units a replica has.
+    /// Returns the number of units that a replica has.
     pub fn units_of(&self, replica: usize) -> usize
         requires { replica < length self.now.taken }
         ensures units { slice_get self.now.taken replica ≡ Some result }
@@ -195,7 +196,7 @@ impl Head {
         self.taken[replica]
     }
 
-    /// Where the first units end, in bytes: the length of a replica that has just these units.
+    /// Returns the offset in bytes at which the first units end: the length of a replica that has just these units.
     #[tactic(auto, using(crate::proofs::Heads::end_of_le, crate::proofs::Heads::end_of_last))]
     pub fn end_of(&self, units: usize) -> usize
         requires { units ≤ length self.now.units }
@@ -208,7 +209,8 @@ impl Head {
         }
     }
 
-    /// What a replica with just the first `units` lacks: where it goes on, and the bytes of all units from there on.
+    /// Returns what a replica with just the first `units` lacks: the offset at which it ends, and the bytes of all
+    /// units from there on.
     #[tactic(auto, using(crate::proofs::Heads::end_of_all))]
     pub fn behind(&self, units: usize) -> (usize, &[u8])
         requires { units ≤ length self.now.units }
@@ -219,14 +221,16 @@ impl Head {
         (start, &self.image.bytes()[start..])
     }
 
-    /// The replica that has the fewest units, and of several the first. `None` if each replica has all units.
+    /// Returns the number of the replica with the fewest units, and of several the first. Returns `None` if each
+    /// opened replica has all units. It looks at each replica once.
     pub fn lagging(&self) -> Option<usize>
         ensures { IsLagging (length self.now.units) self.now.taken result }
     {
         lagging(self.taken.as_slice(), self.units.len())
     }
 
-    /// The record of the first unit that some replica lacks. `None` if each replica has all units.
+    /// Returns the number of the record of the first unit that some replica lacks. Returns `None` if each replica has
+    /// all units.
     pub fn first_missing(&self) -> Option<usize>
         ensures valid { IsHeadValue self.now }
         ensures missing { result ≡ record_at self.now.units (everywhere self.now) }
@@ -237,7 +241,7 @@ impl Head {
         }
     }
 
-    /// How many of the first units every replica has.
+    /// Returns how many of the first units every replica has. While a replica isn't open yet, that is none.
     fn everywhere(&self) -> usize
         ensures { result ≡ everywhere self.now }
     {
@@ -250,7 +254,7 @@ impl Head {
         }
     }
 
-    /// Counts a replica that was opened.
+    /// Counts a replica that was opened and has no units yet.
     pub fn open(&mut self)
         requires { length self.old.taken < self.old.replicas }
         ensures opened { self.new ≡ with_opened_replica self.old }
@@ -268,8 +272,8 @@ impl Head {
         self.taken.push_reserved(self.units.len())
     }
 
-    /// Counts a replica as lost, if one is named: those behind it are then one lower each. A roll that was under way is
-    /// abandoned, and its image handed out.
+    /// Removes a lost replica, if one is named. The numbers of the replicas behind it then fall by one. Abandons a
+    /// roll that is under way, and returns the image of its new head.
     pub fn lose(&mut self, replica: Option<usize>) -> Option<Segment>
         requires { IfSome replica (λ j. j < length self.old.taken) }
         ensures lost { self.new ≡ lost self.old replica }
@@ -288,7 +292,7 @@ impl Head {
         }
     }
 
-    /// Counts the units that a replica took: all that it lacked.
+    /// Counts that a replica took all units that it lacked.
     pub fn extend(&mut self, replica: usize)
         requires { replica < length self.old.taken }
         ensures extended { self.new ≡ with_all_taken self.old replica }
@@ -297,7 +301,8 @@ impl Head {
         self.taken[replica] = self.units.len();
     }
 
-    /// Appends a unit: the objects and tombstones of the record with this number. A refusal changes nothing.
+    /// Appends a unit: the objects and tombstones of the record with this number. Returns `Full` if the image would
+    /// have more than `limit` bytes, and `NoMemory` if there is no memory for it. A refusal changes nothing.
     #[tactic(auto, using(crate::proofs::Heads::EndAt_push, crate::proofs::Heads::all_more, crate::proofs::Heads::text_more))]
     #[inline(always)]
     pub fn append(
@@ -327,7 +332,7 @@ impl Head {
         Ok(())
     }
 
-    /// Counts all that the head holds as loaded. It has no units then. Call it once each replica has all units.
+    /// Counts all that the head holds as loaded, so the head has no units. Call it once each replica has all units.
     pub fn begin_history(&mut self)
         ensures settled { self.new ≡ settled self.old }
         ensures valid { IsHeadValue self.new }
@@ -343,7 +348,7 @@ ghost use Rattle.log_head.specs.Steps.{lone_start};
 ghost use Rattle.log_model.specs.Data.{digest_with, start_entries};
 ghost use Rattle.log_model.specs.Steps.{no_lens};
 
-/// The opening of a head whose digest lists that head alone.
+/// Makes the image of a head whose digest lists the head alone: its opening.
 fn first_image(
     alloc: Global,
     master: u64,
@@ -357,7 +362,7 @@ fn first_image(
     Segment::begin_head(alloc, master, id, digest, safe)
 }
 
-/// The digest that lists this head alone. Its own length is that of its opening.
+/// Makes the digest that lists this head alone. Under format 2 it lists the length of the head's opening.
 fn first_digest(alloc: Global, id: u64, format: u64) -> Result<Digest, NoMemory>
     ensures { IfOk result (λ digest. digest ≡ digest_with [] (no_lens format) id) }
 {
@@ -371,7 +376,7 @@ fn first_digest(alloc: Global, id: u64, format: u64) -> Result<Digest, NoMemory>
     Ok(Digest::Ids(Ids::new(ids)))
 }
 
-/// The first place of the least number, if that is below `units`.
+/// Returns the place of the least number, and of several the first, if this number is below `units`.
 #[inline(always)]
 fn lagging(taken: &[usize], units: usize) -> Option<usize>
     ensures { IsLagging units taken.now result }
@@ -382,7 +387,7 @@ fn lagging(taken: &[usize], units: usize) -> Option<usize>
     }
 }
 
-/// The same of two numbers: mostly a head has two replicas.
+/// Does the same as `lagging` for two numbers, since most heads have two replicas.
 #[inline(always)]
 fn lagging_of_two(first: usize, second: usize, units: usize) -> Option<usize>
     ensures { IsLagging units (first ∷ second ∷ []) result }
@@ -393,7 +398,7 @@ fn lagging_of_two(first: usize, second: usize, units: usize) -> Option<usize>
     (first < units).then_some(0)
 }
 
-/// The same of any numbers.
+/// Does the same as `lagging` for any count of numbers.
 fn lagging_of_all(taken: &[usize], units: usize) -> Option<usize>
     ensures { IsLagging units taken.now result }
 {

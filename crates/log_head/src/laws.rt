@@ -1,10 +1,10 @@
-//! Laws about heads and the log, for the proofs of callers.
+//! Laws on heads and the log, for the proofs of callers.
 
 ghost use Rattle.log_head.specs.Laws.{HeadIsRead, EndsAreLengths, FrontsAreTexts, PartsAreUnits};
 ghost use Rattle.log_head.specs.Laws.{FreshIsImage, UnitIsImage, CountsAreImage, LostIsImage, SettledIsImage};
 ghost use Rattle.log_head.specs.Laws.{OrdinaryKeeps, DigestRises, DigestIsFew, RollBegins, RollEnds};
 
-/// An image holds one head of the log. What lies between two of its ends is whole units.
+/// An image holds exactly one head of the log. The bytes between two ends of units are whole units.
 pub fn heads_are_read()
     ensures head { HeadIsRead }
     ensures ends { EndsAreLengths }
@@ -12,8 +12,8 @@ pub fn heads_are_read()
     ensures parts { PartsAreUnits }
 {}
 
-/// The image stays that of the log's head: at its start, after one more unit, after a replica took one or is lost, and
-/// once all that the head holds counts as loaded.
+/// The image holds the log's head at the head's start. It goes on to hold the log's head after one more unit, after a
+/// replica took units or is lost, and once all that the head holds counts as loaded.
 pub fn images_go_on()
     ensures fresh { FreshIsImage }
     ensures unit { UnitIsImage }
@@ -22,13 +22,14 @@ pub fn images_go_on()
     ensures settled { SettledIsImage }
 {}
 
-/// A roll of this head is a roll of the log: as it begins, and as it ends.
+/// A roll of this head is a roll of the log when it begins and when it ends.
 pub fn rolls_go_on()
     ensures begins { RollBegins }
     ensures ends { RollEnds }
 {}
 
-/// What the digest of the next head lists: the same ids in an ordinary roll, and ids that rise in each roll.
+/// In an ordinary roll the digest of the next head lists the ids of the digest in force before its own. In each roll
+/// its ids rise, and besides survivors they are no more than before.
 pub fn digests_go_on()
     ensures ordinary { OrdinaryKeeps }
     ensures rises { DigestRises }

@@ -1,9 +1,9 @@
 //! The head of a master's log: its image, where each unit of it ends, and how many units each replica has.
 //!
-//! A head appends a unit whole or not at all. It says which replica lags most and which bytes that replica lacks, and
-//! it counts what replicas took. It calls no backup: the layer above hands the bytes out. `specs/Head.antt` says what
-//! a head is, and `specs/Steps.antt` what each call makes of it. The image is a `segment::Segment`, and `log_model`
-//! says what a head is to a log.
+//! A head appends a unit whole or not at all. It tells which replica lags most and which bytes that replica lacks, and
+//! it counts the units that replicas took. It calls no backup: the layer above hands the bytes to backups.
+//! `specs/Head.antt` says what a head is, and `specs/Steps.antt` how each call changes it. The image is a
+//! `segment::Segment`. `specs/Log.antt` says which head of a log, in the words of `log_model`, an image holds.
 #![tactic(auto)]
 
 mod head;

@@ -3,7 +3,7 @@
 ghost use Rattle.std.specs.Prelude.{◌≡◌};
 ghost use Rattle.log_head.specs.Next.{replica_of};
 
-/// What the next push does, and the number of the replica that it does it to.
+/// What the next push does. Each variant has the number of the replica that the push is for, from 0.
 #[derive(Clone, Copy)]
 pub enum Next {
     /// A replica of a master's first head is opened.
@@ -19,7 +19,7 @@ pub enum Next {
 }
 
 impl Next {
-    /// The number of the replica.
+    /// Returns the number of the replica.
     pub fn replica(&self) -> usize
         ensures { result ≡ replica_of self.now }
     {

@@ -28,7 +28,7 @@ use std::mem::replace;
 /// How the digest of the next head differs from the digest in force.
 #[derive(Clone, Copy)]
 pub struct Leaving<'a> {
-    /// The ids that it leaves out. Each id is looked for among all of them.
+    /// The ids that it leaves out. The search for each id of the digest in force goes through all of them.
     pub victims: &'a [u64],
     /// The segments that it takes in, each at its place. Their ids rise.
     pub survivors: &'a [Listed],
@@ -37,16 +37,16 @@ pub struct Leaving<'a> {
 /// The memory of the two images of a roll.
 #[derive(Drop)]
 pub struct RollMemory {
-    /// Memory that a dropped image has left, for the new one.
+    /// The memory of a dropped image, for the new image.
     pub spare: Option<Vec<u8>>,
-    /// How many bytes the new image gets room for.
+    /// For how many bytes in all the new image gets memory.
     pub room: usize,
-    /// The old image gives back the room that it has above so many bytes.
+    /// The old image gives back its memory above so many bytes, unless that is little.
     pub kept: usize,
 }
 
 impl Head {
-    /// What the next push does. `None` if nothing waits.
+    /// Returns what the next push does. Returns `None` if each replica has all units and no roll is under way.
     pub fn next_push(&self) -> Option<Next>
         ensures next { IsNextPush self.now result }
         ensures valid { IsHeadValue self.now }
@@ -64,8 +64,8 @@ impl Head {
         }
     }
 
-    /// What the next push does, if some replica lacks a unit of a record up to this number. `None` if each replica has
-    /// the units of all records up to it.
+    /// Returns what the next push does, if some replica lacks a unit of a record up to this number. Returns `None` if
+    /// each replica has the units of all records up to this number.
     pub fn next_for(&self, number: usize) -> Option<Next>
         ensures next { IfSome result (λ next. IsNextPush self.now (Some next)) }
         ensures lacks { is_some result ≡ lacks_to self.now number }
@@ -80,7 +80,7 @@ impl Head {
         is_lacking.then_some(Next::Extend(replica))
     }
 
-    /// Whether there is a unit at this place, and it is of a record up to this number.
+    /// Returns true if there is a unit at this place, and its record has at most this number.
     fn has_unit_to(&self, place: usize, number: usize) -> bool
         ensures { result ≡ is_up_to number (record_at self.now.units place) }
     {
@@ -90,7 +90,7 @@ impl Head {
         }
     }
 
-    /// The op that a push hands over.
+    /// Returns the op that a push hands to the backup.
     pub fn op(&self, master: u64, next: Next) -> Op<'_>
         requires { HasOp self.now next }
         ensures { shown_op result ≡ op_of master self.entry.now next }
@@ -130,7 +130,7 @@ impl Head {
         }
     }
 
-    /// A copy of the ids of the digest in force.
+    /// Returns a copy of the ids of the digest in force.
     pub fn digest(&self, alloc: Global) -> Result<Vec<u64>, NoMemory>
         ensures { IfOk result (λ ids. ids.items ≡ digest_of self.now.image) }
     {
@@ -141,10 +141,10 @@ impl Head {
         next_ids(alloc, &self.image, leaving)
     }
 
-    /// Begins a roll to the head with this id. Its digest lists the ids of the digest in force, less the victims and
-    /// with the survivors, and then the id. If the digest in force lists lengths, so does it: this head's is that of
-    /// its image, and the new head's is that of its opening. An ordinary roll has no victims and no survivors. A
-    /// refusal changes nothing.
+    /// Begins a roll to the head with this id. The new digest lists the ids of the digest in force without the victims
+    /// and with the survivors, and then the new id. If the digest in force lists lengths, the new digest does so too:
+    /// it lists this head with the length of its image, and the new head with the length of its opening. An ordinary
+    /// roll has no victims and no survivors. A refusal changes nothing.
     pub fn begin_roll(
         &mut self,
         alloc: Global,
@@ -171,8 +171,9 @@ impl Head {
         Ok(())
     }
 
-    /// The roll that `begin_roll` would begin, with so many replicas of the old head closed already, for `set_roll`.
-    /// Its image lies in the spare memory if some is given, and has room for `room` bytes. Nothing changes.
+    /// Makes the roll that `begin_roll` would begin, for `set_roll`, with `closed` replicas of the old head closed
+    /// already. The new image lies in the spare memory, if some is given, and has memory for `room` bytes. The head
+    /// doesn't change.
     pub fn next_roll(
         &self,
         alloc: Global,
@@ -207,7 +208,7 @@ impl Head {
         })
     }
 
-    /// Begins this roll. The old image gives back the room that it has above `kept` bytes.
+    /// Begins this roll. The old image gives back its memory above `kept` bytes, unless that is little.
     pub fn set_roll(&mut self, roll: Roll, kept: usize)
         requires none { self.old.roll ≡ None }
         requires roll { IsRollValue self.old.replicas (length self.old.taken) roll }
@@ -230,8 +231,8 @@ impl Head {
         }
     }
 
-    /// Counts a replica of the old head that was closed. The last one puts the new head in force, and hands out the old
-    /// image.
+    /// Counts a replica of the old head that was closed. The last one puts the new head in force. The call then
+    /// returns the old image.
     pub fn close_old(&mut self) -> Option<Segment>
         requires open { IfSome self.old.roll (λ r. r.opened ≡ self.old.replicas) }
         requires rolling { IsSome self.old.roll }
@@ -256,7 +257,7 @@ impl Head {
     }
 }
 
-/// The ids of the next head's digest but for its own, in a vector that has room for one more.
+/// Returns the ids of the next head's digest but for its own, in a vector that has room for one more.
 fn next_ids(alloc: Global, image: &Segment, leaving: Leaving<'_>) -> Result<Vec<u64>, NoMemory>
     requires rise { IsStrictlyIncreasing (ids_in leaving.survivors.now) }
     ensures ids { IfOk result (λ ids. ids.items ≡ others_after image.now leaving.entry) }
@@ -283,7 +284,7 @@ fn next_ids(alloc: Global, image: &Segment, leaving: Leaving<'_>) -> Result<Vec<
     Ok(ids)
 }
 
-/// How many ids of the digest aren't among the victims.
+/// Returns how many ids of the digest aren't among the victims.
 fn count_left(digest: &DigestRef<'_>, victims: &[u64]) -> usize
     ensures left { result ≡ length (without victims.now (shown_ids digest.now)) }
     ensures few { result ≤ length (shown_ids digest.now) }
@@ -297,14 +298,14 @@ fn count_left(digest: &DigestRef<'_>, victims: &[u64]) -> usize
     left
 }
 
-/// Whether the id is among the victims.
+/// Returns true if the id is among the victims.
 fn is_victim(victims: &[u64], id: u64) -> bool
     ensures { result ≡ has victims.now id }
 {
     victims.contains(&id)
 }
 
-/// Pushes the ids that wait up to this one. Those that wait from then on are the result.
+/// Pushes those of the waiting segments' ids that are below this id, and returns the segments that still wait.
 fn push_before<'a>(ids: &mut Vec<u64>, waits: &'a [Listed], id: u64) -> &'a [Listed]
     requires room { vec_len ids.old + length waits.now ≤ vec_capacity ids.old }
     requires rise { IsStrictlyIncreasing (ids_in waits.now) }
@@ -322,7 +323,7 @@ fn push_before<'a>(ids: &mut Vec<u64>, waits: &'a [Listed], id: u64) -> &'a [Lis
     }
 }
 
-/// Pushes the ids of these.
+/// Pushes the ids of these segments.
 fn push_all(ids: &mut Vec<u64>, segments: &[Listed])
     requires { vec_len ids.old + length segments.now ≤ vec_capacity ids.old }
     ensures items { ids.new.items ≡ ids.old.items ++ ids_in segments.now }
@@ -333,7 +334,7 @@ fn push_all(ids: &mut Vec<u64>, segments: &[Listed])
     }
 }
 
-/// The opening of the head with this id, after the head `old`.
+/// Makes the image of the next head, which has this id and follows the head `old`: its opening.
 fn next_image(
     alloc: Global,
     old: u64,
@@ -357,7 +358,7 @@ fn next_image(
     Segment::begin_head(alloc, master, id, digest, safe)
 }
 
-/// The digest of the head with this id.
+/// Makes the digest of the next head, which has this id.
 fn next_digest(
     alloc: Global,
     old: u64,
@@ -385,7 +386,7 @@ fn next_digest(
     Ok(Digest::Ids(Ids::new(ids)))
 }
 
-/// Whether the digest in force lists lengths.
+/// Returns true if the digest in force lists lengths.
 fn lists_lengths(image: &Segment) -> bool
     ensures { result ≡ lists_lengths (digest_in image.now) }
 {
@@ -395,7 +396,7 @@ fn lists_lengths(image: &Segment) -> bool
     }
 }
 
-/// The segments of the next head's digest but for its own, in a vector that has room for one more.
+/// Returns the segments that the next head's digest lists before its own, in a vector that has room for one more.
 fn next_segments(
     alloc: Global,
     old: u64,
@@ -434,7 +435,8 @@ fn next_segments(
     Ok(segments)
 }
 
-/// The length that the next digest lists for a segment that has this one in the digest in force.
+/// Returns the length that the next digest lists for segment `id`: `whole` for the old head, and for another segment
+/// the length that the digest in force lists, or `whole` if it lists none.
 fn len_of(old: u64, whole: u64, id: u64, listed: Option<u64>) -> u64
     ensures { result ≡ (if id == old then whole else unwrap_or listed whole) }
 {
@@ -444,7 +446,7 @@ fn len_of(old: u64, whole: u64, id: u64, listed: Option<u64>) -> u64
     listed.unwrap_or(whole)
 }
 
-/// Pushes the segments that wait with ids up to this one. Those that wait from then on are the result.
+/// Pushes those of the waiting segments whose ids are below this id, and returns the segments that still wait.
 fn list_before<'a>(segments: &mut Vec<Listed>, waits: &'a [Listed], id: u64) -> &'a [Listed]
     requires room { vec_len segments.old + length waits.now ≤ vec_capacity segments.old }
     requires rise { IsStrictlyIncreasing (ids_in waits.now) }
