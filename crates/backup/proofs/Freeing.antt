@@ -1,13 +1,13 @@
 -- What becomes of a fault that is asked for while replicas are freed.
 use Rattle.std.proofs.Common.{◌≡◌, ℕ, ◌+◌, ◌-◌, List, [], ◌∷◌, ◌++◌, length, length-append, Bool, true, false}
-use Rattle.std.proofs.Common.{refl, sym, ap, subst, ◌∙◌, arith}
+use Rattle.std.proofs.Common.{ap, subst, ◌∙◌, arith}
 use Rattle.std.specs.Prelude.{Err, if◌then◌else◌}
 use Rattle.replica.specs.declared.op.TakeFault.{TakeFault}
 use Rattle.replica.specs.declared.op.TakeFault.TheVariants as take_fault
 use Rattle.replica.specs.declared.spot.Spot.{Spot}
 use Rattle.replica.specs.Picture.{FleetState}
-use Rattle.replica.specs.Retire.{FreesEach, freeing}
-use Rattle.replica.specs.Take.{TakeGives, Takes, unanswered}
+use Rattle.replica.specs.Retire.{freeing}
+use Rattle.replica.specs.Take.{TakeGives, unanswered}
 use Rattle.replica.proofs.Retiring.{frees_more, nothing_freed}
 use Rattle.backup.specs.declared.fleet.Asked.{Asked}
 use Rattle.backup.specs.declared.fleet.MemoryFleet.{MemoryFleet}

@@ -63,7 +63,7 @@ pub fn push_until<F: Fleet>(master: &mut Master<F>, place: u64) -> Result<(), Re
     ensures spent { IfErr result (λ r. r ≡ Refusal.Spent → IsSpent (F.state master.new.fleet)) }
 {
     loop {
-        match master.push_for(place) {
+        match master.push_unless_durable(place) {
             Ok(true) => return Ok(()),
             Ok(false) => {}
             Err(refusal) => match refusal {

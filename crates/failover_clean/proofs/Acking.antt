@@ -1,5 +1,5 @@
 -- What a master counts is what was answered Ok, through every step and each answer to an op.
-use Rattle.std.proofs.Common.{◌≡◌, ℕ, zero, suc, ◌<◌, ◌≤◌, ◌⊎◌, inl, inr, Bool, true, false, cond, List, [], ◌∷◌, ◌++◌, length, take}
+use Rattle.std.proofs.Common.{◌≡◌, ℕ, zero, suc, ◌<◌, ◌≤◌, inl, inr, Bool, true, false, cond, List, [], ◌∷◌, ◌++◌, length, take}
 use Rattle.std.proofs.Common.{append_assoc, append-nil, Some, refl, sym, ap, subst, ◌∙◌, arith}
 use Rattle.std.specs.Prelude.{None, ◌==◌}
 use Rattle.std.proofs.lemmas.Bool.{cases_eq}
@@ -25,7 +25,7 @@ use Rattle.failover_bytes.specs.log_model.Steps.{units_between}
 use Rattle.failover_bytes.proofs.log_model.Fronts.{unit_front}
 use Rattle.failover_bytes.specs.failover_model.Text.{Text}
 use Rattle.failover_bytes.specs.failover_model.Shown.{Shown, Act, Open, Extend, Close, Seal, Free, Op, On, Raise}
-use Rattle.failover_bytes.specs.failover_model.Data.{front, front_entries, bare, FailConfig, Mode, Calm, FailData, HasTaken}
+use Rattle.failover_bytes.specs.failover_model.Data.{front, front_entries, bare, FailConfig, Mode, FailData, HasTaken}
 use Rattle.failover_bytes.specs.failover_model.Data.{Closes, new_of}
 use Rattle.failover_bytes.specs.failover_model.Durable.{TakenHead, head_now, heads_of}
 use Rattle.failover_bytes.specs.failover_model.Log.{Texts, IsLogHeld}

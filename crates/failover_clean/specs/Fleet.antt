@@ -30,7 +30,7 @@ use Rattle.failover_bytes.specs.Runs.{read_fleet}
 use Rattle.failover_bytes.specs.Segments.{HeadsAreSegments}
 use Rattle.failover_bytes.specs.Sound.{IsSoundInBytes}
 use Rattle.failover_bytes.specs.Spelled.{IsSpelled}
-use Rattle.failover_bytes.specs.Text.{bytes_for, IsWholeText}
+use Rattle.failover_bytes.specs.Text.{IsWholeText}
 use Rattle.failover_clean.specs.Acked.{bytes_up_to, AreAcked}
 use Rattle.failover_clean.specs.Covered.{IsCovered}
 use Rattle.failover_clean.specs.Intact.{IsIntact, Knows}

@@ -21,7 +21,7 @@ use Rattle.master_core.specs.master_state.declared.step.Step.{Step}
 use Rattle.master_core.specs.master_state.declared.step.Step.TheVariants.{Apply, Push, BeginRoll, Compact, BeginClean, Copy, Seal}
 use Rattle.master_core.specs.master_state.declared.step.Step.TheVariants.{Free}
 use Rattle.master_core.specs.master_state.declared.step.StepAnswer.{StepAnswer}
-use Rattle.master_core.specs.master_state.Causes.{is_empty, step_refusal, unit_now}
+use Rattle.master_core.specs.master_state.Causes.{live_now, is_empty, step_refusal, unit_now}
 use Rattle.master_core.specs.master_state.Data.{MasterData}
 use Rattle.master_core.specs.master_state.Images.{with_closed}
 use Rattle.master_core.specs.master_state.Invariant.{IsCore}
@@ -116,6 +116,7 @@ module _ (d e : MasterData) (seat : ℕ) (command : Command) (answer : StepAnswe
     index = e.index;
     safe = e.safe;
     history = e.history;
+    live = live_now d command;
   }
 
   nothing : (unit : List Entry) → is_empty unit ≡ true → unit ≡ []

@@ -134,6 +134,20 @@ impl<F: Fleet> Master<F> {
         self.core.head().id()
     }
 
+    /// The bytes of the live objects, each 23 and those of its key and its value. `u64::MAX` stands for as many or more.
+    pub fn live(&self) -> u64
+        ensures { result ≡ self.now.knows.live }
+    {
+        self.core.live
+    }
+
+    /// The most bytes that puts make of the live objects. `u64::MAX` sets no limit.
+    pub fn most_live(&self) -> u64
+        ensures { result ≡ self.now.knows.config.most_live }
+    {
+        self.core.config.most_live
+    }
+
     /// The fleet. Nothing changes.
     pub fn fleet(&self) -> &F
         ensures { result.now ≡ self.entry.now.fleet }
@@ -284,10 +298,10 @@ impl<F: Fleet> Master<F> {
         pushing::push(&mut self.core, &mut self.fleet)
     }
 
-    /// Makes the step Push, unless the record at this place is durable. Whether it is, and then nothing changed. It
-    /// looks once for both.
+    /// Pushes once, as the step Push does, unless the record at this place is durable. Returns true if the record was
+    /// durable: then nothing changed. Both are decided by one look at the head.
     #[inline(always)]
-    pub fn push_for(&mut self, place: u64) -> Result<bool, Refusal>
+    pub fn push_unless_durable(&mut self, place: u64) -> Result<bool, Refusal>
         requires { place < length self.old.knows.history }
         ensures was_valid { IsValid self.old.knows (F.state self.old.fleet) }
         ensures gives { PushesFor place (world F.state self.old) result (world F.state self.new) }
@@ -296,7 +310,7 @@ impl<F: Fleet> Master<F> {
     {
         self.show_valid();
         self.show_kept();
-        let is_durable = pushing::push_for(&mut self.core, &mut self.fleet, place);
+        let is_durable = pushing::push_unless_durable(&mut self.core, &mut self.fleet, place);
         self.show_valid();
         is_durable
     }

@@ -33,9 +33,9 @@ pub(crate) fn push<F: Fleet>(core: &mut Core, fleet: &mut F) -> Result<StepAnswe
     }
 }
 
-/// Hands one op to one backup, unless the record at this place is durable. Whether it is.
+/// Hands one op to one backup, unless the record at this place is durable. Returns true if the record is durable.
 #[inline(always)]
-pub(crate) fn push_for<F: Fleet>(
+pub(crate) fn push_unless_durable<F: Fleet>(
     core: &mut Core,
     fleet: &mut F,
     place: u64,
@@ -47,7 +47,7 @@ pub(crate) fn push_for<F: Fleet>(
     ensures served { StaysServed core.old (F.state fleet.old) core.new (F.state fleet.new) }
 {
     if core.failover.is_some() {
-        return mend_for(core, fleet, place);
+        return mend_unless_durable(core, fleet, place);
     }
     let Some(next) = core.next_push_for(place) else {
         return Ok(true);
@@ -62,7 +62,7 @@ pub(crate) fn push_for<F: Fleet>(
 }
 
 /// The same while a failover is open: the durable count stays as it began.
-fn mend_for<F: Fleet>(core: &mut Core, fleet: &mut F, place: u64) -> Result<bool, Refusal>
+fn mend_unless_durable<F: Fleet>(core: &mut Core, fleet: &mut F, place: u64) -> Result<bool, Refusal>
     requires within { place < length core.old.history }
     requires failing { IsSome core.old.failover }
     requires served { IsServed core.old (F.state fleet.old) }

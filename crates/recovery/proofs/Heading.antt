@@ -11,8 +11,8 @@ use Rattle.replica.specs.Survival.{BothSurvive}
 use Rattle.rebuilding.specs.declared.order.GroupOrder.{GroupOrder}
 use Rattle.rebuilding.specs.declared.order.GroupOrder.TheVariants.{Forward, Reverse, Given}
 use Rattle.versioned_map.specs.declared.command.Record.{Record}
-use Rattle.versioned_map.specs.History.{IsLegal, commands_of}
-use Rattle.versioned_map.specs.Versioned.{State, after}
+use Rattle.versioned_map.specs.History.{IsLegal}
+use Rattle.versioned_map.specs.Versioned.{State}
 use Rattle.replay.specs.master.failover_model.Data.{IsHome, durable_of}
 use Rattle.replay.specs.master.failover_bytes.Choice.{newest_opened}
 use Rattle.replay.specs.master.master_state.declared.config.Config.{Config}
@@ -40,8 +40,8 @@ use Rattle.recovery.proofs.Counting.{orders_name}
 use Rattle.recovery.proofs.Drilling.{run_keeps}
 use Rattle.recovery.proofs.Takings.{led_all, made, made_all}
 
--- the origin of a master stays
-origin_keeps : (old new : World) (steps : List Step) (answers : List (Result StepAnswer Refusal))
+-- no step changes what a master began with
+pub origin_keeps : (old new : World) (steps : List Step) (answers : List (Result StepAnswer Refusal))
     → IsRun old steps answers new → new.knows.origin ≡ old.knows.origin
 origin_keeps old new [] [] run = ap (λ (w : World). w.knows.origin) run
 origin_keeps old new [] (a ∷ rest) run = absurd run

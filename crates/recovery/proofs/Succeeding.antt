@@ -29,17 +29,9 @@ use Rattle.recovery.specs.declared.succession.Course.{Course}
 use Rattle.recovery.specs.declared.succession.Lived.{Lived}
 use Rattle.recovery.specs.declared.succession.End.{End}
 use Rattle.recovery.specs.declared.succession.End.TheVariants as the_end
+use Rattle.recovery.proofs.Heading.{origin_keeps}
 use Rattle.recovery.specs.Lives.{taken_over}
 use Rattle.recovery.specs.Succession.{IsNewest, IsLived, AreLived, IsLast, AreDrilled, DrilledAreLives}
-
--- ---- a run
-
-run_origin : (old new : World) (steps : List Step) (answers : List (Result StepAnswer Refusal))
-    → IsRun old steps answers new → new.knows.origin ≡ old.knows.origin
-run_origin old new [] [] run = ap (λ (w : World). w.knows.origin) run
-run_origin old new [] (a ∷ rest) run = absurd run
-run_origin old new (s ∷ ss) [] run = absurd run
-run_origin old new (s ∷ ss) (a ∷ rest) run = run_origin run.0 new ss rest run.3 ∙ run.2.keeps.origin
 
 -- no replica of another master changes
 pub run_others : (old new : World) (steps : List Step) (answers : List (Result StepAnswer Refusal))
@@ -199,7 +191,7 @@ drilled_are_lives start (c ∷ []) (l ∷ []) last are steps answers now run = (
   where
     opening : opening_of now.knows ≡ taken_over l.recovered
     opening =
-        ap state_with (run_origin last now steps answers run ∙ ap (λ (w : World). w.knows.origin) are.2)
+        ap state_with (origin_keeps last now steps answers run ∙ ap (λ (w : World). w.knows.origin) are.2)
         ∙ are.1.succeeds.adopted.opening
 drilled_are_lives start (c ∷ []) (l ∷ k ∷ ls) last are steps answers now run = absurd are.2
 drilled_are_lives start (c ∷ d ∷ cs) (l ∷ []) last are steps answers now run = absurd are.2
@@ -210,5 +202,5 @@ drilled_are_lives start (c ∷ d ∷ cs) (l ∷ k ∷ ls) last are steps answers
   where
     opening : opening_of are.2.1.drill.stop.knows ≡ taken_over l.recovered
     opening =
-        ap state_with (run_origin are.0 are.2.1.drill.stop d.steps.items k.answers.items are.2.1.drill.run)
+        ap state_with (origin_keeps are.0 are.2.1.drill.stop d.steps.items k.answers.items are.2.1.drill.run)
         ∙ are.1.succeeds.adopted.opening

@@ -1,8 +1,5 @@
 use Rattle.std.proofs.Common.{rules, ◌≡◌, List, map, ap, subst, sym, ◌∙◌, max}
-use Rattle.std.specs.Prelude.{All}
-use Rattle.entry.specs.declared.entry.Object.{Object}
 use Rattle.entry.specs.declared.entry.Entry.{Entry}
-use Rattle.entry.specs.Format.{IsObject}
 use Rattle.claims.specs.Bags.{segments_bag}
 use Rattle.claims.specs.declared.claim.Claim.{Claim}
 use Rattle.claims.specs.Claims.{claimed, objects_in, tops, bound_of_claims}

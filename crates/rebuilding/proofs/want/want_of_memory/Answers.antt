@@ -2,7 +2,6 @@ use Rattle.std.proofs.Common.{ℕ, ◌<◌, ◌*◌, length, subst, sym}
 use Rattle.entry.specs.Bag.{IsAmong}
 use Rattle.rebuilding.specs.Rebuilds.{IsDouble}
 use Rattle.rebuilding.proofs.Twins.{short_apart, short_without, twins_low, twin_double}
-use Rattle.rebuilding.proofs.want.want_of_memory.Goals.{After-has_stranger}
 use Rattle.rebuilding.proofs.want.want_of_memory.Goals as goal
 
 pub returns-in_default : goal.returns-in_default

@@ -1,6 +1,5 @@
-use Rattle.std.proofs.Common.{refl, sym, subst}
+use Rattle.std.proofs.Common.{sym, subst}
 use Rattle.replica.specs.Picture.{FleetState}
-use Rattle.replica.specs.Take.{limited}
 use Rattle.master.specs.Invariant.{IsWellKept}
 use Rattle.master.proofs.Retired.{limited_kept}
 use Rattle.master.proofs.master.Master.limit.Goals as goal

@@ -2,8 +2,8 @@ use Rattle.std.proofs.Common.{◌≤◌, arith}
 use Rattle.master_core.specs.failover_model.Data.{durable_of}
 use Rattle.master_core.specs.master_state.Log.{log_of}
 use Rattle.master.proofs.PushedFor.{served_count}
-use Rattle.master.proofs.pushing.mend_for.Goals.{in-Ok, in-Err}
-use Rattle.master.proofs.pushing.mend_for.Goals as goal
+use Rattle.master.proofs.pushing.mend_unless_durable.Goals.{in-Ok, in-Err}
+use Rattle.master.proofs.pushing.mend_unless_durable.Goals as goal
 
 pub returns-clause-gives : goal.returns-clause-gives
 returns-clause-gives g c =

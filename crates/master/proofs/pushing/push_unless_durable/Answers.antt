@@ -3,8 +3,8 @@ use Rattle.std.specs.Prelude.{is_some}
 use Rattle.master_core.specs.master_state.Data.{MasterData}
 use Rattle.master.proofs.InForce.{none_open}
 use Rattle.master.proofs.PushedFor.{is_counted, awaits}
-use Rattle.master.proofs.pushing.push_for.Goals.{in-Ok, in-Err}
-use Rattle.master.proofs.pushing.push_for.Goals as goal
+use Rattle.master.proofs.pushing.push_unless_durable.Goals.{in-Ok, in-Err}
+use Rattle.master.proofs.pushing.push_unless_durable.Goals as goal
 
 pub returns-in_default-clause-gives : goal.returns-in_default-clause-gives
 returns-in_default-clause-gives g c =
