@@ -1,1 +1,6 @@
 pub mod Packed
+pub mod Numbers
+pub mod Heads
+pub mod Holding
+pub mod Testing
+pub mod Greatest

@@ -4,10 +4,12 @@
 //! next object doesn't fit, and the next head opens only if two whole segments stay free.
 #![tactic(auto)]
 
+mod laws;
 mod limits;
 mod new_log;
 mod sizes;
 
-pub use limits::is_limit;
+pub use laws::limits_hold;
+pub use limits::{greatest_limit, is_limit};
 pub use new_log::NewLog;
 pub use sizes::Sizes;

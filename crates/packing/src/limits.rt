@@ -1,6 +1,6 @@
 //! How many bytes of objects a new master can load, whatever they are and whatever their order.
 
-ghost use Rattle.std.specs.Prelude.{◌≡◌, ◌≤◌, ◌^◌, ◌/◌};
+ghost use Rattle.std.specs.Prelude.{◌≡◌, ◌<◌, ◌≤◌, ◌^◌, ◌/◌, ℕ, true, false, None, IfSome};
 ghost use Rattle.packing.specs.Limits.{AreBounded, heads_by, heads_for, is_limit};
 ghost use Rattle.packing.specs.Packing.{AreSound};
 
@@ -49,4 +49,29 @@ pub fn is_limit(sizes: &Sizes, largest: u64, live: u64) -> bool
     }
     let closed = heads * (opening_len(sizes, heads) + sizes.seglet);
     5 * whole * sizes.seglet + live + closed <= sizes.seglets * sizes.seglet
+}
+
+/// The greatest number of which `is_limit` is true, found by bisection in at most 50 tests. None if it is true of none,
+/// not even of 0.
+pub fn greatest_limit(sizes: &Sizes, largest: u64) -> Option<u64>
+    requires sound { AreSound sizes.now }
+    requires bounded { AreBounded sizes.now }
+    ensures limit { IfSome result (λ n. is_limit sizes.now largest n ≡ true) }
+    ensures greatest { IfSome result (λ n. (m : ℕ) → n < m → is_limit sizes.now largest m ≡ false) }
+    ensures none { result ≡ None → (m : ℕ) → is_limit sizes.now largest m ≡ false }
+{
+    if !is_limit(sizes, largest, 0) {
+        return None;
+    }
+    let mut limit = 0;
+    let mut above = sizes.segment / 32 * (sizes.segment + 1);
+    while limit + 1 < above {
+        let middle = limit + (above - limit) / 2;
+        if is_limit(sizes, largest, middle) {
+            limit = middle;
+        } else {
+            above = middle;
+        }
+    }
+    Some(limit)
 }

@@ -1,0 +1,100 @@
+-- What a roll makes of the sums, and what quotients are, over plain numbers.
+use Rattle.std.proofs.Common.{◌≡◌, ℕ, ◌+◌, ◌-◌, ◌*◌, ◌/◌, ◌%◌, ◌^◌, ◌<◌, ◌≤◌, ap, arith}
+use Rattle.std.proofs.Math.Nat.{lt_of_mul-lt-mul_right, mul-le-mul_right, mul-le-mul_left, div-mul-le_self}
+use Rattle.std.proofs.Math.Nat.{lt-div-mul-add, mod-eq-sub-div-mul}
+use Rattle.std.proofs.lemmas.Nat.{le-div, mul-le}
+
+-- ---- one roll
+
+-- heads that had no room are few
+pub few_heads : (segment most later own closed heads len done n live : ℕ)
+    → closed * (segment + 1) + len ≤ done + closed * (most + later) + own → own ≤ later → segment < len + n → n ≤ most
+    → 0 < n → done + n ≤ live → live + (heads + 1) * (most + later) ≤ (heads + 1) * (segment + 1)
+    → most + later ≤ segment → closed + 1 ≤ heads
+few_heads segment most later own closed heads len done n live sum low over small some below limit fits =
+    let room = segment + 1 - (most + later) in
+    let is : most + later + room ≡ segment + 1 = omega arith in
+    let here : (closed + 1) * (most + later + room) ≡ (closed + 1) * (segment + 1) =
+    ap (λ (x : ℕ). (closed + 1) * x) is in
+    let there : (heads + 1) * (most + later + room) ≡ (heads + 1) * (segment + 1) = ap (λ (x : ℕ). (heads + 1) * x) is in
+    let least : (closed + 1) * (segment + 1) ≤ done + (closed + 1) * (most + later) = omega arith in
+    let lt : (closed + 1) * room < (heads + 1) * room = omega arith in
+    let less : closed + 1 < heads + 1 = lt_of_mul-lt-mul_right room lt in omega arith
+
+pub closes_more : (segment most later own next closed len done n : ℕ)
+    → closed * (segment + 1) + len ≤ done + closed * (most + later) + own → own ≤ later → segment < len + n → n ≤ most
+    → (closed + 1) * (segment + 1) + (next + n) ≤ done + n + (closed + 1) * (most + later) + next
+closes_more segment most later own next closed len done n sum low over small = omega arith
+
+pub bytes_more : (used seglet count len done own most closed n next : ℕ)
+    → used * seglet + len ≤ done + own + closed * (most + seglet) → count * seglet < len + seglet → own ≤ most
+    → (used + count) * seglet + (next + n) ≤ done + n + next + (closed + 1) * (most + seglet)
+bytes_more used seglet count len done own most closed n next sum ceil low = omega arith
+
+pub whole_more : (used whole count closed : ℕ) → used ≤ closed * whole → count ≤ whole
+    → used + count ≤ (closed + 1) * whole
+whole_more used whole count closed sum le = omega arith
+
+-- whole seglets make the segment
+pub whole_is : (segment seglet : ℕ) → segment % seglet ≡ 0 → segment / seglet * seglet ≡ segment
+whole_is segment seglet multiple =
+    let floor = div-mul-le_self segment seglet in
+    let rest = mod-eq-sub-div-mul segment seglet in omega arith
+
+-- a head within a segment fills no more seglets than a segment does
+pub within_whole : (segment seglet len count whole : ℕ) → whole * seglet ≡ segment → len ≤ segment
+    → count * seglet < len + seglet → count ≤ whole
+within_whole segment seglet len count whole is le ceil =
+    let lt : count * seglet < (whole + 1) * seglet = omega arith in
+    let less : count < whole + 1 = lt_of_mul-lt-mul_right seglet lt in omega arith
+
+-- ---- memory
+
+-- the closed heads find memory as whole segments
+pub enough_whole : (used whole seglets closed heads : ℕ) → used ≤ closed * whole → closed ≤ heads
+    → (heads + 5) * whole ≤ seglets → 3 * whole + used + 2 * whole ≤ seglets
+enough_whole used whole seglets closed heads sum le enough =
+    let more = mul-le-mul_right whole le in omega arith
+
+-- or by their bytes
+pub enough_bytes : (used whole seglet seglets len done own most closed heads live : ℕ)
+    → used * seglet + len ≤ done + own + closed * (most + seglet) → own ≤ len → closed ≤ heads → done ≤ live
+    → 0 < seglet → 5 * whole * seglet + live + heads * (most + seglet) ≤ seglets * seglet
+    → 3 * whole + used + 2 * whole ≤ seglets
+enough_bytes used whole seglet seglets len done own most closed heads live sum low le below some enough =
+    let more = mul-le-mul_right (most + seglet) le in
+    let lt : (3 * whole + used + 2 * whole) * seglet < (seglets + 1) * seglet = omega arith in
+    let less : 3 * whole + used + 2 * whole < seglets + 1 = lt_of_mul-lt-mul_right seglet lt in omega arith
+
+-- ---- quotients
+
+-- with less to divide, and by no less, the quotient is no greater
+pub quotient_le : (less more wide narrow : ℕ) → less ≤ more → narrow ≤ wide → 0 < narrow → less / wide ≤ more / narrow
+quotient_le less more wide narrow below le some =
+    let floor = div-mul-le_self less wide in
+    let shorter = mul-le-mul_left (less / wide) le in
+    le-div (less / wide) more narrow some (omega arith)
+
+-- what is divided into so many parts is less than one part more
+pub closes_from : (segment taken live heads room : ℕ) → taken ≤ segment → room + taken ≤ segment + 1
+    → live < heads * room + room → live + (heads + 1) * taken ≤ (heads + 1) * (segment + 1)
+closes_from segment taken live heads room fits le below =
+    let more = mul-le-mul_left (heads + 1) le in omega arith
+
+-- one quotient more is too many
+pub parts_above : (live room : ℕ) → 0 < room → live < live / room * room + room
+parts_above live room some = lt-div-mul-add some
+
+-- the sum of a test is small, however many heads there are
+pub small_sum : (segment seglet heads live opened : ℕ) → segment ≤ 8388608 → seglet ≤ 65536 → heads + 1 ≤ segment / 32
+    → opened ≤ 32 + 16 * heads → live ≤ (heads + 1) * (segment + 1)
+    → 5 * (segment / seglet) * seglet + live + heads * (opened + seglet) < 2 ^ 64
+small_sum segment seglet heads live opened most small few short below =
+    let floor = div-mul-le_self segment seglet in
+    let long = mul-le (heads + 1) (segment + 1) 262144 8388609 (omega arith) (omega arith) in
+    let closed = mul-le heads (opened + seglet) 262144 8388608 (omega arith) (omega arith) in omega arith
+
+-- a segment of the least size has bytes
+pub some_bytes : (segment : ℕ) → 512 ≤ segment → 0 < segment / 32 * (segment + 1)
+some_bytes segment least =
+    let more = mul-le 1 1 (segment / 32) (segment + 1) (omega arith) (omega arith) in omega arith

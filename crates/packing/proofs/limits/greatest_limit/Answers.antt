@@ -1,0 +1,16 @@
+use Rattle.std.proofs.Common.{sym, ◌∙◌, arith}
+use Rattle.packing.proofs.Numbers.{some_bytes}
+use Rattle.packing.proofs.Greatest.{above_all, none_above}
+use Rattle.packing.proofs.limits.greatest_limit.Goals as goal
+
+pub loop-limit-init : goal.loop-limit-init
+loop-limit-init c = record {
+  below = some_bytes c.args.sizes.now.segment c.requires.sound.least;
+  limit = sym c.is_limit.ensures ∙ c.if-not-is_limit.false;
+  none = above_all c.args.sizes.now c.args.largest c.requires.sound;
+}
+
+pub returns-clause-greatest : goal.returns-clause-greatest
+returns-clause-greatest c = λ m lt.
+    none_above c.args.sizes.now c.args.largest c.requires.sound c.loop-limit.above m
+    (let end = c.loop-limit-test.false in omega arith) c.loop-limit.invariant.none

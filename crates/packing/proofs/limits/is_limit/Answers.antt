@@ -1,0 +1,17 @@
+use Rattle.std.proofs.Common.{◌≡◌, ◌+◌, ◌*◌, ◌≤◌, ℕ, sym, subst, arith}
+use Rattle.packing.proofs.Heads.{few_bytes, opening_small}
+use Rattle.packing.proofs.Numbers.{small_sum}
+use Rattle.packing.proofs.limits.is_limit.Goals as goal
+
+pub overflow_add-result-2 : goal.overflow_add-result-2
+overflow_add-result-2 c =
+    let few = c.if-heads-sizes.false in
+    let least = c.requires.sound.least in
+    let is = c.heads_for-heads.ensures in
+    let short = subst (λ (h : ℕ). c.args.live ≤ (h + 1) * (c.args.sizes.now.segment + 1)) (sym is)
+    (few_bytes c.args.sizes.now c.args.largest c.requires.sound c.args.live (omega arith)) in
+    let opening = opening_small c.args.sizes.now c.heads_for-heads.result in
+    let opened = c.opening_len.ensures in
+    let small = small_sum c.args.sizes.now.segment c.args.sizes.now.seglet c.heads_for-heads.result c.args.live
+    c.opening_len.result c.requires.sound.most c.requires.bounded.seglet (omega arith) (omega arith) short in
+    omega (arith, small)
