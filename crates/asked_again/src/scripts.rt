@@ -24,6 +24,8 @@ pub const OPTIONS: Options = Options {
     bytes: 1_048_576,
     objects: 1_000_000,
     format: 1,
+    largest: u64::MAX,
+    live: u64::MAX,
 };
 
 /// A script with tombstones.

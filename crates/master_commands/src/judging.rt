@@ -8,7 +8,8 @@ ghost use Rattle.places.specs.declared.place.Place.{Place as PlaceValue};
 ghost use Rattle.places.specs.Hashing.{hash_of};
 ghost use Rattle.versioned_map.specs.Command.{command_key};
 ghost use Rattle.history.specs.View.{shown_command};
-ghost use Rattle.master_state.specs.Causes.{early_refusal, unit_refusal, command_refusal, live_now, unit_now};
+ghost use Rattle.master_state.specs.Causes.{early_refusal, unit_refusal, command_refusal, is_overcommitted, live_now};
+ghost use Rattle.master_state.specs.Causes.{unit_now};
 ghost use Rattle.master_state.specs.Live.{bytes_of};
 ghost use Rattle.master_state.specs.Index.{segment_at, place_found, object_found};
 ghost use Rattle.master_state.specs.Log.{held_now, find, images_of};
@@ -108,6 +109,13 @@ fn version_of(found: &Option<(Place, ObjectRef<'_>)>) -> Option<Version>
     }
 }
 
+/// Returns true if so many bytes of live objects are more than the limit, and more than there are.
+fn is_overcommitted(core: &Core, live: u64) -> bool
+    ensures { result ≡ is_overcommitted core.now live }
+{
+    core.config.most_live < live && core.live < live
+}
+
 /// The bytes of the object that was found, which has the command's key; 0 if there is none.
 fn bytes_of(command: &CommandRef<'_>, found: &Option<(Place, ObjectRef<'_>)>) -> u64
     ensures { result ≡ bytes_of (command_key (shown_command command.now)) (object_found found.now) }
@@ -144,7 +152,7 @@ pub(crate) fn judge<'a>(
         return Err(Refusal::VersionsSpent);
     };
     let live = change.live_after(core.live, bytes_of(command, &found), command);
-    if core.config.most_live < live && core.live < live {
+    if is_overcommitted(core, live) {
         return Err(Refusal::Overcommit);
     }
     fit(core, command, &change)?;

@@ -33,6 +33,8 @@ fn copy_of(alloc: Global, config: &Config) -> Option<Config>
         history: config.history,
         hasher: config.hasher,
         format: config.format,
+        largest: config.largest,
+        most_live: config.most_live,
     })
 }
 

@@ -59,6 +59,8 @@ fn config_in(alloc: Global, number: u64, seglets: u64, format: u64) -> Option<Co
         history: 1_048_576,
         hasher: KeyHasher::new(),
         format,
+        largest: u64::MAX,
+        most_live: u64::MAX,
     };
     match config.check() {
         Ok(()) => Some(config),

@@ -66,6 +66,8 @@ fn small_config(alloc: Global, shape: Shape) -> Option<Config>
         history: RECORDS,
         hasher: KeyHasher::new(),
         format,
+        largest: u64::MAX,
+        most_live: u64::MAX,
     };
     match config.check() {
         Ok(()) => Some(config),
