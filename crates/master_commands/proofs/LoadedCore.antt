@@ -55,6 +55,7 @@ use Rattle.master_state.specs.Data.{MasterData}
 use Rattle.master_state.specs.Images.{images_among, with_closed}
 use Rattle.master_state.specs.Index.{LiesFound}
 use Rattle.master_state.specs.Invariant.{IsIndex, IsFirst, IsRollOf, IsOpenPass, IsFailover, NameBelow, IsCore}
+use Rattle.master_state.specs.Live.{object_bytes, with_bytes}
 use Rattle.master_state.specs.Loading.{IsBare, loaded_unit, is_object_too_big, load_refusal, IsNewObject, origin_with}
 use Rattle.master_state.specs.Loading.{Loads, MayLoadNow, settled_data}
 use Rattle.master_state.specs.Steps.{rolling_data, closed_data, roll_ended, taken_data, ledger_after, pushed_data}
@@ -116,7 +117,12 @@ module _ (d : MasterData) (core : IsCore d) (bare : IsBare d) (o : Object) (is_n
   place = record { segment = d.head.id; at = length (text_of d.head.image) }
 
   abbrev pub loaded : MasterData
-  loaded = record d { head = with_unit_end d.head 0 unit; index = new; origin = origin_with d.origin o }
+  loaded = record d {
+    head = with_unit_end d.head 0 unit;
+    index = new;
+    origin = origin_with d.origin o;
+    live = with_bytes d.live (object_bytes o.key o.value);
+  }
 
   admitted : IsAdmitted d o
   admitted = is_admitted d o passed

@@ -69,14 +69,15 @@ impl Loads for Core {
         ensures err { OnErr result (self.new ≡ self.old) }
     {
         admit_object(self, object)?;
+        let live = self.live.saturating_add(object_len(object) as u64);
         append_object(
             &mut self.head,
             &mut self.index,
             object,
             self.config.segment as usize,
         )?;
+        self.live = live;
         self.loaded = Loaded::with(&self.loaded, object);
-        self.live = self.live.saturating_add(object_len(object) as u64);
         Ok(())
     }
 

@@ -13,6 +13,8 @@ use Rattle.master_state.specs.Data.{MasterData}
 use Rattle.master_state.specs.Images.{images_among}
 use Rattle.master_commands.proofs.Indexed.{IsMovedBy}
 use Rattle.master_state.specs.Invariant.{IsCore}
+use Rattle.master_state.specs.Live.{object_bytes, with_bytes}
+use Rattle.master_commands.proofs.Changes.{length_object_entry}
 use Rattle.master_state.specs.Loading.{IsBare, IsNewObject, loaded_unit, load_refusal, Loads, MayLoadNow}
 use Rattle.master_commands.proofs.LoadedCore.{is_admitted, absent_then, loaded, may_load, loaded_core, loads}
 use Rattle.master_commands.proofs.loading.CoreLoads.load.Goals as goal
@@ -64,13 +66,19 @@ module _ (c : goal.After-with-self-inside) where
     head = c.append_object.new.head;
     index = c.append_object.new.index.held;
     origin = record { objects = c.with-self-inside.result.objects; safe = d.origin.safe };
+    live = c.saturating_add-live.result;
   }
+
+  live : c.saturating_add-live.result ≡ with_bytes d.live (object_bytes o.key o.value)
+  live = c.saturating_add-live.ensures
+      ∙ ap (with_bytes d.live) (c.object_len.ensures.len ∙ length_object_entry o.key o.version o.value)
 
   knows : loaded d c.self.invariant.2 bare o is_new passed c.append_object.new.index.held head moved ≡ left
   knows = λ i. record d {
     head = sym head_is i;
     index = c.append_object.new.index.held;
     origin = record { objects = sym c.with-self-inside.ensures i; safe = d.origin.safe };
+    live = sym live i;
   }
 
   core : IsCore left
