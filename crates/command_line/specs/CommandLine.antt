@@ -1,5 +1,5 @@
 -- The command line: which options there are, what number each one has, and which words are refused.
-use Rattle.std.specs.Prelude.{◌≡◌, ◌<◌, ◌≤◌, ◌^◌, ℕ, List, [], ◌∷◌, Option, Some}
+use Rattle.std.specs.Prelude.{◌≡◌, ◌<◌, ◌≤◌, ◌-◌, ◌^◌, ℕ, List, [], ◌∷◌, Option, Some}
 use Rattle.std.specs.Prelude.{None, Result, MatchResult, codes, true, false}
 use Rattle.std.specs.List.{fold}
 use Rattle.std.specs.Str.Parse.{IsNumeral, digits_value, without_leading_plus}
@@ -20,7 +20,7 @@ pub record NumberOption : Type 0 where
   pub most : ℕ
   pub default : ℕ
 
--- the eleven options
+-- the thirteen options
 abbrev pub backups : NumberOption
 backups = record { name = codes "backups"; least = 1; most = 64; default = 3 }
 
@@ -54,6 +54,12 @@ objects = record { name = codes "objects"; least = 1; most = 4294967296; default
 abbrev pub format : NumberOption
 format = record { name = codes "format"; least = 1; most = 2; default = 1 }
 
+abbrev pub largest : NumberOption
+largest = record { name = codes "largest"; least = 24; most = 8388608; default = 2 ^ 64 - 1 }
+
+abbrev pub live : NumberOption
+live = record { name = codes "live"; least = 0; most = 281474976710656; default = 2 ^ 64 - 1 }
+
 -- an option as clap takes it: a long name, and one value that is a number in the range
 abbrev pub number_rule : Text → ℕ → ℕ → Rule
 number_rule name least most = record (new_rule name) {
@@ -70,10 +76,11 @@ with_option app option = with_rule app (number_rule option.name option.least opt
 abbrev pub with_version : App → App
 with_version app = record app { top = record app.top { has_version = true } }
 
--- the program's command: the eleven options, a version, and nothing else
+-- the program's command: the thirteen options, a version, and nothing else
 unfoldable pub ramlog : App
 ramlog = fold with_option (with_version (new_app (codes "ramlog")))
-    (backups ∷ replicas ∷ step ∷ segment ∷ seglet ∷ seglets ∷ tables ∷ history ∷ bytes ∷ objects ∷ format ∷ [])
+    (backups ∷ replicas ∷ step ∷ segment ∷ seglet ∷ seglets ∷ tables ∷ history ∷ bytes ∷ objects ∷ format
+    ∷ largest ∷ live ∷ [])
 
 -- clap's exact matches of the words
 unfoldable pub ramlog_matches : List Text → List Row
@@ -106,6 +113,8 @@ pub record HasEach (Is : NumberOption → ℕ → Type 0) (o : Options) : Type 0
   pub bytes : Is bytes o.bytes
   pub objects : Is objects o.objects
   pub format : Is format o.format
+  pub largest : Is largest o.largest
+  pub live : Is live o.live
 
 -- each field is its option's number in the matches
 abbrev pub HasOptions : List Row → Options → Type 0
@@ -125,6 +134,8 @@ default_options = record {
   bytes = bytes.default;
   objects = objects.default;
   format = format.default;
+  largest = largest.default;
+  live = live.default;
 }
 
 -- the defaults, unless memory runs out

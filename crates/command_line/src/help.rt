@@ -30,6 +30,8 @@ pub(crate) const AFTER_HELP: &str = "Lines of a script:
                calls that were accepted
   log          Shows the numbers of the log's segments, rising, the head last: 'log ID ..'
   room         Shows how many seglets of memory are counted, and how many are free: 'used N free N'
+  live         Shows the bytes of the live objects, 23 + key + value each, and their limit: 'live BYTES N' or
+               'live BYTES none'
   hex ID       Shows the bytes of segment ID in the master's memory, in hexadecimal
   holdings     Shows the replicas that the backups hold, one a line: 'B MASTER ID LENGTH open' or '.. closed'. No line
                stands behind them, and none at all is printed if the backups hold nothing
@@ -38,8 +40,12 @@ pub(crate) const AFTER_HELP: &str = "Lines of a script:
   stop N       Lets the backups take N more pieces of the log, and then no more
   fault N taken  Has the backup fail that gets the N-th piece from now, though it took it; with 'lost' it took it not
   format 2     Lets masters that start later write format 2
+  seglets N    Lets masters that start later have N seglets of memory: 'seglets N'. After 'refused Full' of a recovery,
+               N from 'needs' lets the next one succeed
   crash        Drops the master; the backups keep what they hold
   lose B       Makes backup B lose all that it holds, once the master is gone; backups count from 0
+  needs        Shows how many seglets a new master needs for the table that a recovery would find now: 'needs N', or
+               'needs segments' if its list of segments has too few places
   recover      Rebuilds the table from what the backups hold, divided by the will. A new master adopts it, and the
                replicas of all others are freed. Then it shows the table: 'T K VERSION VALUE' .., 'recovered N'
   recover reverse  Does the same, and replays in reverse
@@ -49,14 +55,18 @@ pub(crate) const AFTER_HELP: &str = "Lines of a script:
 Limits:
   A line has at most 4096 bytes: words of visible characters, with one space between two words. A key has at most
   1024 bytes. For a key of k bytes and a value of v bytes, 50 + 2k + v is at most a quarter of --segment: by default a
-  key of one byte has a value of at most 76 bytes.
+  key of one byte has a value of at most 76 bytes. The object has 23 + k + v bytes, at most --largest.
   The memory has to hold four segments: --seglets is at least 4 * segment / seglet. So a greater --segment needs more
   --seglets: --segment=4096 needs --seglets=256.
+  With --live, a recovery is never refused as Full while no backup fails in it, if later masters keep --seglets and
+  --format. A put that would make the live objects more than --live is refused as Overcommit. If a new master can't
+  always load so many bytes, the options don't fit each other. --live=0 sets the most that fit; a smaller --largest
+  lets more fit.
   A master accepts as many commands as --history says, gets too. The next master counts from 0 again.
   Up to 64 callers, its seats, share a master: the script is one, and 'clients' has up to 63.
 
 Refusals. A line that is refused prints 'refused NAME', and the script goes on:
-   1 TooBig         The put needs more than a quarter of a segment
+   1 TooBig         The put needs more than a quarter of a segment, or its object has more bytes than --largest
    2 Full           There is no room for one more segment, in memory or in the list of segments
    3 VersionsSpent  The put would take a version above 2^62
    4 HistoryFull    The master has accepted as many commands as --history says
@@ -70,6 +80,7 @@ Refusals. A line that is refused prints 'refused NAME', and the script goes on:
   11 SegmentsSpent  A segment would have a number above 2^62
   12 NoTablet       There is no such table
   13 Lost B         Backup B failed in a 'push', a 'seal' or a 'free', and its replicas are made anew: 'push' goes on
+  14 Overcommit     The put would make the live objects more than --live allows
      Down, Up       There is no master: 'recover' makes one. There is a master: 'crash' drops it
      NoHead, HeadClosed ID, HeadTooOld ID or Missing ID
                     A recovery lacks a usable replica of the newest segment, or of segment ID

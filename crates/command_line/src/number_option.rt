@@ -1,4 +1,4 @@
-//! The eleven options, each with its name, range, default and help.
+//! The thirteen options, each with its name, range, default and help.
 ghost use Rattle.std.specs.Prelude.{◌≡◌, false};
 ghost use Rattle.clap.specs.Words.{IsPlainArg, found_of, one_text, rule_of};
 ghost use Rattle.command_line.specs.CommandLine.{ReadsNumber, number_rule};
@@ -105,9 +105,26 @@ pub(crate) const FORMAT: NumberOption = NumberOption {
     help: "Format of the log: 2 lists each segment with its length: 1 to 2 [default: 1]",
 };
 
+pub(crate) const LARGEST: NumberOption = NumberOption {
+    name: "largest",
+    least: 24,
+    most: 8388608,
+    default: u64::MAX,
+    help: "Most bytes of an object, 23 + key + value: 24 to 8388608 [default: a quarter of a segment]",
+};
+
+pub(crate) const LIVE: NumberOption = NumberOption {
+    name: "live",
+    least: 0,
+    most: 281474976710656,
+    default: u64::MAX,
+    help: "Most bytes of live objects; 0 for the most that always load: 0 to 281474976710656 [default: none]",
+};
+
 /// All options, in the order of the help.
 pub(crate) const OPTIONS: &[NumberOption] = &[
     BACKUPS, REPLICAS, STEP, SEGMENT, SEGLET, SEGLETS, TABLES, HISTORY, BYTES, OBJECTS, FORMAT,
+    LARGEST, LIVE,
 ];
 
 impl NumberOption {

@@ -7,8 +7,8 @@ ghost use Rattle.command_line.specs.CommandLine.{ramlog, ramlog_faults, ramlog_m
 
 use crate::help::{ABOUT, AFTER_HELP, USAGE, VERSION};
 use crate::number_option::{
-    BACKUPS, BYTES, FORMAT, HISTORY, OBJECTS, OPTIONS, REPLICAS, SEGLET, SEGLETS, SEGMENT, STEP,
-    TABLES,
+    BACKUPS, BYTES, FORMAT, HISTORY, LARGEST, LIVE, OBJECTS, OPTIONS, REPLICAS, SEGLET, SEGLETS,
+    SEGMENT, STEP, TABLES,
 };
 use crate::settings::Options;
 use clap::{ArgMatches, Command, Error};
@@ -62,5 +62,7 @@ fn read_matches(matches: &ArgMatches<'_>) -> Options
         bytes: BYTES.number(matches),
         objects: OBJECTS.number(matches),
         format: FORMAT.number(matches),
+        largest: LARGEST.number(matches),
+        live: LIVE.number(matches),
     }
 }

@@ -25,4 +25,11 @@ pub struct Options {
     pub objects: u64,
     /// The format of the log. 1 or 2, 1 by default.
     pub format: u64,
+    /// The most bytes of one object: 23 and those of its key and its value. A put of a longer one is refused as TooBig.
+    /// From 24 to 8388608. By default it is 18446744073709551615, which sets no limit beside the quarter of a segment.
+    pub largest: u64,
+    /// The most bytes that puts make of all live objects together, each counted as above. A put that would make them
+    /// more is refused as Overcommit. From 0 to 281474976710656. 0 stands for the greatest limit under which a new
+    /// master can always load the table. By default it is 18446744073709551615, which sets no limit.
+    pub live: u64,
 }

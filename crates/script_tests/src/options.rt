@@ -4,7 +4,7 @@ use script::{Options, options};
 use std::alloc::Global;
 
 /// The numbers of the options, in the order of the help.
-fn numbers(options: &Options) -> [u64; 11] {
+fn numbers(options: &Options) -> [u64; 13] {
     let Options {
         backups,
         replicas,
@@ -20,18 +20,26 @@ fn numbers(options: &Options) -> [u64; 11] {
         bytes,
         objects,
         format,
+        largest,
+        live,
         ..
     } = *options;
     [
         backups, replicas, step, segment, seglet, seglets, tables, history, bytes, objects, format,
+        largest, live,
     ]
 }
 
+/// The number of an option that sets no limit.
+const NONE: u64 = u64::MAX;
+
 /// Command lines, and what they set.
-const ROWS: &[(&[&str], [u64; 11])] = &[
+const ROWS: &[(&[&str], [u64; 13])] = &[
     (
         &["ramlog"],
-        [3, 2, 1, 512, 64, 64, 4, 1048576, 1048576, 1000000, 1],
+        [
+            3, 2, 1, 512, 64, 64, 4, 1048576, 1048576, 1000000, 1, NONE, NONE,
+        ],
     ),
     (
         &[
@@ -47,12 +55,17 @@ const ROWS: &[(&[&str], [u64; 11])] = &[
             "1",
             "--tables=+7",
             "--format=2",
+            "--largest=24",
+            "--live",
+            "0",
         ],
-        [64, 2, 3, 8388608, 64, 32, 7, 1, 1048576, 4294967296, 2],
+        [
+            64, 2, 3, 8388608, 64, 32, 7, 1, 1048576, 4294967296, 2, 24, 0,
+        ],
     ),
 ];
 
-fn are_set(alloc: Global, words: &[&str], want: &[u64; 11]) -> bool {
+fn are_set(alloc: Global, words: &[&str], want: &[u64; 13]) -> bool {
     match &options(alloc, words) {
         Ok(options) => numbers(options) == *want,
         Err(_) => false,

@@ -3,7 +3,7 @@ use Rattle.clap.specs.Words.{HasKind, Kinds}
 use Rattle.clap.proofs.KindLemmas.{fails_by_from}
 use Rattle.command_line.proofs.Ramlog.{bare_options, bare_refusal, faults_are, has_number, is_free}
 use Rattle.command_line.proofs.Ramlog.{has_backups, has_replicas, has_step, has_segment, has_seglet, has_seglets}
-use Rattle.command_line.proofs.Ramlog.{has_tables, has_history, has_bytes, has_objects, has_format}
+use Rattle.command_line.proofs.Ramlog.{has_tables, has_history, has_bytes, has_objects, has_format, has_largest, has_live}
 use Rattle.command_line.proofs.reading.options.Goals as goal
 
 pub returns-in_err-matches-clause-refuses : goal.returns-in_err-matches-clause-refuses
@@ -38,6 +38,8 @@ returns-clause-reads c =
       bytes = of _ has_bytes _ read.bytes;
       objects = of _ has_objects _ read.objects;
       format = of _ has_format _ read.format;
+      largest = of _ has_largest _ read.largest;
+      live = of _ has_live _ read.live;
     }
 
 pub returns-clause-bare : goal.returns-clause-bare

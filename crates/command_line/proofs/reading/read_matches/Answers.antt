@@ -13,4 +13,6 @@ returns c = record {
   bytes = c.number-9.ensures;
   objects = c.number-10.ensures;
   format = c.number-11.ensures;
+  largest = c.number-12.ensures;
+  live = c.number-13.ensures;
 }
