@@ -1,4 +1,5 @@
 pub mod Configuration
+pub mod Limits
 pub mod Numbers
 pub mod Succession
 pub mod Recoveries

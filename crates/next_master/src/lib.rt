@@ -8,9 +8,11 @@
 //! masters have. The crate stands on `node` and `recovery`.
 #![tactic(auto)]
 
+mod limits;
 mod recovering;
 mod setup;
 
+pub use limits::with_limit;
 pub use node;
 pub use node::{answers, driving, master, recovery, replay};
 pub use recovering::{Recovery, next_number, recover_node};

@@ -8,6 +8,7 @@ use Rattle.next_master.specs.master.master_state.declared.config.ConfigFault.{Co
 use Rattle.next_master.specs.master.master_state.Config.{config_fault}
 use Rattle.next_master.specs.answers.declared.fault.ScriptFault.TheVariants.{NoMemory}
 use Rattle.next_master.specs.Configuration.{config_of}
+use Rattle.next_master.specs.Limits.{SetsLimit}
 use Rattle.next_master.specs.answers.Errors.{Errors, Writes}
 use Rattle.script.specs.Runs.{RunResult, RunsScript}
 use Rattle.next_master.specs.answers.Texts.{config_lines, exit_status, fault_lines}
@@ -45,6 +46,8 @@ abbrev pub RunsOptions : Options → Streams → Streams → ℕ → Type 0
 RunsOptions options old new status =
     IsMisuse (config_of options 1) old new status ⊎ IsRunOf options old new status
 
--- what the program does with the options that these matches of its words have
+-- What the program does with the options that these matches of its words have. They may ask for the greatest limit of
+-- live bytes.
 abbrev pub RunsMatches : List Row → Streams → Streams → ℕ → Type 0
-RunsMatches rows old new status = (options : Options) × HasOptions rows options × RunsOptions options old new status
+RunsMatches rows old new status = (asked : Options) × HasOptions rows asked
+    × (options : Options) × SetsLimit asked options × RunsOptions options old new status

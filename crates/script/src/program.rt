@@ -11,14 +11,14 @@ use crate::session::FIRST_MASTER;
 use clap::Error;
 use command_line::{Options, options};
 use next_master::answers::{ErrorOutput, ScriptFault, report, report_config};
-use next_master::configuration;
+use next_master::{configuration, with_limit};
 use std::alloc::Global;
 use std::io::{BufRead, Write};
 use std::sync::Wait;
 use std::thread::Threads;
 
 /// Runs the program: it reads the options from the words, does what they say, and answers the exit status. The first
-/// word is the program's name.
+/// word is the program's name. A limit of live bytes of 0 stands for the greatest one.
 ///
 /// The error is clap's. Nothing was read then, and nothing was written to either output: the caller prints the error's
 /// text. Its exit code is 2, or 0 if `--help` or `--version` was asked for.
@@ -41,7 +41,10 @@ pub fn run_program<'a, H: Threads + Wait + Sync, R: BufRead, W: Write, E: Write 
     ensures unreported { IfErr result (λ _. errors.new ≡ errors.old) }
 {
     match options(alloc, words) {
-        Ok(options) => Ok(run_options(rt, alloc, options, reader, writer, errors)),
+        Ok(options) => {
+            let options = with_limit(&options);
+            Ok(run_options(rt, alloc, options, reader, writer, errors))
+        }
         Err(error) => Err(error),
     }
 }
