@@ -47,6 +47,7 @@ adopted_still c r d (Err take_fault.Fault) adopted = record {
   history = adopted.history;
   opened = adopted.opened;
   pushed = adopted.pushed;
+  live = adopted.live;
 }
 adopted_still c r d (Err take_fault.Spent) adopted = adopted
 

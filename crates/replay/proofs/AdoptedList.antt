@@ -25,7 +25,7 @@ use Rattle.claims.specs.declared.rebuilt.Rebuilt.{Rebuilt}
 use Rattle.driving.specs.Rolls.{PushesUntil}
 use Rattle.driving.specs.Served.{IsSpent}
 use Rattle.driving.proofs.MasterSteps.{nothing_waits, spent_begin, spent_push}
-use Rattle.replay.specs.Adopting.{LoadsAll, IsStuck, Stops, IsAdopted, IsAdoptedOn, AdoptsList}
+use Rattle.replay.specs.Adopting.{LoadsAll, IsStuck, Stops, IsAdopted, IsAdoptedOn, AdoptsList, live_with}
 use Rattle.replay.proofs.LoadList.{contents_loaded}
 use Rattle.replay.proofs.LoadSteps.{all_keeps, stacked}
 
@@ -86,6 +86,8 @@ adopted_is c r os start now m made listed loads settles =
       pushed = ap is_done settles.rest
           ∙ ap (λ (b : Bool). is_none now.knows.failover && b) (settled_pushed now.knows.head opened)
           ∙ ap (λ (b : Bool). b && true) done.0;
+      live = ap (λ (d : MasterData). d.live) settles.rest ∙ kept.live
+          ∙ ap (λ (d : MasterData). live_with d.live os) made ∙ ap (live_with 0) listed;
     }
 
 -- ---- its fleet

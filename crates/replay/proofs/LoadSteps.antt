@@ -22,7 +22,8 @@ use Rattle.driving.specs.Rolls.{Advances, ArePushed, PushesUntil, GoesRolling, I
 use Rattle.driving.proofs.Losses.{push_lost}
 use Rattle.driving.proofs.MasterSteps.{nothing_waits}
 use Rattle.driving.proofs.Ops.{failed_counts, op_counts}
-use Rattle.replay.specs.Adopting.{HasRoomMade, LoadsOne, HasLoaded, LoadsAll, DeclinesOne, IsStuck, Stops, IsAdoptedOn}
+use Rattle.replay.specs.Adopting.{HasRoomMade, LoadsOne, HasLoaded, LoadsAll, DeclinesOne, IsStuck, Stops, IsAdoptedOn, live_with}
+use Rattle.driving.specs.master_core.master_state.Live.{object_bytes, with_bytes}
 
 -- ---- the fleet
 
@@ -101,11 +102,16 @@ stacked_append : (os ps base : List Object) → stacked (os ++ ps) base ≡ stac
 stacked_append [] ps base = refl
 stacked_append (o ∷ os) ps base = stacked_append os ps (o ∷ base)
 
+live_append : (os ps : List Object) (live : ℕ) → live_with live (os ++ ps) ≡ live_with (live_with live os) ps
+live_append [] ps live = refl
+live_append (o ∷ os) ps live = live_append os ps (with_bytes live (object_bytes o.key o.value))
+
 pub record KeepsLoaded (os : List Object) (old new : World) : Type 0 where
   pub config : new.knows.config ≡ old.knows.config
   pub history : new.knows.history ≡ old.knows.history
   pub safe : new.knows.origin.safe ≡ old.knows.origin.safe
   pub objects : new.knows.origin.objects ≡ stacked os old.knows.origin.objects
+  pub live : new.knows.live ≡ live_with old.knows.live os
   pub fleet : IsAdoptedOn old.knows.config.master old.fleet new.fleet
 
 keeps_same : (w : World) → KeepsLoaded [] w w
@@ -114,6 +120,7 @@ keeps_same w = record {
   history = refl;
   safe = refl;
   objects = refl;
+  live = refl;
   fleet = adopted_same w.knows.config.master w.fleet;
 }
 
@@ -124,6 +131,7 @@ keeps_further os ps a b c first later = record {
   history = later.history ∙ first.history;
   safe = later.safe ∙ first.safe;
   objects = later.objects ∙ ap (stacked ps) first.objects ∙ sym (stacked_append os ps a.knows.origin.objects);
+  live = later.live ∙ ap (λ (n : ℕ). live_with n ps) first.live ∙ sym (live_append os ps a.knows.live);
   fleet = adopted_further a.knows.config.master a.fleet b.fleet c.fleet first.fleet
       (subst (λ (m : ℕ). IsAdoptedOn m b.fleet c.fleet) (ap (λ c. c.master) first.config) later.fleet);
 }
@@ -140,6 +148,7 @@ module _ (old new : World) where
     history = ap (λ (d : MasterData). d.history) is ∙ same.1;
     safe = ap (λ (d : MasterData). d.origin.safe) is ∙ ap (λ o. o.safe) same.3;
     objects = ap (λ (d : MasterData). d.origin.objects) is ∙ ap (λ o. o.objects) same.3;
+    live = ap (λ (d : MasterData). d.live) is ∙ same.4;
     fleet = fleet;
   }
 
@@ -153,6 +162,7 @@ module _ (old new : World) where
     history = ap (λ (d : MasterData). d.history) (push_lost old new b declines).knows;
     safe = ap (λ (d : MasterData). d.origin.safe) (push_lost old new b declines).knows;
     objects = ap (λ (d : MasterData). d.origin.objects) (push_lost old new b declines).knows;
+    live = ap (λ (d : MasterData). d.live) (push_lost old new b declines).knows;
     fleet = declined_adopts old new (refusal.Lost b) declines;
   }
 
@@ -162,6 +172,7 @@ module _ (old new : World) where
     history = ap (λ (d : MasterData). d.history) h.0.rest;
     safe = ap (λ (d : MasterData). d.origin.safe) h.0.rest;
     objects = ap (λ (d : MasterData). d.origin.objects) h.0.rest;
+    live = ap (λ (d : MasterData). d.live) h.0.rest;
     fleet = quiet old new h.1;
   }
 
@@ -171,6 +182,7 @@ module _ (old new : World) where
     history = ap (λ (d : MasterData). d.history) h.rest;
     safe = ap (λ (d : MasterData). d.origin.safe) h.rest;
     objects = ap (λ (d : MasterData). d.origin.objects) h.rest;
+    live = ap (λ (d : MasterData). d.live) h.rest;
     fleet = quiet old new fleet;
   }
 

@@ -10,6 +10,7 @@ use Rattle.driving.specs.master_core.master_state.declared.step.Refusal.{Refusal
 use Rattle.driving.specs.master_core.master_state.declared.step.Refusal.TheVariants as refusal
 use Rattle.driving.specs.master_core.master_state.Causes.{is_done}
 use Rattle.driving.specs.master_core.master_state.Data.{MasterData}
+use Rattle.driving.specs.master_core.master_state.Live.{object_bytes, with_bytes}
 use Rattle.driving.specs.master_core.master_state.Loading.{load_refusal, restored_data, Loads, Settles}
 use Rattle.driving.specs.master_core.master_state.Log.{opening_of}
 use Rattle.driving.specs.master.Loading.{DeclinesLoad}
@@ -72,6 +73,11 @@ pub record Stops (os : List Object) (old : World) (r : Refusal) (new : World) : 
 
 -- ---- an adoption
 
+-- the bytes of the live objects once these are loaded, where so many were live before
+abbrev pub live_with : ℕ → List Object → ℕ
+live_with live [] = live
+live_with live (o ∷ os) = live_with (with_bytes live (object_bytes o.key o.value)) os
+
 -- The master's map is the list, its history is empty, its head is open, and nothing waits to be pushed.
 pub record IsAdopted (c : Config) (r : Rebuilt) (d : MasterData) : Type 0 where
   pub config : d.config ≡ c
@@ -79,6 +85,8 @@ pub record IsAdopted (c : Config) (r : Rebuilt) (d : MasterData) : Type 0 where
   pub history : d.history ≡ []
   pub opened : is_open d.head ≡ true
   pub pushed : is_done d ≡ true
+  -- the objects of the list are counted
+  pub live : d.live ≡ live_with 0 r.objects
 
 -- What an adoption leaves of the fleet, whether it succeeds or not.
 pub record IsAdoptedOn (master : ℕ) (old new : FleetState) : Type 0 where
