@@ -1,5 +1,5 @@
 -- The greatest limit: there is a number above all limits, and above a number that is no limit there is none.
-use Rattle.std.proofs.Common.{◌≡◌, ℕ, ◌+◌, ◌*◌, ◌<◌, ◌≤◌, true, false, sym, ◌∙◌, arith}
+use Rattle.std.proofs.Common.{◌≡◌, ℕ, ◌+◌, ◌*◌, ◌<◌, ◌≤◌, false, sym, ◌∙◌, arith}
 use Rattle.std.proofs.Math.Nat.{mul-le-mul_left, min-le_right}
 use Rattle.std.proofs.lemmas.Bool.{and_left, lt-leb, false_from_ne_true}
 use Rattle.std.proofs.lemmas.Nat.{le-div}

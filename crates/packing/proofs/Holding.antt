@@ -11,7 +11,7 @@ use Rattle.packing.specs.declared.sizes.Sizes.{Sizes}
 use Rattle.packing.specs.Packing.{AreSound, whole, most_ids, opening_len, empty_log, rolled, longer, takes}
 use Rattle.packing.specs.Packing.{with_object, packed, seglets_at}
 use Rattle.packing.specs.Limits.{IsLimit, AreLengths}
-use Rattle.packing.specs.Laws.{LeavesTwo, WithinLimitLoads}
+use Rattle.packing.specs.Laws.{WithinLimitLoads}
 use Rattle.packing.proofs.Numbers.{few_heads, closes_more, bytes_more, whole_more, enough_whole, enough_bytes}
 use Rattle.packing.proofs.Numbers.{whole_is, within_whole}
 use Rattle.packing.proofs.Heads.{opening_le}

@@ -1,5 +1,5 @@
 -- How many bytes of objects a new master can load, whatever they are and whatever their order.
-use Rattle.std.specs.Prelude.{◌≡◌, ◌⊎◌, ℕ, ◌+◌, ◌-◌, ◌*◌, ◌/◌, ◌%◌, ◌^◌, ◌<◌, ◌≤◌, ◌&&◌, ◌||◌, List, Bool, nat_le, min}
+use Rattle.std.specs.Prelude.{◌⊎◌, ℕ, ◌+◌, ◌-◌, ◌*◌, ◌/◌, ◌^◌, ◌<◌, ◌≤◌, ◌&&◌, ◌||◌, List, Bool, nat_le, min}
 use Rattle.std.specs.List.{AllByRecursion}
 use Rattle.packing.specs.declared.sizes.Sizes.{Sizes}
 use Rattle.packing.specs.Packing.{whole, most_ids, opening_len}

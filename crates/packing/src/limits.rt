@@ -13,7 +13,7 @@ fn heads_by(sizes: &Sizes, largest: u64, live: u64, listed: u64) -> u64
     requires listed { listed ≤ sizes.now.segment / 32 }
     ensures { result ≡ heads_by sizes.now largest live listed }
 {
-    let longest = largest.min(sizes.segment / 4);
+    let longest = (sizes.segment / 4).min(largest);
     live / (sizes.segment + 1 - (longest + opening_len(sizes, listed)))
 }
 
@@ -24,11 +24,7 @@ fn heads_for(sizes: &Sizes, largest: u64, live: u64) -> u64
 {
     let most = sizes.segment / 32;
     let heads = heads_by(sizes, largest, live, most);
-    if heads < most {
-        heads_by(sizes, largest, live, heads + 1)
-    } else {
-        heads_by(sizes, largest, live, most)
-    }
+    heads_by(sizes, largest, live, heads.min(most - 1) + 1)
 }
 
 /// Whether any objects of at most `live` bytes in all can be loaded by a new master, so that two whole segments stay
