@@ -109,7 +109,8 @@ module _ (s : Sizes) (most heads live : ℕ) (sound : AreSound s) (multiple : s.
 
     one_holds : Holds s most heads (with_object s l n) (done + n)
     one_holds = go (takes s l n) refl where
-      go : (t : Bool) → takes s l n ≡ t → Holds s most heads (if t then longer l n else longer (rolled s l) n) (done + n)
+      go : (t : Bool) → takes s l n ≡ t
+          → Holds s most heads (if t then longer l n else longer (rolled s l) n) (done + n)
       go true test = longer_holds (leb-true _ _ test)
       go false test = rolled_holds (leb-false _ _ test)
 

@@ -16,7 +16,8 @@ few_heads segment most later own closed heads len done n live sum low over small
     let is : most + later + room ≡ segment + 1 = omega arith in
     let here : (closed + 1) * (most + later + room) ≡ (closed + 1) * (segment + 1) =
     ap (λ (x : ℕ). (closed + 1) * x) is in
-    let there : (heads + 1) * (most + later + room) ≡ (heads + 1) * (segment + 1) = ap (λ (x : ℕ). (heads + 1) * x) is in
+    let there : (heads + 1) * (most + later + room) ≡ (heads + 1) * (segment + 1) =
+    ap (λ (x : ℕ). (heads + 1) * x) is in
     let least : (closed + 1) * (segment + 1) ≤ done + (closed + 1) * (most + later) = omega arith in
     let lt : (closed + 1) * room < (heads + 1) * room = omega arith in
     let less : closed + 1 < heads + 1 = lt_of_mul-lt-mul_right room lt in omega arith

@@ -6,7 +6,7 @@ use Rattle.packing.specs.Packing.{whole, most_ids, opening_len}
 
 -- ---- sizes
 
--- sizes with which no sum of a test of a limit can overflow
+-- sizes with which no number in the test of a limit overflows
 pub record AreBounded (s : Sizes) : Type 0 where
   pub seglet : s.seglet ≤ 65536
   pub seglets : s.seglets ≤ 2 ^ 32
@@ -26,18 +26,20 @@ AreLengths most ns = AllByRecursion (λ (n : ℕ). (0 < n) × (n ≤ most)) ns
 -- ---- how many heads close
 
 -- How many heads objects of so many bytes in all can close, if no opening lists more than so many segments. A head is
--- closed as an object doesn't fit. So with its opening and the longest object it is longer than a segment.
+-- closed when the next object doesn't fit. So its objects have more bytes than a segment without its opening and the
+-- longest object.
 abbrev pub heads_by : Sizes → ℕ → ℕ → ℕ → ℕ
 heads_by s largest live listed = live / (s.segment + 1 - (longest s largest + opening_len s listed))
 
--- The same, in two steps: first by the longest opening that there may be, and then by the longest of so many heads.
+-- The same, whatever the openings list: first counted by the longest opening that there may be, and then by the longest
+-- opening of so many heads.
 abbrev pub heads_for : Sizes → ℕ → ℕ → ℕ
 heads_for s largest live = heads_by s largest live (min (heads_by s largest live (most_ids s) + 1) (most_ids s))
 
 -- ---- a limit
 
 -- Objects of at most `most` bytes each and `live` bytes in all close at most so many heads. The digest has places for
--- these, and memory for them, with two whole segments to spare: if each counts whole, or if all count by their bytes.
+-- these. There is memory for them, with two whole segments to spare: each counts whole, or all count by their bytes.
 pub record IsLimit (s : Sizes) (most heads live : ℕ) : Type 0 where
   pub places : heads + 2 ≤ most_ids s
   pub fits : most + opening_len s (heads + 1) ≤ s.segment
@@ -46,14 +48,14 @@ pub record IsLimit (s : Sizes) (most heads live : ℕ) : Type 0 where
   pub memory : ((heads + 5) * whole s ≤ s.seglets)
       ⊎ (5 * whole s * s.seglet + live + heads * (opening_len s heads + s.seglet) ≤ s.seglets * s.seglet)
 
--- a limit, if so many heads close at most
+-- the test, if so many heads close at most
 abbrev pub is_limit_for : Sizes → ℕ → ℕ → Bool
 is_limit_for s heads live =
     nat_le (heads + 2) (most_ids s)
     && (nat_le ((heads + 5) * whole s) s.seglets
     || nat_le (5 * whole s * s.seglet + live + heads * (opening_len s heads + s.seglet)) (s.seglets * s.seglet))
 
--- Objects of `live` bytes in all, none longer than `longest s largest`, can be loaded whatever their order, and two
--- whole segments stay free besides.
+-- Any objects of at most `live` bytes in all can be loaded, in any order, with two whole segments to spare, if none is
+-- longer than `longest s largest`. The test may be false although they can be loaded.
 abbrev pub is_limit : Sizes → ℕ → ℕ → Bool
 is_limit s largest live = is_limit_for s (heads_for s largest live) live

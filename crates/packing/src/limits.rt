@@ -14,10 +14,11 @@ fn heads_by(sizes: &Sizes, largest: u64, live: u64, listed: u64) -> u64
     ensures { result ≡ heads_by sizes.now largest live listed }
 {
     let longest = (sizes.segment / 4).min(largest);
-    live / (sizes.segment + 1 - (longest + opening_len(sizes, listed)))
+    let opening = opening_len(sizes, listed);
+    live / (sizes.segment + 1 - (longest + opening))
 }
 
-/// How many heads objects of `live` bytes in all can close.
+/// How many heads objects of `live` bytes in all can close, whatever their openings list.
 fn heads_for(sizes: &Sizes, largest: u64, live: u64) -> u64
     requires sound { AreSound sizes.now }
     ensures { result ≡ heads_for sizes.now largest live }
@@ -27,9 +28,10 @@ fn heads_for(sizes: &Sizes, largest: u64, live: u64) -> u64
     heads_by(sizes, largest, live, heads.min(most - 1) + 1)
 }
 
-/// Whether any objects of at most `live` bytes in all can be loaded by a new master, so that two whole segments stay
-/// free. Each object counts the bytes that it has in a segment. None is longer than a quarter of a segment, nor longer
-/// than `largest`. The cost is a few divisions.
+/// Whether a new master can load any objects of at most `live` bytes in all, in any order, with two whole segments to
+/// spare. An object counts the bytes that it has in a segment. None has more than `largest`, nor more than a quarter of
+/// a segment. The answer may be false although all such objects could be loaded, and is never true if some couldn't.
+/// It takes a few divisions.
 pub fn is_limit(sizes: &Sizes, largest: u64, live: u64) -> bool
     requires sound { AreSound sizes.now }
     requires bounded { AreBounded sizes.now }
@@ -43,12 +45,13 @@ pub fn is_limit(sizes: &Sizes, largest: u64, live: u64) -> bool
     if (heads + 5) * whole <= sizes.seglets {
         return true;
     }
-    let closed = heads * (opening_len(sizes, heads) + sizes.seglet);
+    let opening = opening_len(sizes, heads);
+    let closed = heads * (opening + sizes.seglet);
     5 * whole * sizes.seglet + live + closed <= sizes.seglets * sizes.seglet
 }
 
-/// The greatest number of which `is_limit` is true, found by bisection in at most 50 tests. None if it is true of none,
-/// not even of 0.
+/// The greatest number of bytes of which `is_limit` is true. None if it is true of none, not even of 0. It is found by
+/// bisection, in at most 50 tests.
 pub fn greatest_limit(sizes: &Sizes, largest: u64) -> Option<u64>
     requires sound { AreSound sizes.now }
     requires bounded { AreBounded sizes.now }
