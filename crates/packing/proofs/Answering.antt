@@ -1,10 +1,14 @@
 -- What a call answers in each of its cases, as the test of a limit says it.
-use Rattle.std.proofs.Common.{◌≡◌, ℕ, ◌+◌, ◌-◌, ◌*◌, ◌<◌, ◌≤◌, true, false, refl, sym, arith}
+use Rattle.std.proofs.Common.{◌≡◌, ℕ, ◌+◌, ◌-◌, ◌*◌, ◌/◌, ◌<◌, ◌≤◌, true, false, refl, sym, arith}
 use Rattle.std.specs.Prelude.{nat_le, min}
 use Rattle.std.proofs.lemmas.Bool.{and_left, and_from, or_left, le-leb, lt-leb}
 use Rattle.packing.specs.declared.sizes.Sizes.{Sizes}
 use Rattle.packing.specs.Packing.{whole, most_ids, opening_len}
-use Rattle.packing.specs.Limits.{is_limit_for}
+use Rattle.packing.specs.Limits.{longest, heads_by, is_limit_for}
+
+pub heads_counted : (s : Sizes) (largest live listed long opening : ℕ) → long ≡ longest s largest
+    → opening ≡ opening_len s listed → live / (s.segment + 1 - (long + opening)) ≡ heads_by s largest live listed
+heads_counted s largest live listed long opening long-is opening-is = rw (long-is, opening-is) refl
 
 -- how many segments an opening lists at most, counted from one below
 pub listed_is : (counted heads most below : ℕ) → 0 < most → counted ≡ heads → below ≡ min counted (most - 1)
@@ -18,8 +22,9 @@ module _ (s : Sizes) (heads live : ℕ) where
   pub whole_enough : heads + 2 ≤ most_ids s → (heads + 5) * whole s ≤ s.seglets → true ≡ is_limit_for s heads live
   whole_enough places enough = sym (and_from _ _ (le-leb _ _ places) (or_left _ _ (le-leb _ _ enough)))
 
-  pub counted_by_bytes : heads + 2 ≤ most_ids s → s.seglets < (heads + 5) * whole s
-      → nat_le (5 * whole s * s.seglet + live + heads * (opening_len s heads + s.seglet)) (s.seglets * s.seglet)
+  pub counted_by_bytes : (opening : ℕ) → opening ≡ opening_len s heads → heads + 2 ≤ most_ids s
+      → s.seglets < (heads + 5) * whole s
+      → nat_le (5 * whole s * s.seglet + live + heads * (opening + s.seglet)) (s.seglets * s.seglet)
       ≡ is_limit_for s heads live
-  counted_by_bytes places short =
-      rw (le-leb (heads + 2) (most_ids s) places, lt-leb ((heads + 5) * whole s) s.seglets short) refl
+  counted_by_bytes opening is places short =
+      rw (is, le-leb (heads + 2) (most_ids s) places, lt-leb ((heads + 5) * whole s) s.seglets short) refl

@@ -64,7 +64,7 @@ pub fn greatest_limit(sizes: &Sizes, largest: u64) -> Option<u64>
     }
     let mut limit = 0;
     let mut above = sizes.segment / 32 * (sizes.segment + 1);
-    while limit + 1 < above {
+    while above - limit > 1 {
         let middle = limit + (above - limit) / 2;
         if is_limit(sizes, largest, middle) {
             limit = middle;

@@ -34,5 +34,5 @@ pub returns : goal.returns
 returns c =
     let few = c.if-heads-sizes.false in
     let least = c.requires.sound.least in
-    rw (← c.heads_for-heads.ensures, c.opening_len-opening.ensures) (counted_by_bytes c.args.sizes.now
-    c.heads_for-heads.result c.args.live (omega arith) c.if-heads-whole.false)
+    rw (← c.heads_for-heads.ensures) (counted_by_bytes c.args.sizes.now c.heads_for-heads.result c.args.live
+    c.opening_len-opening.result c.opening_len-opening.ensures (omega arith) c.if-heads-whole.false)
