@@ -1,24 +1,35 @@
 //! How many bytes of objects a new master can load, whatever they are and whatever their order.
 
 ghost use Rattle.std.specs.Prelude.{◌≡◌, ◌<◌, ◌≤◌, ◌^◌, ◌/◌, ℕ, true, false, None, IfSome};
-ghost use Rattle.packing.specs.Limits.{AreBounded, heads_by, heads_for, is_limit};
+ghost use Rattle.packing.specs.Limits.{AreBounded, heads_by, heads_for, is_limit, mean_opening};
 ghost use Rattle.packing.specs.Packing.{AreSound};
 
-use crate::new_log::opening_len;
 use crate::sizes::Sizes;
 
-/// How many heads objects of `live` bytes in all can close, if no opening lists more than so many segments.
-fn heads_by(sizes: &Sizes, largest: u64, live: u64, listed: u64) -> u64
+/// The mean bytes of the openings of so many heads, of which the first lists one segment.
+fn mean_opening(sizes: &Sizes, heads: u64) -> u64
+    requires few { heads ≤ 2 ^ 32 }
+    ensures { result ≡ mean_opening sizes.now heads }
+{
+    if sizes.format == 2 {
+        32 + 8 * (heads + 1)
+    } else {
+        32 + 4 * (heads + 1)
+    }
+}
+
+/// How many heads objects of `live` bytes in all close at most, if they close no more than `heads`.
+fn heads_by(sizes: &Sizes, largest: u64, live: u64, heads: u64) -> u64
     requires sound { AreSound sizes.now }
-    requires listed { listed ≤ sizes.now.segment / 32 }
-    ensures { result ≡ heads_by sizes.now largest live listed }
+    requires heads { heads ≤ sizes.now.segment / 32 }
+    ensures { result ≡ heads_by sizes.now largest live heads }
 {
     let longest = (sizes.segment / 4).min(largest);
-    let opening = opening_len(sizes, listed);
+    let opening = mean_opening(sizes, heads);
     live / (sizes.segment + 1 - (longest + opening))
 }
 
-/// How many heads objects of `live` bytes in all can close, whatever their openings list.
+/// How many heads objects of `live` bytes in all close at most.
 fn heads_for(sizes: &Sizes, largest: u64, live: u64) -> u64
     requires sound { AreSound sizes.now }
     ensures { result ≡ heads_for sizes.now largest live }
@@ -45,7 +56,7 @@ pub fn is_limit(sizes: &Sizes, largest: u64, live: u64) -> bool
     if (heads + 5) * whole <= sizes.seglets {
         return true;
     }
-    let opening = opening_len(sizes, heads);
+    let opening = mean_opening(sizes, heads);
     let closed = heads * (opening + sizes.seglet);
     5 * whole * sizes.seglet + live + closed <= sizes.seglets * sizes.seglet
 }

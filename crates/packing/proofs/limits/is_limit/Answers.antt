@@ -1,5 +1,5 @@
 use Rattle.std.proofs.Common.{◌+◌, ◌*◌, ◌≤◌, ℕ, sym, subst, arith}
-use Rattle.packing.proofs.Heads.{few_bytes, opening_small}
+use Rattle.packing.proofs.Heads.{few_bytes, mean_small}
 use Rattle.packing.proofs.Numbers.{small_sum}
 use Rattle.packing.proofs.Answering.{too_many_heads, whole_enough, counted_by_bytes}
 use Rattle.packing.proofs.limits.is_limit.Goals as goal
@@ -24,10 +24,10 @@ overflow_add-result-2 c =
     let is = c.heads_for-heads.ensures in
     let short = subst (λ (h : ℕ). c.args.live ≤ (h + 1) * (c.args.sizes.now.segment + 1)) (sym is)
     (few_bytes c.args.sizes.now c.args.largest c.requires.sound c.args.live (omega arith)) in
-    let opening = opening_small c.args.sizes.now c.heads_for-heads.result in
-    let opened = c.opening_len-opening.ensures in
+    let opening = mean_small c.args.sizes.now c.heads_for-heads.result in
+    let opened = c.mean_opening-opening.ensures in
     let small = small_sum c.args.sizes.now.segment c.args.sizes.now.seglet c.heads_for-heads.result c.args.live
-    c.opening_len-opening.result c.requires.sound.most c.requires.bounded.seglet (omega arith) (omega arith) short in
+    c.mean_opening-opening.result c.requires.sound.most c.requires.bounded.seglet (omega arith) (omega arith) short in
     omega (arith, small)
 
 pub returns : goal.returns
@@ -35,4 +35,4 @@ returns c =
     let few = c.if-heads-sizes.false in
     let least = c.requires.sound.least in
     rw (← c.heads_for-heads.ensures) (counted_by_bytes c.args.sizes.now c.heads_for-heads.result c.args.live
-    c.opening_len-opening.result c.opening_len-opening.ensures (omega arith) c.if-heads-whole.false)
+    c.mean_opening-opening.result c.mean_opening-opening.ensures (omega arith) c.if-heads-whole.false)
