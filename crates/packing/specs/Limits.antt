@@ -22,7 +22,7 @@ longest s largest = min (s.segment / 4) largest
 
 -- each length is that of some object, and at most this
 abbrev pub AreLengths : ℕ → List ℕ → Type 0
-AreLengths most ns = AllByRecursion (λ (n : ℕ). (0 < n) × (n ≤ most)) ns
+AreLengths most lengths = AllByRecursion (λ (n : ℕ). (0 < n) × (n ≤ most)) lengths
 
 -- ---- how many heads close
 
@@ -30,8 +30,9 @@ AreLengths most ns = AllByRecursion (λ (n : ℕ). (0 < n) × (n ≤ most)) ns
 abbrev pub mean_opening : Sizes → ℕ → ℕ
 mean_opening s heads = 32 + (if s.format == 2 then 8 * (heads + 1) else 4 * (heads + 1))
 
--- How many heads objects of so many bytes in all close at most, if they close no more than `heads`. A head is closed when
--- the next object doesn't fit. So its objects have more bytes than a segment without the opening and the longest object.
+-- How many heads objects of so many bytes in all close at most, if they close no more than `heads`. A head is closed
+-- when the next object doesn't fit. So its objects have more bytes than a segment has beside the opening and the
+-- longest object.
 abbrev pub heads_by : Sizes → ℕ → ℕ → ℕ → ℕ
 heads_by s largest live heads = live / (s.segment + 1 - (longest s largest + mean_opening s heads))
 
@@ -43,7 +44,8 @@ heads_for s largest live = heads_by s largest live (min (heads_by s largest live
 -- ---- a limit
 
 -- Objects of at most `most` bytes each and `live` bytes in all close at most so many heads. The digest has places for
--- these. There is memory for them, with two whole segments to spare: each counts whole, or all count by their bytes.
+-- these. There is memory for them, with two whole segments to spare: each counts whole, or all count by their bytes and
+-- what each leaves empty of its last seglet.
 pub record IsLimit (s : Sizes) (most heads live : ℕ) : Type 0 where
   pub places : heads + 2 ≤ most_ids s
   pub fits : most + opening_len s (heads + 1) ≤ s.segment
