@@ -62,7 +62,11 @@ pub(crate) fn push_unless_durable<F: Fleet>(
 }
 
 /// The same while a failover is open: the durable count stays as it began.
-fn mend_unless_durable<F: Fleet>(core: &mut Core, fleet: &mut F, place: u64) -> Result<bool, Refusal>
+fn mend_unless_durable<F: Fleet>(
+    core: &mut Core,
+    fleet: &mut F,
+    place: u64,
+) -> Result<bool, Refusal>
     requires within { place < length core.old.history }
     requires failing { IsSome core.old.failover }
     requires served { IsServed core.old (F.state fleet.old) }

@@ -265,8 +265,13 @@ impl Session {
         requires rounds { work.rounds ≤ 1000000 }
         ensures { SessionAnswers self.old (Clients work.clients work.rounds work.passes) self.new result }
     {
-        let Served { answer, is_known } =
-            serve_clients(rt, &mut self.node, self.alloc, self.options.history, work);
+        let Served { answer, is_known } = serve_clients(
+            rt,
+            &mut self.node,
+            self.alloc,
+            self.options.history,
+            work,
+        );
         self.is_known &= is_known;
         answer
     }

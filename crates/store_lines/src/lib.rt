@@ -20,11 +20,11 @@ pub use command::command_of;
 pub use command_line::{Options, options};
 pub use dialogue::Dialogue;
 pub use fault::{LineFault, tell};
+pub use locked_log;
 pub use looks::{look_line, renew};
 pub use next_master::answers::{
     Answer, ErrorOutput, ScriptFault, report, report_config, write_answer,
 };
-pub use locked_log;
 pub use next_master::{configuration, master, recovery, replay};
 pub use succession::{FIRST_MASTER, first_master, next_config, want};
 pub use turns::{Phase, refuse, take_all, turn_line};
