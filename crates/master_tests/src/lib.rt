@@ -13,6 +13,8 @@ mod comparisons;
 #[cfg(test)]
 mod drills;
 #[cfg(test)]
+mod limits;
+#[cfg(test)]
 mod lives;
 #[cfg(test)]
 mod loadings;

@@ -44,6 +44,21 @@ pub fn config_of(alloc: Global, number: u64, seglets: u64) -> Option<Config>
 fn config_in(alloc: Global, number: u64, seglets: u64, format: u64) -> Option<Config>
     ensures { IfSome result (λ config. config_fault config ≡ None) }
 {
+    let limits = (u64::MAX, u64::MAX);
+    limited_config(alloc, number, seglets, format, limits)
+}
+
+/// The same with limits: the most bytes of an object, and the most bytes of all live objects.
+fn limited_config(
+    alloc: Global,
+    number: u64,
+    seglets: u64,
+    format: u64,
+    limits: (u64, u64),
+) -> Option<Config>
+    ensures { IfSome result (λ config. config_fault config ≡ None) }
+{
+    let (largest, most_live) = limits;
     let Ok(tablets) = Vec::from_slice(alloc, TABLETS) else {
         return None;
     };
@@ -59,8 +74,8 @@ fn config_in(alloc: Global, number: u64, seglets: u64, format: u64) -> Option<Co
         history: 1_048_576,
         hasher: KeyHasher::new(),
         format,
-        largest: u64::MAX,
-        most_live: u64::MAX,
+        largest,
+        most_live,
     };
     match config.check() {
         Ok(()) => Some(config),
@@ -87,7 +102,18 @@ pub fn new_master(alloc: Global) -> Option<Master<MemoryFleet>> {
 
 /// The same in this format.
 pub fn new_master_in(alloc: Global, format: u64) -> Option<Master<MemoryFleet>> {
-    let config = config_in(alloc, 1, 64, format)?;
+    master_of(alloc, config_in(alloc, 1, 64, format)?)
+}
+
+/// Master 1 with limits: the most bytes of an object, and the most bytes of all live objects.
+pub fn limited_master(alloc: Global, limits: (u64, u64)) -> Option<Master<MemoryFleet>> {
+    master_of(alloc, limited_config(alloc, 1, 64, 1, limits)?)
+}
+
+/// The master of this configuration, over a fleet that holds nothing.
+fn master_of(alloc: Global, config: Config) -> Option<Master<MemoryFleet>>
+    requires { config_fault config ≡ None }
+{
     let fleet = new_fleet(alloc, &config)?;
     match Master::new(alloc, config, fleet) {
         Ok(master) => Some(master),
