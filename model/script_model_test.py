@@ -5,9 +5,8 @@ It is not part of the gate.
 
   model/script_model_test.py
 
-The model reads scripts, and neither a command line that is refused nor a configuration that is wrong: examples of these are passed
-over. The witness has to let through what some order of the clients leaves, and nothing else. What differs is printed, and the
-status is 1.
+The model reads options, and nothing that is none: examples of words that the command line refuses are passed over. The witness has
+to let through what some order of the clients leaves, and nothing else. What differs is printed, and the status is 1.
 """
 
 import os
@@ -77,7 +76,7 @@ RUNS = [
 
 
 def is_script(example):
-    return example.status == 0 or example.errors.startswith(b"ramlog: bad line ")
+    return example.status == 0 or example.errors.startswith(b"ramlog: bad ")
 
 
 def differs(example):
