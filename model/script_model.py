@@ -51,10 +51,13 @@ class Options:
     bytes: int = 1048576
     objects: int = 1000000
     format: int = 1
+    # The most bytes of an object, and of all live objects together.
+    largest: int = NO_LIMIT
+    live: int = NO_LIMIT
 
 
 def options_of(words):
-    """The options of words such as --segment=4096."""
+    """The options of words such as --segment=4096. For a --live of 0 they have the greatest limit."""
     names = {option.name for option in fields(Options)}
     numbers = {}
     for word in words:
@@ -62,7 +65,83 @@ def options_of(words):
         if not match or match[1] not in names:
             raise ValueError(f"no option of the form --NAME=N: {word}")
         numbers[match[1]] = int(match[2])
-    return Options(**numbers)
+    options = Options(**numbers)
+    return replace(options, live=greatest_limit(options) or 0) if options.live == 0 else options
+
+
+# Configurations and their limits (section 6).
+
+def whole_seglets(options):
+    """The seglets of a whole segment."""
+    return options.segment // options.seglet
+
+
+def most_ids(options):
+    """How many segments a digest may list."""
+    return options.segment // 32
+
+
+def opening_len(options, listed):
+    """The bytes of the opening of a head whose digest lists so many segments."""
+    return 32 + (16 if options.format == 2 else 8) * listed
+
+
+def longest(options):
+    """The bytes of the longest object that there may be."""
+    return min(options.segment // 4, options.largest)
+
+
+def heads_by(options, live, listed):
+    """How many heads objects of so many bytes in all can close, if no opening lists more than so many segments."""
+    return live // (options.segment + 1 - (longest(options) + opening_len(options, listed)))
+
+
+def heads_for(options, live):
+    """The same, first by the longest opening that there may be, and then by the longest of so many heads."""
+    most = most_ids(options)
+    return heads_by(options, live, min(heads_by(options, live, most) + 1, most))
+
+
+def is_limit(options, live):
+    """Whether objects of so many bytes in all can be loaded whatever their order, with two whole segments to spare."""
+    heads, whole = heads_for(options, live), whole_seglets(options)
+    closed = heads * (opening_len(options, heads) + options.seglet)
+    fits_whole = (heads + 5) * whole <= options.seglets
+    fits_bytes = 5 * whole * options.seglet + live + closed <= options.seglets * options.seglet
+    return heads + 2 <= most_ids(options) and (fits_whole or fits_bytes)
+
+
+def greatest_limit(options):
+    """The greatest limit, found by bisection; None if there is none."""
+    if not is_limit(options, 0):
+        return None
+    limit, above = 0, most_ids(options) * (options.segment + 1)
+    while limit + 1 < above:
+        middle = (limit + above) // 2
+        limit, above = (middle, above) if is_limit(options, middle) else (limit, middle)
+    return limit
+
+
+def config_fault(options):
+    """What is wrong with a configuration, or None."""
+    if options.replicas > options.backups:
+        return "BadBackups"
+    if options.segment % options.seglet:
+        return "BadSegment"
+    if options.seglets < 4 * whole_seglets(options):
+        return "BadBudget"
+    return "BadLive" if options.live != NO_LIMIT and not is_limit(options, options.live) else None
+
+
+def seglets_needed(objects, options):
+    """How many seglets a new master needs to load these objects, in this order; None if its digest has too few places."""
+    closed, used, level = 0, 0, opening_len(options, 1)
+    for it in objects:
+        if level + object_len(it) > options.segment:
+            closed, used = closed + 1, used + -(-level // options.seglet)
+            level = opening_len(options, closed + 1)
+        level += object_len(it)
+    return 3 * whole_seglets(options) + used if closed + 2 <= most_ids(options) else None
 
 
 # Lines (section 11).
@@ -116,21 +195,28 @@ LINES = {
     "push": (),
     "log": (),
     "room": (),
+    "live": (),
     "hex": (number_word,),
     "will": (),
     "stop": (number_word,),
     "fault": (number_word, fate_word),
     "crash": (),
     "lose": (number_word,),
+    "needs": (),
     "recover": (),
     "recover reverse": (),
     "recover threads": (number_word,),
     "holdings": (),
     "format": (format_word,),
+    "seglets": (number_word,),
 }
 
 # The least and the most of the first numbers of a line.
-RANGES = {"clients": ((1, 63), (1, 1000000)), "recover threads": ((1, 64),), "fault": ((1, 2**64 - 1),)}
+RANGES = {
+    "clients": ((1, 63), (1, 1000000)), "recover threads": ((1, 64),), "fault": ((1, 2**64 - 1),), "seglets": ((1, 2**32),),
+}
+# The lines that give masters that start later another option, which has the line's name.
+LATER = ("format", "seglets")
 
 
 def lines_of(text):
@@ -140,7 +226,7 @@ def lines_of(text):
 
 
 def parse(line, backups):
-    """A line's name and what follows it, or None if it is a bad line."""
+    """A line's name and what follows it, or None if it is a bad line, whatever stands before it."""
     if len(line) > 4096:
         return None
     if line[:1] in (b"", b"#"):
@@ -164,6 +250,24 @@ def parse(line, backups):
     if not all(least <= part <= most for part, (least, most) in zip(parts, RANGES.get(name, ()))):
         return None
     return (*name.split(" "), *parts)
+
+
+def later_options(later, line):
+    """The options of masters that start after a line, if they are these before it."""
+    return replace(later, **{line[0]: line[1]}) if line[0] in LATER else later
+
+
+def parsed_lines(script, options):
+    """The lines of a script up to the first bad one, for which None stands."""
+    later = options
+    for line in lines_of(script):
+        parsed = parse(line, options.backups)
+        later = later_options(later, parsed) if parsed else later
+        if config_fault(later):
+            parsed = None
+        yield parsed
+        if parsed is None:
+            return
 
 
 # How the last row begins of the answers with many rows.
@@ -419,9 +523,14 @@ def spelled(entries):
     return b"".join(entry.spelled() for entry in entries)
 
 
+def object_len(it):
+    """How many bytes an object of this key and this value has in a segment."""
+    return 23 + len(it.key) + len(it.value)
+
+
 def is_too_big(it, options):
     """Whether a key and a value have more bytes than may be put, whether the key is present or not."""
-    return 50 + 2 * len(it.key) + len(it.value) > options.segment // 4
+    return 50 + 2 * len(it.key) + len(it.value) > options.segment // 4 or object_len(it) > options.largest
 
 
 def seglets(segment, options):
@@ -580,7 +689,21 @@ class Master:
         unit = self.answer(command)[1]
         if not unit:
             return None
+        if command.kind == "put" and self.is_overcommitted(command, options):
+            return "Overcommit"
         return self.unit_refusal(unit, 3 if command.kind == "put" else 2, options)
+
+    def live_bytes(self):
+        """The bytes of the live objects."""
+        return sum(size for _, _, size in self.sizes())
+
+    def is_overcommitted(self, command, options):
+        """Whether a put would make the live objects more than the limit, and more than they are."""
+        if options.live == NO_LIMIT:
+            return False
+        had = self.live.get((command.table, command.key))
+        live, more = self.live_bytes(), object_len(command) - (object_len(replace(command, value=had.value)) if had else 0)
+        return more > 0 and live + more > options.live
 
     def unit_refusal(self, unit, whole_ones, options):
         """The refusal of a unit, before which a roll has to leave so many whole segments free; or None."""
@@ -603,10 +726,10 @@ class Master:
         """Whether a roll may begin that leaves so many whole segments free."""
         if self.is_ready(options):
             return not self.has_lengths or self.has_room(options)
-        ids, most = len(self.segments), options.segment // 32
+        ids, most = len(self.segments), most_ids(options)
         leaving, coming, taken = (len(self.cleaning.victims), len(self.cleaning.survivors), 1) if self.cleaning else (1, 1, 0)
         free = options.seglets - self.used(options)
-        needed = (whole_ones - taken) * (options.segment // options.seglet) + seglets(self.segments[-1], options)
+        needed = (whole_ones - taken) * whole_seglets(options) + seglets(self.segments[-1], options)
         return ids + 1 <= most and ids + 1 <= most - 1 - coming + leaving and needed <= free
 
     def has_room(self, options):
@@ -615,7 +738,7 @@ class Master:
         if self.is_ready(options):
             ids += len(self.cleaning.survivors) - len(self.cleaning.victims)
         old = 0 if self.failover and self.failover.has_abandoned else seglets(self.segments[-1], options)
-        return ids <= options.segment // 32 and old <= options.seglets - self.used(options)
+        return ids <= most_ids(options) and old <= options.seglets - self.used(options)
 
     def is_kept(self, segment, entry):
         """Whether the cleaners keep an entry of this segment."""
@@ -634,7 +757,7 @@ class Master:
 
     def used(self, options):
         """How many seglets are counted: the last segment and each survivor whole, and each other one by its length."""
-        whole = options.segment // options.seglet
+        whole = whole_seglets(options)
         # An abandoned head counts as the last one does in a roll.
         by_length = self.segments if self.failover and self.failover.has_abandoned else self.segments[:-1]
         return whole * (1 + len(self.survivors())) + sum(seglets(it, options) for it in by_length)
@@ -682,8 +805,8 @@ class Master:
         free, coming = options.seglets - self.used(options), self.survivors_of(ids, options)
         if coming > 4:
             return "TooMuch"
-        is_full = len(self.segments) - len(ids) + coming + 1 > options.segment // 32
-        return "Full" if is_full or free < (coming + 1) * (options.segment // options.seglet) else None
+        is_full = len(self.segments) - len(ids) + coming + 1 > most_ids(options)
+        return "Full" if is_full or free < (coming + 1) * whole_seglets(options) else None
 
     def survivors_of(self, ids, options):
         """How many survivors what is kept of these segments fills now."""
@@ -693,14 +816,14 @@ class Master:
         """The victims that a cleaner chooses by itself; none if a pass over them has no place in the digest."""
         closed = [it.id for it in self.log()[:-1]]
         kept = {id_: sum(len(entry.spelled()) for _, entry in self.kept_of((id_,))) for id_ in closed}
-        free, whole = options.seglets - self.used(options), options.segment // options.seglet
+        free, whole = options.seglets - self.used(options), whole_seglets(options)
         victims, coming = (), 1
         for id_ in sorted(closed, key=lambda it: (kept[it], it))[:32]:
             more = self.survivors_of((*victims, id_), options)
             if more > 4 or free < (more + 1) * whole:
                 break
             victims, coming = (*victims, id_), more
-        return victims if len(self.segments) - len(victims) + coming + 1 <= options.segment // 32 else ()
+        return victims if len(self.segments) - len(victims) + coming + 1 <= most_ids(options) else ()
 
     def cleaned(self, ids, options):
         """The master after the begin of a pass."""
@@ -902,6 +1025,11 @@ STEPS = ("put", "new", "cas", "get", "del", "compact", "clean", "begin", "copy",
          "push")
 
 
+# The lines that work while the store is down alone, and those that work then, too.
+DOWN_LINES = ("lose", "needs", "recover")
+ANY_LINES = ("idle", "stop", "fault", "holdings", *LATER)
+
+
 class Undetermined(Exception):
     """A line with several threads: what it does depends on the order in which they take the lock."""
 
@@ -921,7 +1049,9 @@ def client_key(number):
 class Store:
     """A fleet, and a master over it."""
 
+    # Of the master that is up, or of the last one; and of the masters that start from now on.
     options: Options
+    later: Options
     fleet: Fleet
     # None if it is down.
     master: Master
@@ -929,13 +1059,11 @@ class Store:
     last: int = 1
     # The greatest number of a master. Others than `last` didn't come to the end of their loading.
     greatest: int = 1
-    # The format of the masters that start from now on.
-    format: int = 1
 
     @staticmethod
     def new(options):
         """The store at the start of a script: its first head is open."""
-        store = Store(options, Fleet(), Master.new(1, 1, options.format), format=options.format)
+        store = Store(options, options, Fleet(), Master.new(1, 1, options.format))
         while store.next_op():
             _, store = store.pushed()
         return store
@@ -943,9 +1071,9 @@ class Store:
     def outcomes(self, line):
         """Each answer that the line may print, how many requests for memory it shows as refused, and the store then."""
         name, *parts = line
-        if name in ("lose", "recover") and self.master:
+        if name in DOWN_LINES and self.master:
             yield "refused Up\n", 0, self
-        elif name not in ("idle", "stop", "fault", "lose", "recover", "holdings", "format") and not self.master:
+        elif name not in (*DOWN_LINES, *ANY_LINES) and not self.master:
             yield "refused Down\n", 0, self
         elif name in STEPS and self.master.is_halted:
             if name == "clients":
@@ -1332,6 +1460,10 @@ class Store:
         used = self.master.used(self.options)
         yield f"used {used} free {self.options.seglets - used}\n", 0, self
 
+    def line_live(self):
+        limit = "none" if self.options.live == NO_LIMIT else self.options.live
+        yield f"live {self.master.live_bytes()} {limit}\n", 0, self
+
     def line_hex(self, segment):
         image = next((it for it in (*self.master.segments, *self.master.survivors()) if it.id == segment), None)
         if not image:
@@ -1363,7 +1495,10 @@ class Store:
         yield f"fault {takes} {'taken' if is_taken else 'lost'}\n", 0, replace(self, fleet=fleet)
 
     def line_format(self, format_):
-        yield f"format {format_}\n", 0, replace(self, format=format_)
+        yield f"format {format_}\n", 0, replace(self, later=replace(self.later, format=format_))
+
+    def line_seglets(self, count):
+        yield f"seglets {count}\n", 0, replace(self, later=replace(self.later, seglets=count))
 
     def line_crash(self):
         yield "crashed\n", 0, replace(self, master=None)
@@ -1379,13 +1514,25 @@ class Store:
             # If the recovery is refused, a master that was begun is dropped.
             yield answer, refused, replace(store, master=None) if answer.startswith("refused") else store
 
-    def recovered(self):
+    def found(self):
+        """The table that a recovery finds now, with its safe version. Yields how it is refused, and returns None then."""
         yield REFUSED, 1, self
         try:
-            objects, safe = rebuilt(plan(self.fleet.holdings, self.last, self.fleet.least(self.last)))
+            return rebuilt(plan(self.fleet.holdings, self.last, self.fleet.least(self.last)))
         except Refusal as refusal:
             yield f"refused {refusal}\n", 0, self
+        return None
+
+    def line_needs(self):
+        found = yield from self.found()
+        if found:
+            yield f"needs {seglets_needed(found[0], self.later) or 'segments'}\n", 0, self
+
+    def recovered(self):
+        found = yield from self.found()
+        if not found:
             return
+        objects, safe = found
         store = yield from self.adopted(objects, safe)
         store = store and (yield from store.retired())
         if store:
@@ -1394,14 +1541,14 @@ class Store:
 
     def adopted(self, objects, safe):
         """Loads these objects into a new master, and pushes them."""
-        number = self.greatest + 1
-        store = replace(self, greatest=number, master=Master.new(number, safe, self.format))
+        number, options = self.greatest + 1, self.later
+        store = replace(self, greatest=number, options=options, master=Master.new(number, safe, options.format))
         store = yield from store.all_pushed()
         for loaded in objects:
-            refusal = store and store.master.load_refusal(loaded, self.options)
+            refusal = store and store.master.load_refusal(loaded, options)
             if refusal == "Rolling":
                 store = yield from store.rolled()
-                refusal = store and store.master.load_refusal(loaded, self.options)
+                refusal = store and store.master.load_refusal(loaded, options)
             if not store:
                 return None
             if refusal:
@@ -1449,9 +1596,10 @@ class Run:
 
 def undisturbed(script, options):
     """How the run of a script ends if no memory is refused."""
+    if config_fault(options):
+        return Run(2, "", f"ramlog: bad configuration {config_fault(options)}\n")
     store, output = Store.new(options), []
-    for place, line in enumerate(lines_of(script), 1):
-        parsed = parse(line, options.backups)
+    for place, parsed in enumerate(parsed_lines(script, options), 1):
         if parsed is None:
             return Run(2, "".join(output), f"ramlog: bad line {place}\n")
         answer, store = store.answered(parsed)
@@ -1464,7 +1612,7 @@ def explain(script, options, run, most):
     found = []
     # Stores that fit the output so far, each with the length of that and the refusals that it takes.
     fitting = {(Store.new(options), 0, 0)}
-    lines = lines_of(script)
+    lines = [*parsed_lines(script, options)]
     for place in range(len(lines) + 1):
         done = [refusals for _, length, refusals in fitting if length == len(run.output)]
         if run.status == 1 and run.errors == NO_MEMORY and (place < len(lines) or not lines):
@@ -1474,7 +1622,7 @@ def explain(script, options, run, most):
             if run.status == 0 and run.errors == "":
                 found += done
             break
-        parsed = parse(lines[place], options.backups)
+        parsed = lines[place]
         if parsed is None:
             if run.status == 2 and run.errors == f"ramlog: bad line {place + 1}\n":
                 found += done

@@ -5,9 +5,8 @@ It is not part of the gate.
 
   model/script_model_test.py
 
-The model reads scripts, and neither a command line that is refused nor a configuration that is wrong: examples of these are passed
-over. The witness has to let through what some order of the clients leaves, and nothing else. What differs is printed, and the
-status is 1.
+The model reads options, and nothing that is none: examples of words that the command line refuses are passed over. The witness has
+to let through what some order of the clients leaves, and nothing else. What differs is printed, and the status is 1.
 """
 
 import os
@@ -21,6 +20,7 @@ from script_model import Run
 from script_witness import wrong_run
 
 WORDS = ("--segment=8192", "--seglets=4096")
+LIMITED = (*WORDS, "--live=52")
 FOUR = "clients 4 100 5 / crash / recover / log / put 1 a x"
 TWO = "clients 2 3 0 / get 1 c0 / get 1 c1 / put 1 a x"
 STOPPED = "stop 9 / clients 2 3 0 / crash / recover / put 1 a x"
@@ -75,9 +75,22 @@ RUNS = [
     (CLEANED, "ok 1 / head 2 / begun 3 / clients 1 1 2 / 2 1 / refused NotInLog 2", False),
 ]
 
+# The same with a limit of live bytes, which two clients fill.
+LIMITED_RUNS = [
+    ("clients 4 1 0 / live", "refused Overcommit / live 52 52", True),
+    ("clients 4 1 0 / live", "refused Overcommit / live 52 none", False),
+    ("clients 4 1 0 / crash / recover", "refused Overcommit / crashed / 1 c1 1 1 / 1 c2 2 1 / recovered 2", True),
+    ("put 1 a x / put 1 b y / put 1 c z", "ok 1 / ok 2 / refused Overcommit", True),
+    ("put 1 a x / put 1 b y / put 1 c z", "ok 1 / ok 2 / ok 3", False),
+    (FOUR, "refused Overcommit / crashed / 1 c0 9 9 / 1 c1 10 9 / recovered 2 / log 1 / refused Overcommit", True),
+    (FOUR, "refused Overcommit / crashed / 1 c0 9 9 / 1 c1 10 9 / recovered 2 / log 1 / ok 11", False),
+    ("clients 4 1 0 / stop 0 / crash / needs", "refused Overcommit / stop 0 / crashed / needs 384", True),
+    ("clients 4 1 0 / stop 0 / crash / needs", "refused Overcommit / stop 0 / crashed / refused NoHead", False),
+]
+
 
 def is_script(example):
-    return example.status == 0 or example.errors.startswith(b"ramlog: bad line ")
+    return example.status == 0 or example.errors.startswith(b"ramlog: bad ")
 
 
 def differs(example):
@@ -89,8 +102,8 @@ def differs(example):
     return wrong is not None
 
 
-def is_misjudged(script, output, is_right):
-    wrong = wrong_run(WORDS, lines_of(script), Run(0, lines_of(output).decode(), ""))
+def is_misjudged(words, script, output, is_right):
+    wrong = wrong_run(words, lines_of(script), Run(0, lines_of(output).decode(), ""))
     if is_right == (wrong is None):
         return False
     print(f"{script}\n  printed: {output}\n  and that is {wrong or 'let through'}")
@@ -102,8 +115,9 @@ def main():
         print(__doc__.strip())
         sys.exit(0 if sys.argv[1] in ("-h", "--help") else 2)
     chosen = [it for it in examples() if is_script(it)]
-    differ, misjudged = sum(map(differs, chosen)), sum(is_misjudged(*run) for run in RUNS)
-    print(f"{len(chosen)} examples, {differ} differ; {len(RUNS)} runs of clients, {misjudged} misjudged")
+    runs = [*((WORDS, *run) for run in RUNS), *((LIMITED, *run) for run in LIMITED_RUNS)]
+    differ, misjudged = sum(map(differs, chosen)), sum(is_misjudged(*run) for run in runs)
+    print(f"{len(chosen)} examples, {differ} differ; {len(runs)} runs of clients, {misjudged} misjudged")
     sys.exit(differ + misjudged > 0)
 
 

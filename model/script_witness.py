@@ -14,11 +14,13 @@ any other command of that key, or of one that is absent.
 import re
 from dataclasses import dataclass, field
 
-from script_model import (NO_LIMIT, STEPS, Command, Fleet, Object, Store, Undetermined, answers_of, client_key, is_too_big,
-                          lines_of, make_will, name_of, options_of, parse, place)
+from script_model import (ANY_LINES, DOWN_LINES, NO_LIMIT, STEPS, Command, Fleet, Object, Run, Store, Undetermined, answers_of,
+                          client_key, config_fault, is_too_big, later_options, make_will, name_of, object_len, options_of,
+                          parsed_lines, place, seglets_needed)
 from script_orders import orders_of
 
-COMMANDS = ("put", "new", "cas", "get", "del")
+PUTS = ("put", "new", "cas")
+COMMANDS = (*PUTS, "get", "del")
 # If more stores than this fit the answers, none of them is followed.
 MOST_STORES = 60
 
@@ -143,12 +145,23 @@ class Map:
     def rows(self):
         return [f"{it.table} {it.key.decode()} {it.version} {it.value.decode()}" for it in self.objects()]
 
+    def live_bytes(self):
+        return sum(map(object_len, self.objects()))
+
+    def is_overcommitted(self, line, limit):
+        """Whether a put would make the live objects more than the limit, and more than they are."""
+        after = self.copy()
+        after.reply(line)
+        return after.live_bytes() > max(limit, self.live_bytes())
+
 
 class Witness:
     """Sees the lines of a script and their answers, and says what is wrong with them by a plain map."""
 
-    def __init__(self, replicas):
+    def __init__(self, replicas, limit=NO_LIMIT):
         self.replicas = replicas
+        # The most bytes that puts make of the live objects.
+        self.limit = limit
         self.answered = Map()
         # The map with the line that was stopped or halted in this life, if one was.
         self.stopped = None
@@ -166,15 +179,17 @@ class Witness:
         elif line[0] in COMMANDS and answer == ["stopped"]:
             self.stopped = self.answered.copy()
             self.stopped.reply(line)
+        elif line[0] in COMMANDS and self.misjudges_limit(line, answer):
+            return f"{line} printed {answer}, and {self.answered.live_bytes()} bytes are live, with the limit {self.limit}"
         elif line[0] in COMMANDS and answer and not is_refused:
             return self.wrong_reply(line, answer[0])
         elif line[0] == "clients" and answer and answer[0] != "refused Down":
             return self.wrong_count(line, answer[0])
         elif line[0] == "lose" and not is_refused:
             self.lost.add(line[1])
-        elif line[0] == "recover" and is_refused:
+        elif line[0] in ("needs", "recover") and is_refused:
             if answer[-1] not in ("refused Up", "refused Full", "refused Halted") and len(self.lost) < self.replicas:
-                return f"recover printed {answer[-1]}, and fewer backups than {self.replicas} are lost"
+                return f"{line[0]} printed {answer[-1]}, and fewer backups than {self.replicas} are lost"
         elif line[0] == "recover" and answer and answer != ["stopped"]:
             return self.wrong_table(answer)
         return None
@@ -188,6 +203,15 @@ class Witness:
             self.stopped = self.answered.served(line[1], line[2], False)
         self.is_halted = True
 
+    def misjudges_limit(self, line, answer):
+        """Whether a command is refused as Overcommit that may not be, or is answered though it has to be."""
+        is_over = answer == ["refused Overcommit"]
+        if self.limit == NO_LIMIT or line[0] not in PUTS:
+            return is_over
+        if self.answered.crowd or not answer or (answer[0].startswith("refused ") and not is_over):
+            return False
+        return is_over != self.answered.is_overcommitted(line, self.limit)
+
     def wrong_reply(self, line, reply):
         name, seen = line[1:3], self.versions.get(line[1:3], 0)
         if self.answered.crowd and name in self.answered.crowd.before:
@@ -200,7 +224,7 @@ class Witness:
         wanted = self.answered.reply(line)
         if reply != wanted:
             return f"{line} printed {reply}, and the map answers {wanted}"
-        if line[0] in ("put", "new", "cas") and reply.startswith("ok "):
+        if line[0] in PUTS and reply.startswith("ok "):
             version = int(reply.split()[1])
             if version <= seen:
                 return f"{line} printed {reply}, and the key was at {seen}"
@@ -214,7 +238,7 @@ class Witness:
             return None if answer == "refused HistoryFull" else f"{line} printed {answer}, and the history is full"
         if answer == "stopped":
             self.stopped = self.answered.served(clients, rounds, False)
-        elif answer in ("refused Full", "refused HistoryFull"):
+        elif answer in ("refused Full", "refused HistoryFull") or (answer == "refused Overcommit" and self.limit != NO_LIMIT):
             self.answered = self.answered.served(clients, rounds, False)
         elif answer == f"clients {clients} {rounds} {2 * clients * rounds}":
             self.answered = self.answered.served(clients, rounds, True)
@@ -288,8 +312,9 @@ class Follower:
     """Says what is wrong with the answers to the lines of a script."""
 
     def __init__(self, options):
-        self.options = options
-        self.witness = Witness(options.replicas)
+        # Of the master that is up, or of the last one; and of the masters that start from then on.
+        self.options = self.later = options
+        self.witness = Witness(options.replicas, options.live)
         # Each that fits the answers so far: behind clients there may be several. Empty if the layout isn't known. The numbers
         # below are for that time.
         self.stores = [Store.new(options)]
@@ -299,8 +324,8 @@ class Follower:
         self.greatest = 1
         # How many records the history has, if that is known.
         self.records = None
-        # The format of the masters that start from then on, and of the one that is up.
-        self.format = self.master_format = options.format
+        # The format of the master that is up.
+        self.master_format = options.format
         # How many backups may have failed for the master, and whether a failover may be open.
         self.failed, self.is_mending = 0, False
         # Whether a fault was asked for and may still come, and whether the master has told that it is halted.
@@ -332,7 +357,7 @@ class Follower:
         masters = [it.master for it in stores if it.master]
         self.stores, self.is_up, self.may_clean = [], bool(masters), any(it.cleaning for it in masters)
         self.is_unlimited = all(it.fleet.left == NO_LIMIT for it in stores)
-        self.greatest, self.format = max(it.greatest for it in stores), stores[0].format
+        self.greatest, self.options, self.later = max(it.greatest for it in stores), stores[0].options, stores[0].later
         records = {it.records for it in masters}
         self.records = records.pop() if len(records) == 1 else None
         self.master_format = 2 if any(it.has_lengths for it in masters) else 1
@@ -351,9 +376,9 @@ class Follower:
 
     def wrong_unseen(self, line, answer):
         name = line[0]
-        if self.is_up and name in ("lose", "recover"):
+        if self.is_up and name in DOWN_LINES:
             may_be = answer == ["refused Up"]
-        elif not self.is_up and name not in ("idle", "stop", "fault", "lose", "recover", "holdings", "format"):
+        elif not self.is_up and name not in (*DOWN_LINES, *ANY_LINES):
             may_be = answer == ["refused Down"]
         elif answer == ["stopped"]:
             may_be = not self.is_unlimited and name in TAKING
@@ -399,11 +424,11 @@ class Follower:
     def end_recovery(self):
         """A recovery ended early. Its master took a number, and may have gone on without a backup before that."""
         self.greatest += 1
-        if self.is_due and self.format == 2:
+        if self.is_due and self.later.format == 2:
             self.failed += 1
 
     def may_command(self, line, row):
-        kind = "put" if line[0] in ("put", "new", "cas") else line[0]
+        kind = "put" if line[0] in PUTS else line[0]
         command = Command(kind, line[1], line[2], line[-1] if kind == "put" else b"")
         if kind == "put" and is_too_big(command, self.options):
             return row == "refused TooBig"
@@ -411,6 +436,9 @@ class Follower:
             return row == "refused NoTablet"
         if self.records is not None and self.records >= self.options.history:
             return row == "refused HistoryFull"
+        if row == "refused Overcommit":
+            # The witness judges it.
+            return True
         if row == "refused Full":
             return kind != "get"
         if row == "refused HistoryFull":
@@ -429,7 +457,7 @@ class Follower:
                 self.records += calls
             return left is None or calls <= left
         self.records = None
-        return answer[0] == "refused Full" or left is None or calls > left
+        return answer[0] in ("refused Full", "refused Overcommit") or left is None or calls > left
 
     def may_idle(self, _, answer):
         return not answer
@@ -443,8 +471,10 @@ class Follower:
         return answer == [f"fault {line[1]} {'taken' if line[2] else 'lost'}"]
 
     def may_format(self, line, answer):
-        self.format = line[1]
-        return answer == [f"format {line[1]}"]
+        self.later = later_options(self.later, line)
+        return answer == [f"{line[0]} {line[1]}"]
+
+    may_seglets = may_format
 
     def may_crash(self, _, answer):
         self.is_up = self.is_halted = False
@@ -452,6 +482,26 @@ class Follower:
 
     def may_lose(self, line, answer):
         return answer == [f"lost {line[1]}"]
+
+    def may_live(self, _, answer):
+        limit = "none" if self.options.live == NO_LIMIT else self.options.live
+        # A halted master counts what the line that met the fault has put, too.
+        maps = self.witness.maps()
+        if any(it.crowd for it in maps):
+            return re.fullmatch(rf"live \d+ {limit}", answer[0])
+        return answer[0] in [f"live {it.live_bytes()} {limit}" for it in maps]
+
+    def may_needs(self, _, answer):
+        if answer[0].startswith("refused "):
+            return self.may_miss(answer[0])
+        maps = self.witness.maps()
+        needs = [f"needs {seglets_needed(it.objects(), self.later) or 'segments'}" for it in maps]
+        return answer[0] in needs or (any(it.crowd for it in maps) and re.fullmatch(r"needs (\d+|segments)", answer[0]))
+
+    def may_miss(self, row):
+        """Whether a recovery may find so that a head or a segment is lost."""
+        too_old = "HeadTooOld|" if self.failed else ""
+        return re.fullmatch(rf"refused (NoHead|({too_old}HeadClosed|Missing) \d+)", row)
 
     def may_will(self, _, answer):
         # A halted master holds what the line that met the fault has put, too.
@@ -483,12 +533,12 @@ class Follower:
                 self.end_recovery()
             if answer == ["refused Halted"]:
                 return self.is_due
-            too_old = "HeadTooOld|" if self.failed else ""
-            return re.fullmatch(rf"refused (Full|NoHead|({too_old}HeadClosed|Missing) \d+)", answer[-1])
+            return answer[-1] == "refused Full" or self.may_miss(answer[-1])
         found = self.witness.answered
-        down = Store(self.options, Fleet(), None, greatest=self.greatest, format=self.format)
+        down = Store(self.options, self.later, Fleet(), None, greatest=self.greatest)
         store = end_of(down.adopted(found.objects(), found.safe))
-        self.is_up, self.records, self.master_format = True, 0, self.format
+        self.is_up, self.records, self.options = True, 0, self.later
+        self.master_format = self.later.format
         self.greatest += 1
         self.failed, self.is_mending, self.may_clean = 0, False, False
         if self.is_due:
@@ -501,9 +551,11 @@ class Follower:
 def wrong_run(words, script, run):
     """What is wrong with the run of a script, with these options; None if nothing is."""
     options = options_of(words)
+    if config_fault(options):
+        wanted = Run(2, "", f"ramlog: bad configuration {config_fault(options)}\n")
+        return None if run == wanted else f"it ended with {run}, and not with {wanted}"
     follower, lines, status, errors = Follower(options), [], 0, ""
-    for number, line in enumerate(lines_of(script), 1):
-        parsed = parse(line, options.backups)
+    for number, parsed in enumerate(parsed_lines(script, options), 1):
         if parsed is None:
             status, errors = 2, f"ramlog: bad line {number}\n"
             break
