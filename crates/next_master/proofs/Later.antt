@@ -1,35 +1,68 @@
 -- The configuration of a master that starts later.
 use Rattle.std.proofs.Common.{◌≡◌, ◌⊎◌, ◌<◌, ◌∙◌, ℕ, Bool, true, false, refl, sym, ap, inl, inr}
-use Rattle.std.specs.Prelude.{Option, Some, None, not, if◌then◌else◌}
+use Rattle.std.specs.Prelude.{Option, Some, None, not, ◌&&◌, is_none, if◌then◌else◌}
 use Rattle.command_line.specs.declared.settings.Options.{Options}
+use Rattle.entry.specs.Format.{is_within}
+use Rattle.images.specs.Images.{AreSizes as AreSizesOf}
 use Rattle.node.specs.master.master_state.declared.config.Config.{Config}
 use Rattle.node.specs.master.master_state.declared.config.ConfigFault.{ConfigFault}
 use Rattle.node.specs.master.master_state.declared.config.ConfigFault.TheVariants.{BadBackups, BadStep, BadSegment, BadSeglet}
 use Rattle.node.specs.master.master_state.declared.config.ConfigFault.TheVariants.{BadBudget, BadTablets, BadHistory, BadFormat}
-use Rattle.node.specs.master.master_state.Config.{config_fault, has_backups, has_budget, has_format, has_history, has_seglet}
-use Rattle.node.specs.master.master_state.Config.{has_segment, has_step, has_tablets}
-use Rattle.next_master.specs.Configuration.{config_of, later_options}
+use Rattle.node.specs.master.master_state.declared.config.ConfigFault.TheVariants.{BadLive}
+use Rattle.node.specs.master.master_state.Config.{config_fault, has_backups, has_budget, has_format, has_history, has_live}
+use Rattle.node.specs.master.master_state.Config.{has_seglet, has_segment, has_step, has_tablets}
+use Rattle.node.proofs.of_master.master_state.Refusals.{sizes_of}
+use Rattle.next_master.specs.Configuration.{config_of, later_format, later_options, later_seglets, AreSizes}
+use Rattle.next_master.specs.declared.later.Later.{Later}
 use Rattle.node.specs.Told.{IsNextConfig}
 
--- of the same format or of format 2, and otherwise of the same options
-pub next_config_is : (lists : Bool) (options : Options) (master : ℕ) (config : Config)
-    → config ≡ config_of (later_options lists options) config.master → master < config.master
+-- of the same format or of format 2, with any seglets, and otherwise of the same options
+pub next_config_is : (later : Later) (options : Options) (master : ℕ) (config : Config)
+    → config ≡ config_of (later_options later options) config.master → master < config.master
     → IsNextConfig (config_of options master) config
-next_config_is lists options master config is above = (above, which lists is, is ∙ same)
+next_config_is later options master config is above =
+    (above, which later.lists_lengths later.seglets is, is ∙ same)
   where
-    which : (l : Bool) → config ≡ config_of (later_options l options) config.master
+    which : (l : Bool) (s : Option ℕ)
+        → config ≡ config_of (record options {
+          format = later_format l options.format;
+          seglets = later_seglets s options.seglets;
+        }) config.master
         → (config.format ≡ options.format) ⊎ (config.format ≡ 2)
-    which true made = inr (ap (λ (c : Config). c.format) made)
-    which false made = inl (ap (λ (c : Config). c.format) made)
+    which true s made = inr (ap (λ (c : Config). c.format) made)
+    which false s made = inl (ap (λ (c : Config). c.format) made)
 
-    same : config_of (later_options lists options) config.master
-        ≡ record (config_of options master) { master = config.master; format = config.format }
-    same = ap (λ (f : ℕ). record (config_of options config.master) { format = f })
-        (sym (ap (λ (c : Config). c.format) is))
+    same : config_of (later_options later options) config.master
+        ≡ record (config_of options master) {
+          master = config.master;
+          format = config.format;
+          seglets = config.seglets;
+        }
+    same = λ i. record (config_of options config.master) {
+      format = sym (ap (λ (c : Config). c.format) is) i;
+      seglets = sym (ap (λ (c : Config). c.seglets) is) i;
+    }
+
+-- what is asked for a second time is asked for once
+pub later_twice : (later : Later) (options : Options)
+    → later_options later (later_options later options) ≡ later_options later options
+later_twice later options = λ i. record options {
+  format = formats later.lists_lengths options.format i;
+  seglets = counts later.seglets options.seglets i;
+} where
+  formats : (l : Bool) (n : ℕ) → later_format l (later_format l n) ≡ later_format l n
+  formats true n = refl
+  formats false n = refl
+
+  counts : (s : Option ℕ) (n : ℕ) → later_seglets s (later_seglets s n) ≡ later_seglets s n
+  counts (Some later) n = refl
+  counts None n = refl
+
+-- ---- within the limits
 
 -- the first of these tests that fails
-abbrev first_fault : Bool → Bool → Bool → Bool → Bool → Bool → Bool → Bool → Option ConfigFault
-first_fault backups step seglet segment budget tablets history format =
+abbrev first_fault : Bool → Bool → Bool → Bool → Bool → Bool → Bool → Bool → Bool → Option ConfigFault
+first_fault backups step seglet segment budget tablets history format live =
     if not backups then Some BadBackups
     else if not step then Some BadStep
     else if not seglet then Some BadSeglet
@@ -38,25 +71,62 @@ first_fault backups step seglet segment budget tablets history format =
     else if not tablets then Some BadTablets
     else if not history then Some BadHistory
     else if not format then Some BadFormat
+    else if not live then Some BadLive
     else None
 
--- if none fails, none fails with a format that there is
-still_none : (a b c d e f g h : Bool) → first_fault a b c d e f g h ≡ None → first_fault a b c d e f g true ≡ None
-still_none false b c d e f g h is = is
-still_none true false c d e f g h is = is
-still_none true true false d e f g h is = is
-still_none true true true false e f g h is = is
-still_none true true true true false f g h is = is
-still_none true true true true true false g h is = is
-still_none true true true true true true false h is = is
-still_none true true true true true true true h is = refl
+-- If none fails, none fails with other memory just if that has its seglets, and leaves room for the live bytes.
+other_memory : (a b c d e f g h i budget format live : Bool) → (h ≡ true → format ≡ true)
+    → first_fault a b c d e f g h i ≡ None
+    → is_none (first_fault a b c d budget f g format live) ≡ (budget && live)
+other_memory false b c d e f g h i budget format live kept is = absurd (cc)
+other_memory true false c d e f g h i budget format live kept is = absurd (cc)
+other_memory true true false d e f g h i budget format live kept is = absurd (cc)
+other_memory true true true false e f g h i budget format live kept is = absurd (cc)
+other_memory true true true true false f g h i budget format live kept is = absurd (cc)
+other_memory true true true true true false g h i budget format live kept is = absurd (cc)
+other_memory true true true true true true false h i budget format live kept is = absurd (cc)
+other_memory true true true true true true true false i budget format live kept is = absurd (cc)
+other_memory true true true true true true true true i false format live kept is = refl
+other_memory true true true true true true true true i true format live kept is =
+    ap (λ (x : Bool). is_none (first_fault true true true true true true true x live)) (kept refl) ∙ last live
+  where
+    last : (x : Bool) → is_none (first_fault true true true true true true true true x) ≡ x
+    last true = refl
+    last false = refl
 
--- it is within its limits, as that of the options is
-pub later_checked : (lists : Bool) (options : Options) (master number : ℕ)
-    → config_fault (config_of options master) ≡ None
-    → config_fault (config_of (later_options lists options) number) ≡ None
-later_checked false options master number is = is
-later_checked true options master number is =
-    let c = config_of options master in
-    still_none (has_backups c) (has_step c) (has_seglet c) (has_segment c) (has_budget c) (has_tablets c) (has_history c)
-    (has_format c) is
+format_kept : (l : Bool) (n : ℕ) → is_within 1 2 n ≡ true → is_within 1 2 (later_format l n) ≡ true
+format_kept true n is = refl
+format_kept false n is = is
+
+-- of later masters the memory alone has to be tested
+pub later_tested : (later : Later) (options : Options) → config_fault (config_of options 1) ≡ None
+    → is_none (config_fault (config_of (later_options later options) 1))
+    ≡ (has_budget (config_of (later_options later options) 1) && has_live (config_of (later_options later options) 1))
+later_tested later options is =
+    let c = config_of options 1 in
+    let n = config_of (later_options later options) 1 in
+    other_memory (has_backups c) (has_step c) (has_seglet c) (has_segment c) (has_budget c) (has_tablets c)
+    (has_history c) (has_format c) (has_live c) (has_budget n) (has_format n) (has_live n)
+    (format_kept later.lists_lengths options.format) is
+
+none_of : {X : Type 0} (o : Option X) → is_none o ≡ true → o ≡ None
+none_of None is = refl
+none_of (Some x) is = absurd (cc)
+
+-- a test that answers as these two do tells whether they are within their limits
+pub may_begin : {X : Type 0} (o : Option X) (tested result : Bool) → is_none o ≡ tested → result ≡ tested
+    → (result ≡ true → o ≡ None) × (o ≡ None → result ≡ true)
+may_begin o tested result is answers =
+    (λ yes. none_of o (is ∙ sym answers ∙ yes), λ none. answers ∙ sym is ∙ ap is_none none)
+
+-- the sizes of segments and seglets of later masters are those of the options
+pub later_sizes : (later : Later) (options : Options) → config_fault (config_of options 1) ≡ None
+    → AreSizes (later_options later options)
+later_sizes later options is =
+    let sizes : AreSizesOf options.segment options.seglet options.seglets = sizes_of (config_of options 1) is in
+    record {
+      seglet = sizes.least_seglet;
+      most_seglet = sizes.most_seglet;
+      segment = sizes.least_segment;
+      most_segment = sizes.most_segment;
+    }

@@ -4,6 +4,7 @@ pub mod Retired
 pub mod Halted
 pub mod HowItEnds
 pub mod Later
+pub mod Needing
 pub mod NextLife
 pub use Rattle.node.proofs.of_driving
 pub use Rattle.node.proofs as of_node
