@@ -3,7 +3,7 @@ pub mod Recovered
 pub mod Retired
 pub mod Halted
 pub mod HowItEnds
-pub mod Later
+pub mod NextConfig
 pub mod Needing
 pub mod NextLife
 pub use Rattle.node.proofs.of_driving

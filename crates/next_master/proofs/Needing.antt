@@ -18,7 +18,7 @@ use Rattle.node.specs.Told.{NeedsFor, Tells}
 use Rattle.next_master.specs.Configuration.{config_of}
 use Rattle.next_master.specs.declared.later.Later.{Later}
 use Rattle.next_master.specs.Recoveries.{Asked, FindsNothing, IsFoundIn, NeedsOn}
-use Rattle.next_master.proofs.Later.{next_config_is}
+use Rattle.next_master.proofs.NextConfig.{next_config_is}
 
 -- a number that is enough and least, or none if none is enough
 pub needs_for : (config : Config) (r : Rebuilt) (needed : Option ℕ)

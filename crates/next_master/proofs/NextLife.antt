@@ -37,7 +37,7 @@ use Rattle.node.specs.Served.{AnswersLine, IsLeftOf, IsNodeAt, IsOf, Refuses, fl
 use Rattle.next_master.specs.Succession.{EndsRecovery}
 use Rattle.node.specs.Told.{HoldsLeft, IsUnadopted, Tells}
 use Rattle.next_master.specs.declared.later.Later.{Later}
-use Rattle.next_master.proofs.Later.{next_config_is}
+use Rattle.next_master.proofs.NextConfig.{next_config_is}
 use Rattle.next_master.proofs.HowItEnds.{after_backups, after_least, after_picture, down_final, fleet_held}
 use Rattle.node.proofs.Standing.{legal_of}
 

@@ -3,7 +3,7 @@ use Rattle.std.specs.Prelude.{◌&&◌}
 use Rattle.command_line.specs.declared.settings.Options.{Options}
 use Rattle.node.specs.master.master_state.Config.{config_fault, has_budget, has_live}
 use Rattle.next_master.specs.Configuration.{config_of, later_options, AreSizes}
-use Rattle.next_master.proofs.Later.{later_sizes, later_tested, may_begin}
+use Rattle.next_master.proofs.NextConfig.{later_sizes, later_tested, may_begin}
 use Rattle.next_master.proofs.later.can_begin.Goals as goal
 
 pub has_room-requires : goal.has_room-requires
