@@ -136,7 +136,10 @@ impl Change {
     {
         match self {
             Change::Nothing => live,
-            Change::Create(_) | Change::Replace(_, _) => with_object(live.saturating_sub(had), command),
+            Change::Create(_) | Change::Replace(_, _) => with_object(
+                live.saturating_sub(had),
+                command,
+            ),
             Change::Delete(_) => live.saturating_sub(had),
         }
     }

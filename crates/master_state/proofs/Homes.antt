@@ -436,6 +436,11 @@ module _ (c : Config) (failed : List ℕ) (s : ℕ) where
   pub place_in_none : (n b j : ℕ) → place_in c failed s n b ≡ None → j < n → home c failed s j ≡ b → ⊥
   place_in_none n b j is = place_none (working c failed s) n b j (sym (place_in_is n b) ∙ is)
 
+  -- if neither this replica nor one before it is on the backup, none up to it is
+  pub none_up_to : (j b : ℕ) → (home c failed s j == b) ≡ false → place_in c failed s j b ≡ None
+      → place_in c failed s (suc j) b ≡ None
+  none_up_to j b other none = rw other none
+
   pub place_in_at : (n b j : ℕ) → n ≤ length (working c failed s) → j < n → home c failed s j ≡ b
       → place_in c failed s n b ≡ Some j
   place_in_at n b j few lt same =

@@ -42,7 +42,7 @@ sizes_of c = record { segment = c.segment; seglet = c.seglet; seglets = c.seglet
 
 -- The live objects have no limit, or one that leaves room: a new master of this configuration can load any table within
 -- it, and then has two whole segments free.
-abbrev pub has_live : Config → Bool
+unfoldable pub has_live : Config → Bool
 has_live c = (c.most_live == unlimited) || is_limit (sizes_of c) c.largest c.most_live
 
 -- what is wrong with a configuration: the first test that fails

@@ -2,7 +2,9 @@
 
 ghost use Rattle.std.specs.Prelude.{◌≡◌, ◌<◌, ◌≤◌, ◌%◌, length, None, Some, IfSome};
 ghost use Rattle.std.specs.Result.{result_err};
-ghost use Rattle.master_state.specs.Config.{config_fault, has_backups, sizes_of};
+ghost use Rattle.packing.specs.Limits.{AreBounded};
+ghost use Rattle.packing.specs.Packing.{AreSound};
+ghost use Rattle.master_state.specs.Config.{config_fault, has_backups, has_live, sizes_of};
 ghost use Rattle.master_state.specs.Log.{backup_at, home, working, place_in};
 ghost use Rattle.master_state.specs.Names.{config_fault_name};
 
@@ -143,10 +145,20 @@ impl Config {
         if self.format < 1 || self.format > 2 {
             return Err(ConfigFault::BadFormat);
         }
-        if self.most_live != u64::MAX && !is_limit(&self.sizes(), self.largest, self.most_live) {
+        if !self.has_live() {
             return Err(ConfigFault::BadLive);
         }
         Ok(())
+    }
+
+    /// Returns true if the live objects have no limit, or one that leaves room for any table.
+    #[tactic(auto, unfolding(crate::specs::Config::has_live))]
+    fn has_live(&self) -> bool
+        requires sound { AreSound (sizes_of self.now) }
+        requires bounded { AreBounded (sizes_of self.now) }
+        ensures { result ≡ has_live self.now }
+    {
+        self.most_live == u64::MAX || is_limit(&self.sizes(), self.largest, self.most_live)
     }
 
     /// The sizes that decide how a log of this configuration is laid out.
