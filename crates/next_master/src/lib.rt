@@ -14,9 +14,9 @@ mod needing;
 mod recovering;
 mod setup;
 
-pub use node;
-pub use node::{answers, driving, master, recovery, replay};
 pub use later::{Later, can_begin, later_options};
 pub use needing::node_needs;
+pub use node;
+pub use node::{answers, driving, master, recovery, replay};
 pub use recovering::{Recovery, Request, next_number, recover_node};
 pub use setup::{configuration, whole_will};

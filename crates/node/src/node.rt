@@ -14,6 +14,9 @@ ghost use Rattle.node.specs.Shows.{ShowsDigest, ShowsImage, ShowsLive, ShowsRoom
 ghost use Rattle.node.specs.Waits.{MakesRoom, MakesOpen, TriesLine, IsReplyAt};
 
 use crate::tried::Tried;
+use answers::driving::master::{
+    CommandRef, Look, Master, Refusal, ReplyRef, Shown, Step, StepAnswer,
+};
 use answers::driving::{clean_all, roll_all, serve};
 use answers::{Answer, WriteFailed, write_reply};
 use backup::MemoryFleet;
@@ -22,7 +25,6 @@ use replica::{Bench, Fleet, Labels};
 use std::alloc::Global;
 use std::io::Write;
 use std::mem::replace;
-use answers::driving::master::{CommandRef, Look, Master, Refusal, ReplyRef, Shown, Step, StepAnswer};
 
 /// A fleet, and the master over it if there is one.
 #[derive(Drop)]

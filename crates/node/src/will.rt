@@ -7,11 +7,11 @@ ghost use Rattle.node.specs.Told.{HasLimits};
 ghost use Rattle.node.specs.Wills.{IsNoWill, MakesWill};
 
 use crate::node::Node;
+use answers::driving::master::{Master, Refusal};
 use answers::{Answer, Limits};
 use entry::Row;
 use replica::Fleet;
 use std::alloc::Global;
-use answers::driving::master::{Master, Refusal};
 use tablet_will::{Part, Will, WillFault, make_will};
 
 /// Makes the will of a master's live objects in place of `will`, and answers its parts. If this fails, `will` stays.

@@ -73,13 +73,17 @@ says_none s other l is none allows = none (subst (Allows s) is allows)
 -- its text begins with its name
 pub begins_format : (text : List ℕ) (l : LineValue) → l ≡ Format → Says text l → BeginsWith text (codes "format")
 begins_format text l is says =
-    let written : IsWritten text Format = subst (Says text) is says in
-    (codes "2" ∷ [], ap (slice_split is_space) written.spaced
-    ∙ split_joined (codes "format") (codes "2" ∷ []) written.words)
+    let written : IsWritten text Format = subst (Says text) is says in (
+      codes "2" ∷ [],
+      ap (slice_split is_space) written.spaced
+          ∙ split_joined (codes "format") (codes "2" ∷ []) written.words,
+    )
 
 pub begins_seglets : (text : List ℕ) (l : LineValue) (seglets : ℕ) → l ≡ Seglets seglets → Says text l
     → BeginsWith text (codes "seglets")
 begins_seglets text l seglets is says =
-    let written : IsWritten text (Seglets seglets) = subst (Says text) is says in
-    (decimal seglets ∷ [], ap (slice_split is_space) written.spaced
-    ∙ split_joined (codes "seglets") (decimal seglets ∷ []) written.words)
+    let written : IsWritten text (Seglets seglets) = subst (Says text) is says in (
+      decimal seglets ∷ [],
+      ap (slice_split is_space) written.spaced
+          ∙ split_joined (codes "seglets") (decimal seglets ∷ []) written.words,
+    )

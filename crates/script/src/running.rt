@@ -16,8 +16,7 @@ ghost use Rattle.script.specs.Turns.{HasValue, IsNoMore, IsPrinted, PrintsText, 
 use crate::outcome::Outcome;
 use crate::session::{LineFault, Session};
 use command_line::Options;
-use lines::{CommandLine, Line, LineReader, ReadFault, Reason, Shape, Taken};
-use lines::{one_line, parse_line};
+use lines::{CommandLine, Line, LineReader, ReadFault, Reason, Shape, Taken, one_line, parse_line};
 use next_master::answers::{Answer, ScriptFault, write_answer};
 use next_master::node::Tried;
 use std::alloc::Global;

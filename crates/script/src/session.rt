@@ -33,8 +33,9 @@ use next_master::driving::push_all;
 use next_master::master::{CommandRef, If, Master, Refusal, Step, ValueRef};
 use next_master::node::{Node, Tried};
 use next_master::recovery::{PlanFault, RecoveryFault};
-use next_master::{Later, Request, can_begin, configuration, later_options, node_needs};
-use next_master::{recover_node, whole_will};
+use next_master::{
+    Later, Request, can_begin, configuration, later_options, node_needs, recover_node, whole_will,
+};
 use node_lines::store_clients::Workload;
 use node_lines::{Served, serve_clients};
 use std::alloc::Global;
@@ -263,16 +264,16 @@ impl Session {
         if let Node::Up(_) = self.node {
             return Answer::Up;
         }
-        if !self.is_known {
-            return Answer::SeatUnknown;
+        if self.is_known {
+            let request = Request {
+                options: self.options,
+                later: self.later,
+                master: self.master,
+                used: self.used,
+            };
+            return node_needs(rt, self.alloc, &self.node, request, &self.will);
         }
-        let request = Request {
-            options: self.options,
-            later: self.later,
-            master: self.master,
-            used: self.used,
-        };
-        node_needs(rt, self.alloc, &self.node, request, &self.will)
+        Answer::SeatUnknown
     }
 
     /// Runs the line that makes the coordinator's will anew of the live objects.
@@ -309,14 +310,7 @@ impl Session {
             master: self.master,
             used: self.used,
         };
-        let recovery = recover_node(
-            rt,
-            self.alloc,
-            &mut self.node,
-            request,
-            &self.will,
-            order,
-        );
+        let recovery = recover_node(rt, self.alloc, &mut self.node, request, &self.will, order);
         self.used = recovery.used;
         if recovery.master != self.master {
             self.master = recovery.master;
@@ -334,8 +328,13 @@ impl Session {
         requires rounds { work.rounds ≤ 1000000 }
         ensures { SessionAnswers self.old (Clients work.clients work.rounds work.passes) self.new result }
     {
-        let Served { answer, is_known } =
-            serve_clients(rt, &mut self.node, self.alloc, self.options.history, work);
+        let Served { answer, is_known } = serve_clients(
+            rt,
+            &mut self.node,
+            self.alloc,
+            self.options.history,
+            work,
+        );
         self.is_known &= is_known;
         answer
     }

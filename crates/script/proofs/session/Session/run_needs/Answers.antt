@@ -14,15 +14,15 @@ returns-in-Up g c =
     needs_answers s answer.Up (up_told s.node (config_of s.options s.master) Needs up refl)
     (inl (inl up, inl (up, refl)))
 
-pub returns-then-not-self : goal.returns-then-not-self
-returns-then-not-self g c =
+pub returns : goal.returns
+returns g c =
     let s = c.args.self.now in
     let down = not_up s.node c.in_default.not-Up in
     needs_answers s answer.SeatUnknown
     (unknown_at s.node (config_of s.options s.master) Needs down (inr refl))
-    (inr (down, c.if-not-self.true, refl))
+    (inr (down, c.if-self.false, refl))
 
-pub returns : goal.returns
-returns g c =
+pub returns-then-self : goal.returns-then-self
+returns-then-self g c =
     needs_answers c.args.self.now c.node_needs.result c.node_needs.ensures.told
-    (inl (inr c.if-not-self.false, c.node_needs.ensures.shown))
+    (inl (inr c.if-self.true, c.node_needs.ensures.shown))

@@ -21,6 +21,9 @@ returns-clause-ran c =
 
 pub returns-then-not-set_later-clause-refused : goal.returns-then-not-set_later-clause-refused
 returns-then-not-set_later-clause-refused c =
-    let s = c.args.self.now in
-    (c.args.seglets, refl, λ may. c.set_later.ensures.refused c.if-not-set_later.true
-    (subst (λ (l : Later). MayBegin l s.options) (sym c.with_seglets-later.ensures) may))
+    let s = c.args.self.now in (
+      c.args.seglets,
+      refl,
+      λ may. c.set_later.ensures.refused c.if-not-set_later.true
+          (subst (λ (l : Later). MayBegin l s.options) (sym c.with_seglets-later.ensures) may),
+    )
