@@ -4,7 +4,7 @@ pub mod Retired
 pub mod Halted
 pub mod HowItEnds
 pub mod NextConfig
-pub mod Needing
+pub mod WhatIsNeeded
 pub mod NextLife
 pub use Rattle.node.proofs.of_driving
 pub use Rattle.node.proofs as of_node

@@ -15,7 +15,7 @@ use Rattle.node.proofs.Standing.{stays_told, up_told}
 use Rattle.next_master.specs.Configuration.{config_of, later_options}
 use Rattle.next_master.specs.Recoveries.{asked_for}
 use Rattle.next_master.proofs.HowItEnds.{down_on, up_at}
-use Rattle.next_master.proofs.Needing.{needs_for, needs_told, nothing_needs}
+use Rattle.next_master.proofs.WhatIsNeeded.{needs_for, needs_told, nothing_needs}
 use Rattle.next_master.proofs.needing.node_needs.Goals as goal
 
 pub returns-in_default : goal.returns-in_default
