@@ -1,9 +1,11 @@
 -- The configuration of a master that starts later.
-use Rattle.std.proofs.Common.{◌≡◌, ◌⊎◌, ◌<◌, ◌∙◌, ℕ, Bool, true, false, refl, sym, ap, inl, inr}
-use Rattle.std.specs.Prelude.{Option, Some, None, not, ◌&&◌, is_none, if◌then◌else◌}
+use Rattle.std.proofs.Common.{◌≡◌, ◌⊎◌, ◌<◌, ◌≤◌, ◌∙◌, ℕ, Bool, true, false, refl, sym, ap, inl, inr}
+use Rattle.std.specs.Prelude.{Option, Some, None, not, ◌*◌, ◌/◌, ◌&&◌, ◌||◌, is_none, if◌then◌else◌}
+use Rattle.std.proofs.lemmas.Bool.{le-leb, eq-eqb, ne_eqb}
 use Rattle.command_line.specs.declared.settings.Options.{Options}
 use Rattle.entry.specs.Format.{is_within}
 use Rattle.images.specs.Images.{AreSizes as AreSizesOf}
+use Rattle.packing.specs.Limits.{is_limit}
 use Rattle.node.specs.master.master_state.declared.config.Config.{Config}
 use Rattle.node.specs.master.master_state.declared.config.ConfigFault.{ConfigFault}
 use Rattle.node.specs.master.master_state.declared.config.ConfigFault.TheVariants.{BadBackups, BadStep, BadSegment, BadSeglet}
@@ -11,8 +13,10 @@ use Rattle.node.specs.master.master_state.declared.config.ConfigFault.TheVariant
 use Rattle.node.specs.master.master_state.declared.config.ConfigFault.TheVariants.{BadLive}
 use Rattle.node.specs.master.master_state.Config.{config_fault, has_backups, has_budget, has_format, has_history, has_live}
 use Rattle.node.specs.master.master_state.Config.{has_seglet, has_segment, has_step, has_tablets}
+use Rattle.node.specs.master.master_state.Config.{sizes_of as sizes_of_config}
 use Rattle.node.proofs.of_master.master_state.Refusals.{sizes_of}
 use Rattle.next_master.specs.Configuration.{config_of, later_format, later_options, later_seglets, AreSizes}
+use Rattle.next_master.specs.Configuration.{MayBegin}
 use Rattle.next_master.specs.declared.later.Later.{Later}
 use Rattle.node.specs.Told.{IsNextConfig}
 
@@ -109,6 +113,25 @@ later_tested later options is =
     (has_history c) (has_format c) (has_live c) (has_budget n) (has_format n) (has_live n)
     (format_kept later.lists_lengths options.format) is
 
+module _ (o : Options) (low : 4 * (o.segment / o.seglet) ≤ o.seglets) (high : o.seglets ≤ 4294967296) where
+  budget : has_budget (config_of o 1) ≡ true
+  budget = λ i. le-leb (4 * (o.segment / o.seglet)) o.seglets low i && le-leb o.seglets 4294967296 high i
+
+  -- without a limit of live bytes the memory is tested alone
+  pub has_no_limit : o.live ≡ 18446744073709551615
+      → true ≡ (has_budget (config_of o 1) && has_live (config_of o 1))
+  unfolding has_live
+  has_no_limit none = sym (λ i. budget i
+      && (eq-eqb o.live 18446744073709551615 none i || is_limit (sizes_of_config (config_of o 1)) o.largest o.live))
+
+  -- with one it has to leave room
+  pub has_limit : (o.live ≡ 18446744073709551615 → ⊥)
+      → is_limit (sizes_of_config (config_of o 1)) o.largest o.live
+      ≡ (has_budget (config_of o 1) && has_live (config_of o 1))
+  unfolding has_live
+  has_limit some = sym (λ i. budget i
+      && (ne_eqb o.live 18446744073709551615 some i || is_limit (sizes_of_config (config_of o 1)) o.largest o.live))
+
 none_of : {X : Type 0} (o : Option X) → is_none o ≡ true → o ≡ None
 none_of None is = refl
 none_of (Some x) is = absurd (cc)
@@ -118,6 +141,19 @@ pub may_begin : {X : Type 0} (o : Option X) (tested result : Bool) → is_none o
     → (result ≡ true → o ≡ None) × (o ≡ None → result ≡ true)
 may_begin o tested result is answers =
     (λ yes. none_of o (is ∙ sym answers ∙ yes), λ none. answers ∙ sym is ∙ ap is_none none)
+
+-- whether a configuration is within its limits doesn't depend on the master's number
+pub checked_as : (options : Options) (one other : ℕ) → config_fault (config_of options one) ≡ None
+    → config_fault (config_of options other) ≡ None
+unfolding has_live
+checked_as options one other is = is
+
+-- a configuration by the options of later masters is within its limits
+pub checked_later : (later : Later) (options : Options) (config : Config)
+    → config ≡ config_of (later_options later options) config.master → MayBegin later options
+    → config_fault config ≡ None
+checked_later later options config is may =
+    ap config_fault is ∙ checked_as (later_options later options) 1 config.master may
 
 -- the sizes of segments and seglets of later masters are those of the options
 pub later_sizes : (later : Later) (options : Options) → config_fault (config_of options 1) ≡ None

@@ -1,10 +1,9 @@
-use Rattle.std.proofs.Common.{inl, inr, refl, sym, ap, subst, ◌∙◌}
+use Rattle.std.proofs.Common.{inl, inr, refl, sym, subst}
 use Rattle.std.specs.Prelude.{IfSome}
 use Rattle.backup.specs.State.{fleet_state}
 use Rattle.lines.specs.Grammar.{Needs}
 use Rattle.lines.specs.declared.line.ReplayOrder.TheVariants.{Forward}
 use Rattle.node.specs.master.Registry.{AreUnraisedAbove}
-use Rattle.node.specs.master.master_state.Config.{config_fault}
 use Rattle.node.specs.master.master_state.declared.config.Config.{Config}
 use Rattle.node.specs.answers.declared.answer.Answer.TheVariants as answer
 use Rattle.node.specs.declared.node.Node.{Node}
@@ -15,6 +14,7 @@ use Rattle.node.proofs.Standing.{stays_told, up_told}
 use Rattle.next_master.specs.Configuration.{config_of, later_options}
 use Rattle.next_master.specs.Recoveries.{asked_for}
 use Rattle.next_master.proofs.HowItEnds.{down_on, up_at}
+use Rattle.next_master.proofs.NextConfig.{checked_later}
 use Rattle.next_master.proofs.WhatIsNeeded.{needs_for, needs_told, nothing_needs}
 use Rattle.next_master.proofs.needing.node_needs.Goals as goal
 
@@ -30,7 +30,9 @@ find_inheritance-requires-clause-later g c = λ κs outlive.
     subst (λ (n : Node). IfSome (fleet_of n) (AreUnraisedAbove c.args.request.used)) c.in-Down.is c.requires.later
 
 pub seglets_needed-requires : goal.seglets_needed-requires
-seglets_needed-requires g c = ap config_fault c.in-Ok.ensures.found.configured ∙ c.requires.begins
+seglets_needed-requires g c =
+    checked_later c.args.request.later c.args.request.options c.in-Ok.found.config c.in-Ok.ensures.found.configured
+    c.requires.begins
 
 pub returns-in-Ok-clause-told : goal.returns-in-Ok-clause-told
 returns-in-Ok-clause-told g c =

@@ -4,7 +4,6 @@ use Rattle.backup.specs.State.{fleet_state}
 use Rattle.lines.specs.Grammar.{Recover}
 use Rattle.lines.specs.declared.line.ReplayOrder.TheVariants.{Forward}
 use Rattle.node.specs.master.Registry.{AreUnraisedAbove}
-use Rattle.node.specs.master.master_state.Config.{config_fault}
 use Rattle.node.specs.master.master_state.declared.config.Config.{Config}
 use Rattle.replica.specs.Picture.{FleetState}
 use Rattle.node.specs.answers.declared.answer.Answer.TheVariants as answer
@@ -18,6 +17,7 @@ use Rattle.next_master.proofs.NextLife.{cut_told, declined_told, has_backups, no
 use Rattle.next_master.proofs.NextLife.{not_of_refusal, recovered_told}
 use Rattle.next_master.proofs.HowItEnds.{cut_over, down_on, taken_over, up_at}
 use Rattle.node.proofs.Standing.{stays_told, up_told}
+use Rattle.next_master.proofs.NextConfig.{checked_later}
 use Rattle.next_master.proofs.recovering.recover_node.Goals as goal
 
 pub returns-in_default : goal.returns-in_default
@@ -48,7 +48,9 @@ find_inheritance-requires-clause-later g c = λ κs outlive.
     subst (λ (n : Node). IfSome (fleet_of n) (AreUnraisedAbove c.args.request.used)) c.in-Down.is c.requires.later
 
 pub adopt-requires-clause-config : goal.adopt-requires-clause-config
-adopt-requires-clause-config g c = ap config_fault c.in-Ok.ensures.found.configured ∙ c.requires.begins
+adopt-requires-clause-config g c =
+    checked_later c.args.request.later c.args.request.options c.in-Ok.found.config c.in-Ok.ensures.found.configured
+    c.requires.begins
 
 pub adopt-requires-clause-fleet : goal.adopt-requires-clause-fleet
 adopt-requires-clause-fleet g c =
