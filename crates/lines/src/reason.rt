@@ -47,6 +47,7 @@ pub enum Shape {
     Alone,
     Clients,
     Format,
+    Seglets,
 }
 
 impl Shape {
@@ -71,6 +72,7 @@ impl Shape {
                 " has a number of clients (1 to 63), of rounds (1 to 1000000) and of passes"
             }
             Shape::Format => " has the word 2",
+            Shape::Seglets => " has a number of seglets (1 to 4294967296)",
         }
     }
 }

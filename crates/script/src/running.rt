@@ -16,7 +16,7 @@ ghost use Rattle.script.specs.Turns.{HasValue, IsNoMore, IsPrinted, PrintsText, 
 use crate::outcome::Outcome;
 use crate::session::{LineFault, Session};
 use command_line::Options;
-use lines::{CommandLine, Line, LineReader, ReadFault, Reason, Taken, one_line, parse_line};
+use lines::{CommandLine, Line, LineReader, ReadFault, Reason, Shape, Taken, one_line, parse_line};
 use next_master::answers::{Answer, ScriptFault, write_answer};
 use next_master::node::Tried;
 use std::alloc::Global;
@@ -201,10 +201,18 @@ fn run_other<H: Threads + Wait + Sync, W: Write>(
     let backups = session.backups();
     match session.run_any(rt, line) {
         Ok(answer) => print_answer(writer, &answer),
-        Err(LineFault::Bad) => {
+        Err(LineFault::NoBackup) => {
             // This text is that of no other line.
             one_line();
             Err(ScriptFault::BadLine(number, Reason::NoBackup(backups)))
+        }
+        Err(LineFault::BadFormat) => {
+            one_line();
+            Err(ScriptFault::BadLine(number, Reason::Shape("format", Shape::Format)))
+        }
+        Err(LineFault::BadSeglets) => {
+            one_line();
+            Err(ScriptFault::BadLine(number, Reason::Shape("seglets", Shape::Seglets)))
         }
         Err(LineFault::NoMemory) => Err(ScriptFault::NoMemory),
     }

@@ -1,10 +1,9 @@
-use Rattle.std.proofs.Common.{ap, inr, refl, subst}
+use Rattle.std.proofs.Common.{ap, inl, inr, refl, subst}
 use Rattle.std.proofs.KnownBytes.{Keeps-refl}
 use Rattle.lines.specs.Grammar.{LineValue, Says, shown_line}
 use Rattle.lines.specs.declared.reason.Reason.TheVariants.{NoBackup}
-use Rattle.script.specs.Runs.{IsOfFleet}
 use Rattle.script.specs.Turns.{RefusesLine}
-use Rattle.script.proofs.Commanding.{loses_one}
+use Rattle.script.proofs.Commanding.{begins_format, begins_seglets, no_backup, says_none}
 use Rattle.script.proofs.Turning.{answer_printed}
 use Rattle.script.proofs.running.run_other.Goals as goal
 
@@ -19,20 +18,44 @@ returns-in-Ok g c =
     })
     c.print_answer.ensures
 
-pub returns-in-Err-Bad : goal.returns-in-Err-Bad
-returns-in-Err-Bad g c =
-    let backups = c.args.session.now.options.backups in
-    let refused = subst (RefusesLine backups (shown_line c.args.line)) c.in-Err-Bad.field-0-is
-    c.in-Err-Bad.ensures.refused in
-    let lost = loses_one backups (shown_line c.args.line) refused in (
+pub returns-in-Err-NoBackup : goal.returns-in-Err-NoBackup
+returns-in-Err-NoBackup g c =
+    let s = c.args.session.now in
+    let line = shown_line c.args.line in
+    let refused = subst (RefusesLine s line) c.in-Err-NoBackup.field-0-is c.in-Err-NoBackup.ensures.refused in (
       refl,
-      λ line says of_fleet. refused
-          (subst (IsOfFleet backups) (c.one_line.ensures c.args._text.now line (shown_line c.args.line) says
-          c.requires.says) of_fleet),
+      λ other says allows. says_none s other line (c.one_line.ensures c.args._text.now other line says c.requires.says)
+          (no_backup s line refused) allows,
       Keeps-refl _,
       inr (
         ap NoBackup c.backups-backups.ensures,
-        lost.0,
-        subst (λ (l : LineValue). Says c.args._text.now l) lost.1 c.requires.says,
+        refused.0,
+        subst (λ (l : LineValue). Says c.args._text.now l) refused.1 c.requires.says,
       ),
+    )
+
+pub returns-in-Err-BadFormat : goal.returns-in-Err-BadFormat
+returns-in-Err-BadFormat g c =
+    let s = c.args.session.now in
+    let line = shown_line c.args.line in
+    let refused = subst (RefusesLine s line) c.in-Err-BadFormat.field-0-is c.in-Err-BadFormat.ensures.refused in (
+      refl,
+      λ other says allows. says_none s other line
+          (c.one_line-in-Err-BadFormat.ensures c.args._text.now other line says c.requires.says)
+          (λ all. refused.1 all.1) allows,
+      Keeps-refl _,
+      inl (begins_format c.args._text.now line refused.0 c.requires.says),
+    )
+
+pub returns-in-Err-BadSeglets : goal.returns-in-Err-BadSeglets
+returns-in-Err-BadSeglets g c =
+    let s = c.args.session.now in
+    let line = shown_line c.args.line in
+    let refused = subst (RefusesLine s line) c.in-Err-BadSeglets.field-0-is c.in-Err-BadSeglets.ensures.refused in (
+      refl,
+      λ other says allows. says_none s other line
+          (c.one_line-in-Err-BadSeglets.ensures c.args._text.now other line says c.requires.says)
+          (λ all. refused.2 all.1) allows,
+      Keeps-refl _,
+      inl (begins_seglets c.args._text.now line refused.0 refused.1 c.requires.says),
     )
