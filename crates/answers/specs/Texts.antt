@@ -18,8 +18,8 @@ use Rattle.lines.specs.Grammar.{fate_word}
 use Rattle.lines.specs.Texts.{reason_text}
 use Rattle.recovery.specs.master.master_state.declared.config.Config.{Config}
 use Rattle.recovery.specs.master.master_state.declared.config.ConfigFault.{ConfigFault}
-use Rattle.recovery.specs.master.master_state.declared.config.ConfigFault.TheVariants.{BadBackups, BadSegment, BadBudget}
-use Rattle.recovery.specs.master.master_state.declared.config.ConfigFault.TheVariants.{BadLive}
+use Rattle.recovery.specs.master.master_state.declared.config.ConfigFault.TheVariants.{BadBackups, BadSegment}
+use Rattle.recovery.specs.master.master_state.declared.config.ConfigFault.TheVariants.{BadBudget, BadLive}
 use Rattle.recovery.specs.master.master_state.Names.{refusal_text, config_fault_name}
 use Rattle.tablet_will.specs.declared.part.Part.{Part}
 use Rattle.tablet_will.specs.Parts.{partitions_of}

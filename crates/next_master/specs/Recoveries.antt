@@ -110,8 +110,8 @@ FindsNothing f a answer = ⊥
 abbrev pub IsDownOn : FleetState → Node → Type 0
 IsDownOn f node = (is_up node ≡ false) × (fleet_of node ≡ Some f)
 
--- What is answered of a table that a recovery of this fleet would find: what a new master with the next number and these
--- options needs to adopt it, or why no table is found.
+-- What is answered of a table that a recovery of this fleet would find: what a new master with the next number and
+-- these options needs to adopt it, or why no table is found.
 abbrev pub NeedsOn : FleetState → Options → Asked → Answer → Type 0
 NeedsOn f options a (answers.Needs needed) = (table : Rebuilt) × Rebuilds f a (Ok table)
     × (number : ℕ) × IsNextNumber (max a.master a.used) f.picture number

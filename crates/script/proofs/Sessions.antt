@@ -26,7 +26,7 @@ use Rattle.next_master.specs.master.World.{MasterValue}
 use Rattle.next_master.specs.master.master_state.declared.step.Refusal.{Refusal}
 use Rattle.next_master.specs.answers.declared.answer.Answer.TheVariants as answer
 use Rattle.next_master.specs.node.declared.node.Node.TheVariants.{Up, Down, Changing}
-use Rattle.next_master.proofs.NextConfig.{later_twice}
+use Rattle.next_master.proofs.NextConfig.{checked_as, later_twice}
 use Rattle.next_master.proofs.of_node.Standing.{is_down_some, stays_told}
 use Rattle.lines.specs.declared.line.ReplayOrder.{ReplayOrder}
 use Rattle.next_master.specs.recovery.declared.recovery.RecoveryFault.TheVariants as fault
@@ -129,14 +129,14 @@ of_checked Changing left d of = absurd of
 -- so are the session's options
 pub stands_checked : (s : Session) → Stands s → config_fault (config_of s.options 1) ≡ None
 stands_checked s (covers, (d, at, stands), later, begins) =
-    ap config_fault (sym stands.configured) ∙ of_checked s.node at.left d stands.node_of
+    checked_as s.options s.master 1 (ap config_fault (sym stands.configured) ∙ of_checked s.node at.left d stands.node_of)
 
 -- at the start later masters have these options
 pub begins_later : (options : Options) (s : Session) → BeginsSession options s → MayBegin s.later s.options
 begins_later options s begins =
     let d = begins.stands.0 in
     let stands = begins.stands.1 in
-    let checked : MayBegin no_later options =
+    let checked : config_fault (config_of options 1) ≡ None =
     ap config_fault (sym stands.configured) ∙ of_checked s.node at_start.left d stands.node_of in
     subst (λ (l : Later). MayBegin l s.options) (sym begins.later)
     (subst (λ (o : Options). MayBegin no_later o) (sym begins.set) checked)

@@ -90,15 +90,15 @@ KeepsWord old (Clients clients rounds passes) new answer = (old.is_known ≡ fal
     × ((calls : ℕ) → answer ≡ Counted clients rounds calls → new.is_known ≡ old.is_known)
 KeepsWord old line new answer = new.is_known ≡ old.is_known
 
--- what a line makes of what later masters have: `format 2` sets their format, `seglets` sets how many seglets they have,
--- and no other line changes anything
+-- what a line makes of what later masters have: `format 2` sets their format, `seglets` sets how many seglets they
+-- have, and no other line changes anything
 abbrev pub later_after : LineValue → Later → Later
 later_after Format later = record later { lists_lengths = true }
 later_after (Seglets seglets) later = record later { seglets = Some seglets }
 later_after line later = later
 
--- Whose life the answer of a line is told of: that of a master with the session's number, whatever else its configuration
--- says. What a new master needs is told of the session's own master.
+-- Whose life the answer of a line is told of: that of a master with the session's number, whatever else its
+-- configuration says. What a new master needs is told of the session's own master.
 abbrev pub IsToldOf : Session → LineValue → Config → Type 0
 IsToldOf s Needs config = config ≡ config_of s.options s.master
 IsToldOf s line config = config.master ≡ s.master
@@ -108,7 +108,8 @@ abbrev pub asked_of : Session → ReplayOrder → Asked
 asked_of s order = ask s.master s.used s.will (order_named order)
 
 -- What the line `needs` shows. If the session has a master, or if each store of clients could tell whose its records
--- were, it shows what a recovery of the node in the order of the log would find. Otherwise nothing is recovered any more.
+-- were, it shows what a recovery of the node in the order of the log would find. Otherwise nothing is recovered any
+-- more.
 abbrev pub SessionShows : Session → LineValue → Answer → Type 0
 SessionShows s Needs answer =
     (((is_up s.node ≡ true) ⊎ (s.is_known ≡ true))

@@ -1,6 +1,6 @@
 //! What a script drives: a fleet, and the master over it if there is one.
 
-ghost use Rattle.std.specs.Prelude.{◌≡◌, ◌≤◌, ℕ, List, length, None, Some, IfOk, IfErr};
+ghost use Rattle.std.specs.Prelude.{◌≡◌, ◌≤◌, ℕ, List, length, true, false, None, Some, IfOk, IfErr};
 ghost use Rattle.entry.specs.View.{shown_key};
 ghost use Rattle.history.specs.View.{shown_command as lent_command};
 ghost use Rattle.versioned_map.specs.declared.command.Command.TheVariants as asked;

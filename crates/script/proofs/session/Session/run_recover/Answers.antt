@@ -8,8 +8,11 @@ use Rattle.next_master.specs.Recoveries.{Ends, Recovers}
 use Rattle.script.specs.Sessions.{asked_of}
 use Rattle.next_master.proofs.HowItEnds.{down_at, limit_made, want_ends}
 use Rattle.next_master.proofs.of_node.Standing.{not_up}
-use Rattle.script.proofs.Sessions.{unknown_at, want_at}
+use Rattle.script.proofs.Sessions.{stands_checked, unknown_at, want_at}
 use Rattle.script.proofs.session.Session.run_recover.Goals as goal
+
+pub whole_will-requires : goal.whole_will-requires
+whole_will-requires g c = stands_checked c.args.self.now c.requires.stands
 
 pub returns-in_default-whole_will : goal.returns-in_default-whole_will
 returns-in_default-whole_will g c =
