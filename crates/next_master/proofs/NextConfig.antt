@@ -4,7 +4,6 @@ use Rattle.std.specs.Prelude.{Option, Some, None, not, ◌*◌, ◌/◌, ◌&&�
 use Rattle.std.proofs.lemmas.Bool.{le-leb, eq-eqb, ne_eqb}
 use Rattle.command_line.specs.declared.settings.Options.{Options}
 use Rattle.entry.specs.Format.{is_within}
-use Rattle.images.specs.Images.{AreSizes as AreSizesOf}
 use Rattle.packing.specs.Limits.{is_limit}
 use Rattle.node.specs.master.master_state.declared.config.Config.{Config}
 use Rattle.node.specs.master.master_state.declared.config.ConfigFault.{ConfigFault}
@@ -159,7 +158,7 @@ checked_later later options config is may =
 pub later_sizes : (later : Later) (options : Options) → config_fault (config_of options 1) ≡ None
     → AreSizes (later_options later options)
 later_sizes later options is =
-    let sizes : AreSizesOf options.segment options.seglet options.seglets = sizes_of (config_of options 1) is in
+    let sizes = sizes_of (config_of options 1) is in
     record {
       seglet = sizes.least_seglet;
       most_seglet = sizes.most_seglet;
