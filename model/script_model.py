@@ -91,13 +91,18 @@ def longest(options):
     return min(options.segment // 4, options.largest)
 
 
-def heads_by(options, live, listed):
-    """How many heads objects of so many bytes in all can close, if no opening lists more than so many segments."""
-    return live // (options.segment + 1 - (longest(options) + opening_len(options, listed)))
+def mean_opening(options, heads):
+    """The mean bytes of the openings of so many heads. The first lists one segment, and each later one lists one more."""
+    return 32 + (8 if options.format == 2 else 4) * (heads + 1)
+
+
+def heads_by(options, live, heads):
+    """How many heads objects of so many bytes in all close at most, if they close no more than `heads`."""
+    return live // (options.segment + 1 - (longest(options) + mean_opening(options, heads)))
 
 
 def heads_for(options, live):
-    """The same, first by the longest opening that there may be, and then by the longest of so many heads."""
+    """The same, first as if as many closed as a digest may list, and then as if one more closed than that gave."""
     most = most_ids(options)
     return heads_by(options, live, min(heads_by(options, live, most) + 1, most))
 
@@ -105,7 +110,7 @@ def heads_for(options, live):
 def is_limit(options, live):
     """Whether objects of so many bytes in all can be loaded whatever their order, with two whole segments to spare."""
     heads, whole = heads_for(options, live), whole_seglets(options)
-    closed = heads * (opening_len(options, heads) + options.seglet)
+    closed = heads * (mean_opening(options, heads) + options.seglet)
     fits_whole = (heads + 5) * whole <= options.seglets
     fits_bytes = 5 * whole * options.seglet + live + closed <= options.seglets * options.seglet
     return heads + 2 <= most_ids(options) and (fits_whole or fits_bytes)

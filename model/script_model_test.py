@@ -21,6 +21,7 @@ from script_witness import wrong_run
 
 WORDS = ("--segment=8192", "--seglets=4096")
 LIMITED = (*WORDS, "--live=52")
+SHORT = (*WORDS, "--largest=26")
 FOUR = "clients 4 100 5 / crash / recover / log / put 1 a x"
 TWO = "clients 2 3 0 / get 1 c0 / get 1 c1 / put 1 a x"
 STOPPED = "stop 9 / clients 2 3 0 / crash / recover / put 1 a x"
@@ -53,6 +54,7 @@ RUNS = [
     (TWO, "refused Full / 2 1 / 2 2 / ok 3", True),
     (TWO, "refused Full / none / none / ok 1", True),
     (TWO, "refused NoTablet / none / none / ok 1", False),
+    (TWO, "refused TooBig / none / none / ok 1", False),
     (TWO, "stopped / refused Down / refused Down / refused Down", False),
     (f"put 1 c1 x / {TWO}", "ok 1 / clients 2 3 12 / 4 3 / 4 3 / ok 3", True),
     (f"put 1 c1 x / {TWO}", "ok 1 / clients 2 3 12 / 4 3 / 3 3 / ok 3", False),
@@ -73,6 +75,7 @@ RUNS = [
     (CLEANED, "ok 1 / head 2 / begun 3 / clients 1 1 2 / 2 1 / begun 5", True),
     (CLEANED, "ok 1 / head 2 / begun 3 / clients 1 1 2 / 2 1 / refused PassOpen", False),
     (CLEANED, "ok 1 / head 2 / begun 3 / clients 1 1 2 / 2 1 / refused NotInLog 2", False),
+    ("clients 4 1 0 / crash / recover", "clients 4 1 8 / crashed / refused Full", True),
 ]
 
 # The same with a limit of live bytes, which two clients fill.
@@ -86,6 +89,16 @@ LIMITED_RUNS = [
     (FOUR, "refused Overcommit / crashed / 1 c0 9 9 / 1 c1 10 9 / recovered 2 / log 1 / ok 11", False),
     ("clients 4 1 0 / stop 0 / crash / needs", "refused Overcommit / stop 0 / crashed / needs 384", True),
     ("clients 4 1 0 / stop 0 / crash / needs", "refused Overcommit / stop 0 / crashed / refused NoHead", False),
+    ("clients 4 1 0 / crash / needs", "refused Overcommit / crashed / needs 3841", False),
+    ("clients 4 1 0 / crash / needs", "refused Overcommit / crashed / needs segments", False),
+    ("clients 4 1 0 / crash / recover", "refused Overcommit / crashed / refused Full", False),
+    ("clients 4 1 0 / fault 3 lost / crash / recover", "refused Overcommit / fault 3 lost / crashed / refused Full", True),
+]
+
+# The same with a limit of each object, which ten rounds go beyond.
+SHORT_RUNS = [
+    ("clients 4 10 0 / get 1 c0 / get 1 c1 / get 1 c2 / get 1 c3 / put 1 a x", "refused TooBig / 9 9 / 9 8 / none / 5 3 / ok 4", True),
+    ("clients 4 9 0 / get 1 c0", "refused TooBig / 9 9", False),
 ]
 
 
@@ -115,7 +128,7 @@ def main():
         print(__doc__.strip())
         sys.exit(0 if sys.argv[1] in ("-h", "--help") else 2)
     chosen = [it for it in examples() if is_script(it)]
-    runs = [*((WORDS, *run) for run in RUNS), *((LIMITED, *run) for run in LIMITED_RUNS)]
+    runs = [*((WORDS, *run) for run in RUNS), *((LIMITED, *run) for run in LIMITED_RUNS), *((SHORT, *run) for run in SHORT_RUNS)]
     differ, misjudged = sum(map(differs, chosen)), sum(is_misjudged(*run) for run in runs)
     print(f"{len(chosen)} examples, {differ} differ; {len(runs)} runs of clients, {misjudged} misjudged")
     sys.exit(differ + misjudged > 0)

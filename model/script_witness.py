@@ -7,6 +7,8 @@ long as these are few, each line has to print what it prints after one of them t
 recovery each answer has to be one that some order allows. What was recovered has the layout of no earlier log, so from there the
 model goes on, unless a fault may still come.
 
+Under a limit of the live bytes a new master has to have room for each table, whatever the model says.
+
 A `Witness` sees all lines, and judges them by a plain map alone. A get tells what became of a client's key: it has to come before
 any other command of that key, or of one that is absent.
 """
@@ -16,7 +18,7 @@ from dataclasses import dataclass, field
 
 from script_model import (ANY_LINES, DOWN_LINES, NO_LIMIT, STEPS, Command, Fleet, Object, Run, Store, Undetermined, answers_of,
                           client_key, config_fault, is_too_big, later_options, make_will, name_of, object_len, options_of,
-                          parsed_lines, place, seglets_needed)
+                          parsed_lines, place, seglets_needed, whole_seglets)
 from script_orders import orders_of
 
 PUTS = ("put", "new", "cas")
@@ -158,10 +160,11 @@ class Map:
 class Witness:
     """Sees the lines of a script and their answers, and says what is wrong with them by a plain map."""
 
-    def __init__(self, replicas, limit=NO_LIMIT):
+    def __init__(self, replicas, limit=NO_LIMIT, largest=NO_LIMIT):
         self.replicas = replicas
-        # The most bytes that puts make of the live objects.
+        # The most bytes that puts make of the live objects, and the most of an object.
         self.limit = limit
+        self.largest = largest
         self.answered = Map()
         # The map with the line that was stopped or halted in this life, if one was.
         self.stopped = None
@@ -238,13 +241,19 @@ class Witness:
             return None if answer == "refused HistoryFull" else f"{line} printed {answer}, and the history is full"
         if answer == "stopped":
             self.stopped = self.answered.served(clients, rounds, False)
-        elif answer in ("refused Full", "refused HistoryFull") or (answer == "refused Overcommit" and self.limit != NO_LIMIT):
+        elif answer in ("refused Full", "refused HistoryFull") or self.may_limit(answer, clients, rounds):
             self.answered = self.answered.served(clients, rounds, False)
         elif answer == f"clients {clients} {rounds} {2 * clients * rounds}":
             self.answered = self.answered.served(clients, rounds, True)
         else:
             return f"{line} printed {answer}"
         return None
+
+    def may_limit(self, answer, clients, rounds):
+        """Whether it is how a limit of bytes may refuse a put of clients."""
+        last = Object(1, 1, client_key(clients - 1), b"%d" % rounds)
+        is_over = answer == "refused Overcommit" and self.limit != NO_LIMIT
+        return is_over or (answer == "refused TooBig" and object_len(last) > self.largest)
 
     def maps(self):
         """The map without the line that was stopped or halted, and with it, if one was."""
@@ -314,7 +323,7 @@ class Follower:
     def __init__(self, options):
         # Of the master that is up, or of the last one; and of the masters that start from then on.
         self.options = self.later = options
-        self.witness = Witness(options.replicas, options.live)
+        self.witness = Witness(options.replicas, options.live, options.largest)
         # Each that fits the answers so far: behind clients there may be several. Empty if the layout isn't known. The numbers
         # below are for that time.
         self.stores = [Store.new(options)]
@@ -335,6 +344,8 @@ class Follower:
 
     def wrong(self, line, answer):
         """What is wrong with the answer to this line, or None."""
+        if self.breaks_limit(line, answer):
+            return f"{line} printed {answer[-1]}, but a new master has room for {self.options.live} live bytes"
         if self.stores:
             try:
                 outcomes = outcomes_of(self.stores, line)
@@ -351,6 +362,17 @@ class Follower:
                     self.lose_sight(fitting)
                 return self.witness.wrong(line, answer)
         return self.witness.wrong(line, answer) or self.wrong_unseen(line, answer)
+
+    def breaks_limit(self, line, answer):
+        """Whether a new master lacks room for the table, though the live bytes have a limit and no fault may come."""
+        if self.options.live == NO_LIMIT or not answer:
+            return False
+        later = self.stores[0].later if self.stores else self.later
+        if line[0] == "needs" and answer[0].startswith("needs "):
+            needed = answer[0].removeprefix("needs ")
+            return not needed.isdigit() or int(needed) + 2 * whole_seglets(later) > later.seglets
+        may_fault = any(it.fleet.due for it in self.stores) if self.stores else self.is_due
+        return line[0] == "recover" and answer[-1] == "refused Full" and not may_fault
 
     def lose_sight(self, stores):
         """From here on the layout isn't known, which was that of one of these stores."""
@@ -457,7 +479,8 @@ class Follower:
                 self.records += calls
             return left is None or calls <= left
         self.records = None
-        return answer[0] in ("refused Full", "refused Overcommit") or left is None or calls > left
+        # The witness judges the limits of bytes.
+        return answer[0] in ("refused Full", "refused Overcommit", "refused TooBig") or left is None or calls > left
 
     def may_idle(self, _, answer):
         return not answer

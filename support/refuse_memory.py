@@ -1,4 +1,5 @@
-"""Runs programs with requests for memory refused, and checks what they print. bin/refuse-memory calls it; its --help says more."""
+"""Runs programs with requests for memory refused, and checks what they print. It is no command: bin/refuse-memory calls it, with the
+folder of the library before its own words. bin/refuse-memory --help says more."""
 
 import glob
 import multiprocessing
@@ -241,6 +242,9 @@ def subjects_of(program, names, words, is_whole):
 
 
 def main():
+    if sys.argv[1:] in ([], ["-h"], ["--help"]):
+        print(__doc__)
+        sys.exit(0 if sys.argv[1:] else 2)
     folder, *rest = sys.argv[1:]
     resource.setrlimit(resource.RLIMIT_CORE, (0, 0))
     words = [word for word in rest if word.startswith("--")]
