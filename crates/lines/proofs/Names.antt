@@ -4,7 +4,7 @@ use Rattle.std.proofs.Common.{map, cond, codes, true, false, arith}
 use Rattle.std.specs.Str.Parse.{digits_value}
 use Rattle.std.specs.Fmt.{decimal}
 use Rattle.lines.specs.Grammar.{LineValue, words_of}
-use Rattle.lines.specs.Grammar.{Idle, Put, New, Cas, Get, Del, Compact, Roll, BeginRoll, Push, Log, Room, Live, Needs}
+use Rattle.lines.specs.Grammar.{Idle, Put, New, Cas, Get, Del, Compact, Roll, BeginRoll, Push, Log, Room, LiveBytes, Needs}
 use Rattle.lines.specs.Grammar.{Hex, Stop, Fault, Format, Seglets, Crash, Lose, Will, Recover, Holdings}
 use Rattle.lines.specs.Grammar.{Clean, Begin, Copy, Seal, Free, Clients}
 use Rattle.lines.specs.declared.line.ReplayOrder.{ReplayOrder}
@@ -52,7 +52,7 @@ line_of ws =
     (cond (are_named (codes "push") ws) Push
     (cond (are_named (codes "log") ws) Log
     (cond (are_named (codes "room") ws) Room
-    (cond (are_named (codes "live") ws) Live
+    (cond (are_named (codes "live") ws) LiveBytes
     (cond (are_named (codes "needs") ws) Needs
     (cond (are_named (codes "hex") ws) (Hex (number_at 1 ws))
     (cond (are_named (codes "stop") ws) (Stop (number_at 1 ws))
@@ -88,7 +88,7 @@ line_is words BeginRoll are = ap line_of are.spelled
 line_is words Push are = ap line_of are.spelled
 line_is words Log are = ap line_of are.spelled
 line_is words Room are = ap line_of are.spelled
-line_is words Live are = ap line_of are.spelled
+line_is words LiveBytes are = ap line_of are.spelled
 line_is words Needs are = ap line_of are.spelled
 line_is words (Hex n) are = ap line_of are.spelled ∙ ap Hex (value n are.limits)
 line_is words (Stop n) are = ap line_of are.spelled ∙ ap Stop (value n are.limits)

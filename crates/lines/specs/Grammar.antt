@@ -28,7 +28,7 @@ pub data LineValue : Type 0 where
   Push : LineValue
   Log : LineValue
   Room : LineValue
-  Live : LineValue
+  LiveBytes : LineValue
   Needs : LineValue
   Hex : (segment : ℕ) → LineValue
   Stop : (takes : ℕ) → LineValue
@@ -65,7 +65,7 @@ shown_line line.BeginRoll = BeginRoll
 shown_line line.Push = Push
 shown_line line.Log = Log
 shown_line line.Room = Room
-shown_line line.Live = Live
+shown_line line.Live = LiveBytes
 shown_line line.Needs = Needs
 shown_line (line.Hex segment) = Hex segment
 shown_line (line.Stop takes) = Stop takes
@@ -111,7 +111,7 @@ words_of BeginRoll = codes "beginroll" ∷ []
 words_of Push = codes "push" ∷ []
 words_of Log = codes "log" ∷ []
 words_of Room = codes "room" ∷ []
-words_of Live = codes "live" ∷ []
+words_of LiveBytes = codes "live" ∷ []
 words_of Needs = codes "needs" ∷ []
 words_of (Hex segment) = codes "hex" ∷ decimal segment ∷ []
 words_of (Stop takes) = codes "stop" ∷ decimal takes ∷ []
@@ -156,7 +156,7 @@ IsLine BeginRoll = Unit {0}
 IsLine Push = Unit {0}
 IsLine Log = Unit {0}
 IsLine Room = Unit {0}
-IsLine Live = Unit {0}
+IsLine LiveBytes = Unit {0}
 IsLine Needs = Unit {0}
 IsLine (Hex segment) = segment < 2 ^ 64
 IsLine (Stop takes) = takes < 2 ^ 64

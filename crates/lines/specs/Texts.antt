@@ -38,4 +38,5 @@ reason_text reason.Number = codes "a number has digits, no sign and no leading z
 reason_text reason.LongKey = codes "a key has at most 1024 bytes"
 reason_text reason.TooLong = codes "a line has at most 4096 bytes"
 reason_text reason.TooMany = codes "a script has at most 2^64 - 2 lines"
+reason_text reason.NoLaterMaster = codes "masters that start later need memory for four segments, and sizes that --live fits"
 reason_text (reason.NoBackup count) = codes "backups count from 0, and there are " ++ decimal count

@@ -30,6 +30,8 @@ pub enum Reason {
     TooMany,
     /// The line names a backup that isn't there. The fleet has this many, numbered from 0.
     NoBackup(u64),
+    /// No master could begin with what the line sets for masters that start later.
+    NoLaterMaster,
 }
 
 /// The words that a command has behind its name.
@@ -99,6 +101,9 @@ impl Reason {
             Reason::LongKey => "a key has at most 1024 bytes",
             Reason::TooLong => "a line has at most 4096 bytes",
             Reason::TooMany => "a script has at most 2^64 - 2 lines",
+            Reason::NoLaterMaster => {
+                "masters that start later need memory for four segments, and sizes that --live fits"
+            }
             Reason::NoBackup(count) => return (
                 "backups count from 0, and there are ",
                 "",

@@ -6,7 +6,7 @@ use Rattle.entry.specs.Meaning.{IsMeaning, among, contents_of}
 use Rattle.entry.specs.Text.{text_of}
 use Rattle.lines.specs.Grammar.{LineValue, Idle, Put, New, Cas, Get, Del, Compact, Roll, BeginRoll, Push, Log, Room}
 use Rattle.lines.specs.Grammar.{Hex, Stop, Fault, Crash, Lose, Will, Recover, Holdings, Clean, Begin, Copy, Seal, Free}
-use Rattle.lines.specs.Grammar.{Clients, Format, Live, Needs, Seglets}
+use Rattle.lines.specs.Grammar.{Clients, Format, LiveBytes, Needs, Seglets}
 use Rattle.lines.specs.declared.line.ReplayOrder.{ReplayOrder}
 use Rattle.backup.specs.Inventory.{AreRising}
 use Rattle.answers.specs.driving.master.cleaner.declared.survivors.Survivors.{Survivors}
@@ -310,7 +310,7 @@ is_for_master Seal = true
 is_for_master Free = true
 is_for_master Log = true
 is_for_master Room = true
-is_for_master Live = true
+is_for_master LiveBytes = true
 is_for_master Will = true
 is_for_master (Hex segment) = true
 is_for_master Crash = true
@@ -375,7 +375,7 @@ Tells config life at line (answer.Log ids) next = (at.left ≡ None) × (line �
     × IsDigestAt config (life_to life at.made) ids × (next ≡ at)
 Tells config life at line (answer.Room used free) next = (at.left ≡ None) × (line ≡ Room)
     × IsRoomAt config (life_to life at.made) used free × (next ≡ at)
-Tells config life at line (answer.Live bytes most) next = (at.left ≡ None) × (line ≡ Live)
+Tells config life at line (answer.Live bytes most) next = (at.left ≡ None) × (line ≡ LiveBytes)
     × IsLiveAt config (life_to life at.made) bytes × (most ≡ config.most_live) × (next ≡ at)
 Tells config life at line (answer.Will parts limits) next = (at.left ≡ None) × (line ≡ Will)
     × IsWillAt config (life_to life at.made) limits parts × (next ≡ at)

@@ -68,7 +68,7 @@ fn answer_of(made: StepAnswer) -> Answer
 }
 
 impl Node {
-    ghost use Rattle.lines.specs.Grammar.{Roll, Clean, Log, Room, Live, Hex, Stop, Fault, Crash, Lose, Holdings};
+    ghost use Rattle.lines.specs.Grammar.{Roll, Clean, Log, Room, LiveBytes, Hex, Stop, Fault, Crash, Lose, Holdings};
 
     /// Applies a command, whose bytes may lie anywhere, and pushes until its record is durable.
     #[inline(always)]
@@ -290,7 +290,7 @@ impl Node {
     /// Answers how many bytes all live objects have together, and how many puts may make them. `u64::MAX` bytes stand
     /// for as many or more, and as the second number for no limit.
     pub fn live(&self) -> Answer
-        ensures told { (config : Config) → AnswersLine self.now config Live self.now result }
+        ensures told { (config : Config) → AnswersLine self.now config LiveBytes self.now result }
         ensures shown { ShowsLive self.now result }
     {
         let Node::Up(up) = self else {

@@ -2,7 +2,7 @@
 use Rattle.std.specs.Prelude.{◌≡◌, IfSome}
 use Rattle.lines.specs.Grammar.{LineValue, Idle, Roll, BeginRoll, Compact, Push, Clean, Begin, Copy, Seal, Free, Will}
 use Rattle.lines.specs.Grammar.{Recover, Hex, Log, Room, Stop, Fault, Crash, Lose, Holdings as HoldingsLine, Clients}
-use Rattle.lines.specs.Grammar.{Format, Live, Needs, Seglets}
+use Rattle.lines.specs.Grammar.{Format, LiveBytes, Needs, Seglets}
 use Rattle.versioned_map.specs.declared.command.Command.{Command}
 use Rattle.node.specs.master.master_state.declared.step.Step.TheVariants as step
 use Rattle.node.specs.answers.declared.answer.Answer.{Answer}
@@ -31,7 +31,7 @@ MakesLine old Idle new answer = new ≡ old
 MakesLine old (Hex segment) new answer = (new ≡ old) × ShowsImage old segment answer
 MakesLine old Log new answer = (new ≡ old) × ShowsDigest old answer
 MakesLine old Room new answer = (new ≡ old) × ShowsRoom old answer
-MakesLine old Live new answer = (new ≡ old) × ShowsLive old answer
+MakesLine old LiveBytes new answer = (new ≡ old) × ShowsLive old answer
 MakesLine old HoldingsLine new answer = (new ≡ old) × ShowsFleet old answer
 MakesLine old Will new answer = new ≡ old
 MakesLine old (Stop takes) new answer = LimitsFleet old takes new

@@ -1,18 +1,13 @@
 -- Which lines have a command, and which lines a session doesn't take.
-use Rattle.std.proofs.Common.{[], ◌≡◌, ◌∙◌, ℕ, List, ◌∷◌, refl, ap, subst}
-use Rattle.std.specs.Prelude.{None, codes}
-use Rattle.std.specs.Fmt.{decimal}
-use Rattle.std.specs.List.{slice_split}
+use Rattle.std.proofs.Common.{◌≡◌, ℕ, refl, subst}
+use Rattle.std.specs.Prelude.{None}
 use Rattle.lines.specs.declared.command.CommandLine.{CommandLine}
 use Rattle.lines.specs.declared.command.CommandLine.TheVariants as command
 use Rattle.lines.specs.declared.line.Line.{Line}
 use Rattle.lines.specs.declared.line.Line.TheVariants as line
 use Rattle.lines.specs.Grammar.{shown_command, shown_line}
 use Rattle.next_master.specs.node.Told.{command_of}
-use Rattle.lines.specs.Cutting.{is_space}
-use Rattle.lines.specs.Grammar.{LineValue, Format, IsWritten, Says, Seglets}
-use Rattle.lines.specs.Reasons.{BeginsWith}
-use Rattle.lines.proofs.Spelling.{split_joined}
+use Rattle.lines.specs.Grammar.{LineValue, Format, Seglets}
 use Rattle.script.specs.Runs.{Allows, IsOfFleet}
 use Rattle.script.specs.Turns.{RefusesLine}
 use Rattle.script.specs.declared.session.LineFault.TheVariants as line_fault
@@ -69,21 +64,3 @@ no_backup s l (backup, is, none) allows = none (subst (Allows s) is allows).0
 -- a text says one line, which isn't taken
 pub says_none : (s : Session) (other l : LineValue) → other ≡ l → (Allows s l → ⊥) → Allows s other → ⊥
 says_none s other l is none allows = none (subst (Allows s) is allows)
-
--- its text begins with its name
-pub begins_format : (text : List ℕ) (l : LineValue) → l ≡ Format → Says text l → BeginsWith text (codes "format")
-begins_format text l is says =
-    let written : IsWritten text Format = subst (Says text) is says in (
-      codes "2" ∷ [],
-      ap (slice_split is_space) written.spaced
-          ∙ split_joined (codes "format") (codes "2" ∷ []) written.words,
-    )
-
-pub begins_seglets : (text : List ℕ) (l : LineValue) (seglets : ℕ) → l ≡ Seglets seglets → Says text l
-    → BeginsWith text (codes "seglets")
-begins_seglets text l seglets is says =
-    let written : IsWritten text (Seglets seglets) = subst (Says text) is says in (
-      decimal seglets ∷ [],
-      ap (slice_split is_space) written.spaced
-          ∙ split_joined (codes "seglets") (decimal seglets ∷ []) written.words,
-    )

@@ -8,12 +8,12 @@ use Rattle.lines.specs.Grammar.{LineValue, Says, Lose}
 use Rattle.lines.specs.Reading.{IsUnbroken, IsLineText}
 use Rattle.lines.specs.Reasons.{HasReason}
 use Rattle.lines.specs.declared.reason.Reason.{Reason}
-use Rattle.lines.specs.declared.reason.Reason.TheVariants.{NoBackup, TooLong, TooMany}
+use Rattle.lines.specs.declared.reason.Reason.TheVariants.{NoBackup, NoLaterMaster, TooLong, TooMany}
 use Rattle.next_master.specs.answers.declared.fault.ScriptFault.{ScriptFault}
 use Rattle.next_master.specs.answers.declared.fault.ScriptFault.TheVariants.{BadLine, ReadFailed, WriteFailed, NoMemory}
 use Rattle.script.specs.declared.session.Session.{Session}
 use Rattle.next_master.specs.Configuration.{config_of, MayBegin}
-use Rattle.script.specs.Sessions.{RunsLine, BeginsSession, later_after}
+use Rattle.script.specs.Sessions.{RunsLine, BeginsSession, SetsLater, later_after}
 use Rattle.script.specs.Telling.{TellLives, Told}
 use Rattle.next_master.specs.answers.Texts.{answer_text}
 
@@ -75,10 +75,12 @@ pub record AreRun (options : Options) (told : List Told) : Type 0 where
   pub begins : BeginsSession options first
   pub run : AreRunOn first told last
 
--- what is said of a bad text: why it says no line or, if it loses a backup, how many backups the fleet has
+-- What is said of a bad text: why it says no line or, if it loses a backup, how many backups the fleet has, or that no
+-- master could begin with what it sets for later masters.
 abbrev pub IsReasonOf : ℕ → List ℕ → Reason → Type 0
 IsReasonOf backups text why =
-    HasReason text why ⊎ ((why ≡ NoBackup backups) × (backup : ℕ) × Says text (Lose backup))
+    HasReason text why ⊎ (((why ≡ NoBackup backups) × (backup : ℕ) × Says text (Lose backup))
+    ⊎ ((why ≡ NoLaterMaster) × (line : LineValue) × SetsLater line × Says text line))
 
 -- why a line is bad
 abbrev pub IsReasonFor : ℕ → ℕ → List ℕ → Option (List ℕ) → Reason → Type 0

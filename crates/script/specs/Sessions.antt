@@ -97,6 +97,12 @@ later_after Format later = record later { lists_lengths = true }
 later_after (Seglets seglets) later = record later { seglets = Some seglets }
 later_after line later = later
 
+-- the line sets something for masters that start later
+abbrev pub SetsLater : LineValue → Type 0
+SetsLater Format = Unit {0}
+SetsLater (Seglets seglets) = Unit {0}
+SetsLater _ = ⊥
+
 -- Whose life the answer of a line is told of: that of a master with the session's number, whatever else its
 -- configuration says. What a new master needs is told of the session's own master.
 abbrev pub IsToldOf : Session → LineValue → Config → Type 0

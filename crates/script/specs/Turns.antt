@@ -2,7 +2,7 @@
 use Rattle.std.specs.Prelude.{[], ◌≡◌, ◌⊎◌, ◌<◌, ◌≤◌, ◌-◌, ◌^◌, ℕ, List, ◌∷◌, ◌++◌, length, Bool, true, false, Option}
 use Rattle.std.specs.Prelude.{Result, Ok, Err}
 use Rattle.std.specs.Io.KnownBytes.{Appends, Consumes, IsAtEnd, Keeps}
-use Rattle.lines.specs.Grammar.{LineValue, Says, Put, New, Cas, Format, Lose, Seglets}
+use Rattle.lines.specs.Grammar.{LineValue, Says, Put, New, Cas, Lose}
 use Rattle.lines.specs.Reading.{IsLineText}
 use Rattle.lines.specs.declared.reason.Reason.TheVariants.{TooMany}
 use Rattle.next_master.specs.answers.declared.answer.Answer.{Answer}
@@ -12,7 +12,7 @@ use Rattle.script.specs.declared.session.LineFault.{LineFault}
 use Rattle.script.specs.declared.session.LineFault.TheVariants as line_fault
 use Rattle.script.specs.declared.session.Session.{Session}
 use Rattle.script.specs.Runs.{Allows, IsOfFleet, IsTakenLine, IsBadLine, IsReasonFor, IsReasonOf, RunResult}
-use Rattle.script.specs.Sessions.{RunsLine, later_after}
+use Rattle.script.specs.Sessions.{RunsLine, SetsLater, later_after}
 use Rattle.next_master.specs.Configuration.{MayBegin}
 use Rattle.next_master.specs.answers.Texts.{answer_text}
 use Rattle.next_master.specs.answers.Errors.{AppendsFront}
@@ -32,9 +32,8 @@ HasValue _ = Unit {0}
 abbrev pub RefusesLine : Session → LineValue → LineFault → Type 0
 RefusesLine s line line_fault.NoBackup =
     (backup : ℕ) × (line ≡ Lose backup) × (backup < s.options.backups → ⊥)
-RefusesLine s line line_fault.BadFormat = (line ≡ Format) × (MayBegin (later_after line s.later) s.options → ⊥)
-RefusesLine s line line_fault.BadSeglets =
-    (seglets : ℕ) × (line ≡ Seglets seglets) × (MayBegin (later_after line s.later) s.options → ⊥)
+RefusesLine s line line_fault.NoLaterMaster =
+    SetsLater line × (MayBegin (later_after line s.later) s.options → ⊥)
 RefusesLine s line line_fault.NoMemory = Unit {0}
 
 -- the line of a text was run on a session, which became another

@@ -16,7 +16,7 @@ ghost use Rattle.script.specs.Turns.{HasValue, IsNoMore, IsPrinted, PrintsText, 
 use crate::outcome::Outcome;
 use crate::session::{LineFault, Session};
 use command_line::Options;
-use lines::{CommandLine, Line, LineReader, ReadFault, Reason, Shape, Taken, one_line, parse_line};
+use lines::{CommandLine, Line, LineReader, ReadFault, Reason, Taken, one_line, parse_line};
 use next_master::answers::{Answer, ScriptFault, write_answer};
 use next_master::node::Tried;
 use std::alloc::Global;
@@ -206,13 +206,9 @@ fn run_other<H: Threads + Wait + Sync, W: Write>(
             one_line();
             Err(ScriptFault::BadLine(number, Reason::NoBackup(backups)))
         }
-        Err(LineFault::BadFormat) => {
+        Err(LineFault::NoLaterMaster) => {
             one_line();
-            Err(ScriptFault::BadLine(number, Reason::Shape("format", Shape::Format)))
-        }
-        Err(LineFault::BadSeglets) => {
-            one_line();
-            Err(ScriptFault::BadLine(number, Reason::Shape("seglets", Shape::Seglets)))
+            Err(ScriptFault::BadLine(number, Reason::NoLaterMaster))
         }
         Err(LineFault::NoMemory) => Err(ScriptFault::NoMemory),
     }

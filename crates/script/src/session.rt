@@ -49,10 +49,8 @@ use tablet_will::Will;
 pub enum LineFault {
     /// The line names a backup that isn't there.
     NoBackup,
-    /// With format 2 a master that starts later would not be within its limits.
-    BadFormat,
-    /// With this many seglets a master that starts later would not be within its limits.
-    BadSeglets,
+    /// With what the line sets, no master that starts later would be within its limits.
+    NoLaterMaster,
     /// Memory ran out before the line began.
     NoMemory,
 }
@@ -237,7 +235,7 @@ impl Session {
     {
         let later = self.later.with_lengths();
         if !self.set_later(later) {
-            return Err(LineFault::BadFormat);
+            return Err(LineFault::NoLaterMaster);
         }
         Ok(Answer::Format)
     }
@@ -250,7 +248,7 @@ impl Session {
     {
         let later = self.later.with_seglets(seglets);
         if !self.set_later(later) {
-            return Err(LineFault::BadSeglets);
+            return Err(LineFault::NoLaterMaster);
         }
         Ok(Answer::Seglets(seglets))
     }

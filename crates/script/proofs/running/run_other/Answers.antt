@@ -3,7 +3,7 @@ use Rattle.std.proofs.KnownBytes.{Keeps-refl}
 use Rattle.lines.specs.Grammar.{LineValue, Says, shown_line}
 use Rattle.lines.specs.declared.reason.Reason.TheVariants.{NoBackup}
 use Rattle.script.specs.Turns.{RefusesLine}
-use Rattle.script.proofs.Commanding.{begins_format, begins_seglets, no_backup, says_none}
+use Rattle.script.proofs.Commanding.{no_backup, says_none}
 use Rattle.script.proofs.Turning.{answer_printed}
 use Rattle.script.proofs.running.run_other.Goals as goal
 
@@ -27,35 +27,23 @@ returns-in-Err-NoBackup g c =
       λ other says allows. says_none s other line (c.one_line.ensures c.args._text.now other line says c.requires.says)
           (no_backup s line refused) allows,
       Keeps-refl _,
-      inr (
+      inr (inl (
         ap NoBackup c.backups-backups.ensures,
         refused.0,
         subst (λ (l : LineValue). Says c.args._text.now l) refused.1 c.requires.says,
-      ),
+      )),
     )
 
-pub returns-in-Err-BadFormat : goal.returns-in-Err-BadFormat
-returns-in-Err-BadFormat g c =
+pub returns-in-Err-NoLaterMaster : goal.returns-in-Err-NoLaterMaster
+returns-in-Err-NoLaterMaster g c =
     let s = c.args.session.now in
     let line = shown_line c.args.line in
-    let refused = subst (RefusesLine s line) c.in-Err-BadFormat.field-0-is c.in-Err-BadFormat.ensures.refused in (
+    let refused =
+    subst (RefusesLine s line) c.in-Err-NoLaterMaster.field-0-is c.in-Err-NoLaterMaster.ensures.refused in (
       refl,
       λ other says allows. says_none s other line
-          (c.one_line-in-Err-BadFormat.ensures c.args._text.now other line says c.requires.says)
+          (c.one_line-in-Err-NoLaterMaster.ensures c.args._text.now other line says c.requires.says)
           (λ all. refused.1 all.1) allows,
       Keeps-refl _,
-      inl (begins_format c.args._text.now line refused.0 c.requires.says),
-    )
-
-pub returns-in-Err-BadSeglets : goal.returns-in-Err-BadSeglets
-returns-in-Err-BadSeglets g c =
-    let s = c.args.session.now in
-    let line = shown_line c.args.line in
-    let refused = subst (RefusesLine s line) c.in-Err-BadSeglets.field-0-is c.in-Err-BadSeglets.ensures.refused in (
-      refl,
-      λ other says allows. says_none s other line
-          (c.one_line-in-Err-BadSeglets.ensures c.args._text.now other line says c.requires.says)
-          (λ all. refused.2 all.1) allows,
-      Keeps-refl _,
-      inl (begins_seglets c.args._text.now line refused.0 refused.1 c.requires.says),
+      inr (inr (refl, line, refused.0, c.requires.says)),
     )

@@ -1,6 +1,6 @@
 use Rattle.std.proofs.Common.{◌∙◌, refl, sym, ap, subst}
 use Rattle.backup.specs.State.{fleet_state}
-use Rattle.lines.specs.Grammar.{Live}
+use Rattle.lines.specs.Grammar.{LiveBytes}
 use Rattle.answers.specs.driving.master.master_state.declared.config.Config.{Config}
 use Rattle.answers.specs.driving.master.master_state.Data.{MasterData}
 use Rattle.answers.specs.declared.answer.Answer.TheVariants as answer
@@ -16,12 +16,12 @@ pub returns-in_default : goal.returns-in_default
 returns-in_default c =
     let node = c.args.self.now in
     let down = not_up node c.in_default.not-Up in
-    record { told = λ config. down_told node config Live down refl; shown = live_down node down }
+    record { told = λ config. down_told node config LiveBytes down refl; shown = live_down node down }
 
 pub returns-clause-told : goal.returns-clause-told
 returns-clause-told c = λ config.
     let node = c.args.self.now in
-    stays_told node config Live (answer.Live c.live.result c.most_live.result) (λ d at s.
+    stays_told node config LiveBytes (answer.Live c.live.result c.most_live.result) (λ d at s.
     let was : IsOf (Up c.in-Up.up) at.left d = subst (λ (n : Node). IsOf n at.left d) c.in-Up.is s.node_of in
     let f = fleet_state c.in-Up.up.fleet in (
       was.0,

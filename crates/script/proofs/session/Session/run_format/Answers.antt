@@ -1,4 +1,4 @@
-use Rattle.std.proofs.Common.{◌≡◌, ◌∙◌, refl, sym, ap, subst}
+use Rattle.std.proofs.Common.{◌≡◌, ◌∙◌, sym, ap, subst}
 use Rattle.lines.specs.Grammar.{Format}
 use Rattle.next_master.specs.Configuration.{MayBegin}
 use Rattle.next_master.specs.declared.later.Later.{Later}
@@ -22,7 +22,7 @@ returns-clause-ran c =
 pub returns-then-not-set_later-clause-refused : goal.returns-then-not-set_later-clause-refused
 returns-then-not-set_later-clause-refused c =
     let s = c.args.self.now in (
-      refl,
+      tt,
       λ may. c.set_later.ensures.refused c.if-not-set_later.true
           (subst (λ (l : Later). MayBegin l s.options) (sym c.with_lengths-later.ensures) may),
     )
