@@ -1,12 +1,12 @@
 -- The greatest limit: there is a number above all limits, and above a number that is no limit there is none.
-use Rattle.std.proofs.Common.{◌≡◌, ℕ, ◌+◌, ◌*◌, ◌<◌, ◌≤◌, true, false, sym, ◌∙◌, arith}
+use Rattle.std.proofs.Common.{◌≡◌, ℕ, ◌+◌, ◌*◌, ◌<◌, ◌≤◌, false, sym, ◌∙◌, arith}
 use Rattle.std.proofs.Math.Nat.{mul-le-mul_left, min-le_right}
 use Rattle.std.proofs.lemmas.Bool.{and_left, lt-leb, false_from_ne_true}
 use Rattle.std.proofs.lemmas.Nat.{le-div}
 use Rattle.packing.specs.declared.sizes.Sizes.{Sizes}
 use Rattle.packing.specs.Packing.{AreSound, most_ids}
 use Rattle.packing.specs.Limits.{heads_by, heads_for, is_limit}
-use Rattle.packing.proofs.Heads.{room_by, some_room, listed_for}
+use Rattle.packing.proofs.Heads.{room_by, some_room, second_for}
 use Rattle.packing.proofs.Testing.{less_is_limit}
 
 module _ (s : Sizes) (largest : ℕ) (sound : AreSound s) where
@@ -14,10 +14,10 @@ module _ (s : Sizes) (largest : ℕ) (sound : AreSound s) where
   many_heads : most_ids s ≤ heads_for s largest (most_ids s * (s.segment + 1))
   many_heads =
       let live = most_ids s * (s.segment + 1) in
-      let listed = listed_for s largest sound live in
-      let some = some_room s largest sound listed
+      let second = second_for s largest sound live in
+      let some = some_room s largest sound second
       (min-le_right (heads_by s largest live (most_ids s) + 1) (most_ids s)) in
-      le-div (most_ids s) live (room_by s largest listed) some (mul-le-mul_left (most_ids s) (omega arith))
+      le-div (most_ids s) live (room_by s largest second) some (mul-le-mul_left (most_ids s) (omega arith))
 
   pub above_all : is_limit s largest (most_ids s * (s.segment + 1)) ≡ false
   above_all =

@@ -1,6 +1,6 @@
 -- Objects within a limit can be loaded.
-use Rattle.std.proofs.Common.{◌≡◌, ℕ, ◌+◌, ◌*◌, ◌%◌, ◌<◌, ◌≤◌, inl, inr, Bool, true, false, List, [], ◌∷◌, refl, ap}
-use Rattle.std.proofs.Common.{arith}
+use Rattle.std.proofs.Common.{◌≡◌, ℕ, ◌+◌, ◌*◌, ◌%◌, ◌<◌, ◌≤◌, inl, inr, Bool, true, false, List, [], ◌∷◌, refl}
+use Rattle.std.proofs.Common.{sym, ap, subst, arith}
 use Rattle.std.specs.Prelude.{◌⊎◌, if◌then◌else◌, sum}
 use Rattle.std.specs.Int.{div_ceil}
 use Rattle.std.proofs.lemmas.Bool.{and_from, leb-true, leb-false, le-leb}
@@ -10,11 +10,11 @@ use Rattle.packing.specs.declared.new_log.NewLog.{NewLog}
 use Rattle.packing.specs.declared.sizes.Sizes.{Sizes}
 use Rattle.packing.specs.Packing.{AreSound, whole, most_ids, opening_len, empty_log, rolled, longer, takes}
 use Rattle.packing.specs.Packing.{with_object, packed, seglets_at}
-use Rattle.packing.specs.Limits.{IsLimit, AreLengths}
-use Rattle.packing.specs.Laws.{LeavesTwo, WithinLimitLoads}
+use Rattle.packing.specs.Limits.{IsLimit, AreLengths, mean_opening}
+use Rattle.packing.specs.Laws.{WithinLimitLoads}
 use Rattle.packing.proofs.Numbers.{few_heads, closes_more, bytes_more, whole_more, enough_whole, enough_bytes}
 use Rattle.packing.proofs.Numbers.{whole_is, within_whole}
-use Rattle.packing.proofs.Heads.{opening_le}
+use Rattle.packing.proofs.Heads.{opening_le, mean_le, mean_more}
 
 -- What holds once objects of so many bytes are loaded.
 record Holds (s : Sizes) (most heads : ℕ) (l : NewLog) (done : ℕ) : Type 0 where
@@ -22,9 +22,9 @@ record Holds (s : Sizes) (most heads : ℕ) (l : NewLog) (done : ℕ) : Type 0 w
   begins : opening_len s (l.closed + 1) ≤ l.len
   within : l.len ≤ s.segment
   closes : l.closed * (s.segment + 1) + l.len
-      ≤ done + l.closed * (most + opening_len s (heads + 1)) + opening_len s (l.closed + 1)
+      ≤ done + l.closed * most + l.closed * mean_opening s l.closed + opening_len s (l.closed + 1)
   bytes : l.used * s.seglet + l.len
-      ≤ done + opening_len s (l.closed + 1) + l.closed * (opening_len s heads + s.seglet)
+      ≤ done + l.closed * s.seglet + l.closed * mean_opening s l.closed + opening_len s (l.closed + 1)
   counts : l.used ≤ l.closed * whole s
 
 -- It holds of a log, for some bytes that are no more than there may be.
@@ -68,12 +68,22 @@ module _ (s : Sizes) (most heads live : ℕ) (sound : AreSound s) (multiple : s.
         }
 
     module _ (over : s.segment < l.len + n) where
-      own_low : opening_len s (l.closed + 1) ≤ opening_len s (heads + 1)
-      own_low = let le = holds.few in opening_le s (l.closed + 1) (heads + 1) (omega arith)
+      -- the closed heads' openings, with that of the head that closes
+      openings : (l.closed + 1) * mean_opening s (l.closed + 1)
+          ≡ l.closed * mean_opening s l.closed + opening_len s (l.closed + 1)
+      openings = mean_more s l.closed
+
+      last : l.closed ≡ heads
+          → live + (l.closed + 1) * most + (l.closed * mean_opening s l.closed + opening_len s (l.closed + 1))
+          ≤ (l.closed + 1) * (s.segment + 1)
+      last is =
+          let closes = subst (λ (h : ℕ). live + (h + 1) * (most + mean_opening s (h + 1)) ≤ (h + 1) * (s.segment + 1))
+          (sym is) limit.closes in
+          let same = openings in omega arith
 
       one_more : l.closed + 1 ≤ heads
-      one_more = few_heads s.segment most (opening_len s (heads + 1)) (opening_len s (l.closed + 1)) l.closed heads
-          l.len done n live holds.closes own_low over small some below limit.closes limit.fits
+      one_more = few_heads s.segment most l.closed heads l.len done n live (l.closed * mean_opening s l.closed)
+          (opening_len s (l.closed + 1)) holds.few holds.closes over small some below last
 
       ceil : div_ceil l.len s.seglet * s.seglet < l.len + s.seglet
       ceil = (div_ceil_times l.len s.seglet some_seglet).1
@@ -91,11 +101,12 @@ module _ (s : Sizes) (most heads live : ℕ) (sound : AreSound s) (multiple : s.
       rolled_holds : Holds s most heads (longer (rolled s l) n) (done + n)
       rolled_holds =
           let next = next_is in
-          let closes = closes_more s.segment most (opening_len s (heads + 1)) (opening_len s (l.closed + 1))
-          (opening_len s (l.closed + 2)) l.closed l.len done n holds.closes own_low over small in
-          let bytes = bytes_more l.used s.seglet (div_ceil l.len s.seglet) l.len done (opening_len s (l.closed + 1))
-          (opening_len s heads) l.closed n (opening_len s (l.closed + 2)) holds.bytes ceil
-          (opening_le s (l.closed + 1) heads one_more) in
+          let same = openings in
+          let closes = closes_more s.segment most l.closed l.len done n (l.closed * mean_opening s l.closed)
+          (opening_len s (l.closed + 1)) (opening_len s (l.closed + 2)) holds.closes over small in
+          let bytes = bytes_more l.used s.seglet (div_ceil l.len s.seglet) l.closed l.len done n
+          (l.closed * mean_opening s l.closed) (opening_len s (l.closed + 1)) (opening_len s (l.closed + 2))
+          holds.bytes ceil in
           record {
             few = one_more;
             begins = omega arith;
@@ -109,7 +120,8 @@ module _ (s : Sizes) (most heads live : ℕ) (sound : AreSound s) (multiple : s.
 
     one_holds : Holds s most heads (with_object s l n) (done + n)
     one_holds = go (takes s l n) refl where
-      go : (t : Bool) → takes s l n ≡ t → Holds s most heads (if t then longer l n else longer (rolled s l) n) (done + n)
+      go : (t : Bool) → takes s l n ≡ t
+          → Holds s most heads (if t then longer l n else longer (rolled s l) n) (done + n)
       go true test = longer_holds (leb-true _ _ test)
       go false test = rolled_holds (leb-false _ _ test)
 
@@ -130,12 +142,13 @@ module _ (s : Sizes) (most heads live : ℕ) (sound : AreSound s) (multiple : s.
   memory_left l e = go limit.memory
     where
       go : ((heads + 5) * whole s ≤ s.seglets)
-          ⊎ (5 * whole s * s.seglet + live + heads * (opening_len s heads + s.seglet) ≤ s.seglets * s.seglet)
+          ⊎ (5 * whole s * s.seglet + live + heads * (mean_opening s heads + s.seglet) ≤ s.seglets * s.seglet)
           → seglets_at s l + 2 * whole s ≤ s.seglets
       go (inl enough) = enough_whole l.used (whole s) s.seglets l.closed heads e.holds.counts e.holds.few enough
       go (inr enough) =
           enough_bytes l.used (whole s) s.seglet s.seglets l.len e.done (opening_len s (l.closed + 1))
-          (opening_len s heads) l.closed heads live e.holds.bytes e.holds.begins e.holds.few e.below some_seglet enough
+          (mean_opening s l.closed) (mean_opening s heads) l.closed heads live e.holds.bytes e.holds.begins e.holds.few
+          (mean_le s l.closed heads e.holds.few) e.below some_seglet enough
 
 pub within_limit_loads : WithinLimitLoads
 within_limit_loads s most heads live ns sound multiple limit lengths below =

@@ -4,3 +4,4 @@ pub mod Heads
 pub mod Holding
 pub mod Testing
 pub mod Greatest
+pub mod Answering

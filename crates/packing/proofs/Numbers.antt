@@ -1,35 +1,33 @@
 -- What a roll makes of the sums, and what quotients are, over plain numbers.
-use Rattle.std.proofs.Common.{◌≡◌, ℕ, ◌+◌, ◌-◌, ◌*◌, ◌/◌, ◌%◌, ◌^◌, ◌<◌, ◌≤◌, ap, arith}
+use Rattle.std.proofs.Common.{◌≡◌, ℕ, ◌+◌, ◌*◌, ◌/◌, ◌%◌, ◌^◌, ◌<◌, ◌≤◌, ◌⊎◌, inl, inr, arith}
 use Rattle.std.proofs.Math.Nat.{lt_of_mul-lt-mul_right, mul-le-mul_right, mul-le-mul_left, div-mul-le_self}
 use Rattle.std.proofs.Math.Nat.{lt-div-mul-add, mod-eq-sub-div-mul}
+use Rattle.std.proofs.lemmas.Bool.{cases_lt}
 use Rattle.std.proofs.lemmas.Nat.{le-div, mul-le}
 
 -- ---- one roll
 
--- heads that had no room are few
-pub few_heads : (segment most later own closed heads len done n live : ℕ)
-    → closed * (segment + 1) + len ≤ done + closed * (most + later) + own → own ≤ later → segment < len + n → n ≤ most
-    → 0 < n → done + n ≤ live → live + (heads + 1) * (most + later) ≤ (heads + 1) * (segment + 1)
-    → most + later ≤ segment → closed + 1 ≤ heads
-few_heads segment most later own closed heads len done n live sum low over small some below limit fits =
-    let room = segment + 1 - (most + later) in
-    let is : most + later + room ≡ segment + 1 = omega arith in
-    let here : (closed + 1) * (most + later + room) ≡ (closed + 1) * (segment + 1) =
-    ap (λ (x : ℕ). (closed + 1) * x) is in
-    let there : (heads + 1) * (most + later + room) ≡ (heads + 1) * (segment + 1) = ap (λ (x : ℕ). (heads + 1) * x) is in
-    let least : (closed + 1) * (segment + 1) ≤ done + (closed + 1) * (most + later) = omega arith in
-    let lt : (closed + 1) * room < (heads + 1) * room = omega arith in
-    let less : closed + 1 < heads + 1 = lt_of_mul-lt-mul_right room lt in omega arith
+-- a head that has no room for an object is not the last of those that there may be
+pub few_heads : (segment most closed heads len done n live openings own : ℕ) → closed ≤ heads
+    → closed * (segment + 1) + len ≤ done + closed * most + openings + own → segment < len + n → n ≤ most → 0 < n
+    → done + n ≤ live → (closed ≡ heads → live + (closed + 1) * most + (openings + own) ≤ (closed + 1) * (segment + 1))
+    → closed + 1 ≤ heads
+few_heads segment most closed heads len done n live openings own le sum over small some below limit =
+    go (cases_lt closed heads)
+  where
+    go : (closed < heads) ⊎ (heads ≤ closed) → closed + 1 ≤ heads
+    go (inl lt) = omega arith
+    go (inr ge) = let last = limit (omega arith) in omega arith
 
-pub closes_more : (segment most later own next closed len done n : ℕ)
-    → closed * (segment + 1) + len ≤ done + closed * (most + later) + own → own ≤ later → segment < len + n → n ≤ most
-    → (closed + 1) * (segment + 1) + (next + n) ≤ done + n + (closed + 1) * (most + later) + next
-closes_more segment most later own next closed len done n sum low over small = omega arith
+pub closes_more : (segment most closed len done n openings own next : ℕ)
+    → closed * (segment + 1) + len ≤ done + closed * most + openings + own → segment < len + n → n ≤ most
+    → (closed + 1) * (segment + 1) + (next + n) ≤ done + n + (closed + 1) * most + (openings + own) + next
+closes_more segment most closed len done n openings own next sum over small = omega arith
 
-pub bytes_more : (used seglet count len done own most closed n next : ℕ)
-    → used * seglet + len ≤ done + own + closed * (most + seglet) → count * seglet < len + seglet → own ≤ most
-    → (used + count) * seglet + (next + n) ≤ done + n + next + (closed + 1) * (most + seglet)
-bytes_more used seglet count len done own most closed n next sum ceil low = omega arith
+pub bytes_more : (used seglet count closed len done n openings own next : ℕ)
+    → used * seglet + len ≤ done + closed * seglet + openings + own → count * seglet < len + seglet
+    → (used + count) * seglet + (next + n) ≤ done + n + (closed + 1) * seglet + (openings + own) + next
+bytes_more used seglet count closed len done n openings own next sum ceil = omega arith
 
 pub whole_more : (used whole count closed : ℕ) → used ≤ closed * whole → count ≤ whole
     → used + count ≤ (closed + 1) * whole
@@ -57,12 +55,12 @@ enough_whole used whole seglets closed heads sum le enough =
     let more = mul-le-mul_right whole le in omega arith
 
 -- or by their bytes
-pub enough_bytes : (used whole seglet seglets len done own most closed heads live : ℕ)
-    → used * seglet + len ≤ done + own + closed * (most + seglet) → own ≤ len → closed ≤ heads → done ≤ live
-    → 0 < seglet → 5 * whole * seglet + live + heads * (most + seglet) ≤ seglets * seglet
+pub enough_bytes : (used whole seglet seglets len done own mean most closed heads live : ℕ)
+    → used * seglet + len ≤ done + closed * seglet + closed * mean + own → own ≤ len → closed ≤ heads → mean ≤ most
+    → done ≤ live → 0 < seglet → 5 * whole * seglet + live + heads * (most + seglet) ≤ seglets * seglet
     → 3 * whole + used + 2 * whole ≤ seglets
-enough_bytes used whole seglet seglets len done own most closed heads live sum low le below some enough =
-    let more = mul-le-mul_right (most + seglet) le in
+enough_bytes used whole seglet seglets len done own mean most closed heads live sum low le short below some enough =
+    let more = mul-le closed (mean + seglet) heads (most + seglet) le (omega arith) in
     let lt : (3 * whole + used + 2 * whole) * seglet < (seglets + 1) * seglet = omega arith in
     let less : 3 * whole + used + 2 * whole < seglets + 1 = lt_of_mul-lt-mul_right seglet lt in omega arith
 
@@ -87,7 +85,7 @@ parts_above live room some = lt-div-mul-add some
 
 -- the sum of a test is small, however many heads there are
 pub small_sum : (segment seglet heads live opened : ℕ) → segment ≤ 8388608 → seglet ≤ 65536 → heads + 1 ≤ segment / 32
-    → opened ≤ 32 + 16 * heads → live ≤ (heads + 1) * (segment + 1)
+    → opened ≤ 40 + 8 * heads → live ≤ (heads + 1) * (segment + 1)
     → 5 * (segment / seglet) * seglet + live + heads * (opened + seglet) < 2 ^ 64
 small_sum segment seglet heads live opened most small few short below =
     let floor = div-mul-le_self segment seglet in

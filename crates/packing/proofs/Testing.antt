@@ -5,16 +5,16 @@ use Rattle.std.proofs.Math.Nat.{mul-le-mul_right}
 use Rattle.std.proofs.lemmas.Bool.{and_parts, and_from, or_cases, or_left, or_right, leb-true, le-leb}
 use Rattle.std.proofs.lemmas.Nat.{mul-le}
 use Rattle.packing.specs.declared.sizes.Sizes.{Sizes}
-use Rattle.packing.specs.Packing.{AreSound, whole, most_ids, opening_len}
-use Rattle.packing.specs.Limits.{IsLimit, longest, heads_for, is_limit, is_limit_for}
+use Rattle.packing.specs.Packing.{AreSound, whole, most_ids}
+use Rattle.packing.specs.Limits.{IsLimit, longest, mean_opening, heads_for, is_limit, is_limit_for}
 use Rattle.packing.specs.Laws.{TestedLimitLoads, LessIsLimit}
-use Rattle.packing.proofs.Heads.{opening_le, object_fits, fewer_heads, heads_close}
+use Rattle.packing.proofs.Heads.{mean_le, object_fits, fewer_heads, heads_close}
 use Rattle.packing.proofs.Holding.{within_limit_loads}
 
 -- the memory of so many closed heads, and two whole segments to spare
 abbrev HasMemory : Sizes → ℕ → ℕ → Type 0
 HasMemory s heads live = ((heads + 5) * whole s ≤ s.seglets)
-    ⊎ (5 * whole s * s.seglet + live + heads * (opening_len s heads + s.seglet) ≤ s.seglets * s.seglet)
+    ⊎ (5 * whole s * s.seglet + live + heads * (mean_opening s heads + s.seglet) ≤ s.seglets * s.seglet)
 
 record Passes (s : Sizes) (heads live : ℕ) : Type 0 where
   places : heads + 2 ≤ most_ids s
@@ -26,7 +26,7 @@ passes_since s heads live is =
     record { places = leb-true _ _ both.0; memory = go (or_cases _ _ both.1) }
   where
     go : ((nat_le ((heads + 5) * whole s) s.seglets ≡ true)
-        ⊎ (nat_le (5 * whole s * s.seglet + live + heads * (opening_len s heads + s.seglet)) (s.seglets * s.seglet)
+        ⊎ (nat_le (5 * whole s * s.seglet + live + heads * (mean_opening s heads + s.seglet)) (s.seglets * s.seglet)
         ≡ true)) → HasMemory s heads live
     go (inl e) = inl (leb-true _ _ e)
     go (inr e) = inr (leb-true _ _ e)
@@ -36,7 +36,7 @@ passes_from s heads live passes = and_from _ _ (le-leb _ _ passes.places) (go pa
   where
     go : HasMemory s heads live
         → (nat_le ((heads + 5) * whole s) s.seglets
-        || nat_le (5 * whole s * s.seglet + live + heads * (opening_len s heads + s.seglet)) (s.seglets * s.seglet))
+        || nat_le (5 * whole s * s.seglet + live + heads * (mean_opening s heads + s.seglet)) (s.seglets * s.seglet))
         ≡ true
     go (inl le) = or_left _ _ (le-leb _ _ le)
     go (inr le) = or_right _ _ (le-leb _ _ le)
@@ -50,8 +50,8 @@ fewer_pass s few many less live le below passes =
     go (inl enough) =
         let more = mul-le-mul_right (whole s) le in inl (omega arith)
     go (inr enough) =
-        let short = opening_le s few many le in
-        let more = mul-le few (opening_len s few + s.seglet) many (opening_len s many + s.seglet) le (omega arith) in
+        let short = mean_le s few many le in
+        let more = mul-le few (mean_opening s few + s.seglet) many (mean_opening s many + s.seglet) le (omega arith) in
         inr (omega arith)
 
 module _ (s : Sizes) (largest live : ℕ) (sound : AreSound s) (is : is_limit s largest live ≡ true) where

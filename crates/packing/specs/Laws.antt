@@ -5,20 +5,20 @@ use Rattle.packing.specs.Packing.{whole, seglets_needed, fits_digest, can_load, 
 use Rattle.packing.specs.Limits.{AreLengths, IsLimit, longest, is_limit}
 
 -- A new master can load objects of these lengths, and two whole segments stay free besides.
-pub record LeavesTwo (s : Sizes) (ns : List ℕ) : Type 0 where
-  pub places : fits_digest s ns ≡ true
-  pub memory : seglets_needed s ns + 2 * whole s ≤ s.seglets
-  pub loads : can_load s ns ≡ true
+pub record LeavesTwo (s : Sizes) (lengths : List ℕ) : Type 0 where
+  pub places : fits_digest s lengths ≡ true
+  pub memory : seglets_needed s lengths + 2 * whole s ≤ s.seglets
+  pub loads : can_load s lengths ≡ true
 
 -- Objects within a limit can be loaded, whatever their order. A segment is of whole seglets.
 abbrev pub WithinLimitLoads : Type 0
-WithinLimitLoads = (s : Sizes) (most heads live : ℕ) (ns : List ℕ) → AreSound s → s.segment % s.seglet ≡ 0
-    → IsLimit s most heads live → AreLengths most ns → sum ns ≤ live → LeavesTwo s ns
+WithinLimitLoads = (s : Sizes) (most heads live : ℕ) (lengths : List ℕ) → AreSound s → s.segment % s.seglet ≡ 0
+    → IsLimit s most heads live → AreLengths most lengths → sum lengths ≤ live → LeavesTwo s lengths
 
 -- The test of a limit is right.
 abbrev pub TestedLimitLoads : Type 0
-TestedLimitLoads = (s : Sizes) (largest live : ℕ) (ns : List ℕ) → AreSound s → s.segment % s.seglet ≡ 0
-    → is_limit s largest live ≡ true → AreLengths (longest s largest) ns → sum ns ≤ live → LeavesTwo s ns
+TestedLimitLoads = (s : Sizes) (largest live : ℕ) (lengths : List ℕ) → AreSound s → s.segment % s.seglet ≡ 0
+    → is_limit s largest live ≡ true → AreLengths (longest s largest) lengths → sum lengths ≤ live → LeavesTwo s lengths
 
 -- each number below a limit is a limit
 abbrev pub LessIsLimit : Type 0

@@ -2,7 +2,8 @@
 
 ghost use Rattle.packing.specs.Laws.{LessIsLimit, TestedLimitLoads, WithinLimitLoads};
 
-/// Objects within a limit can be loaded, whatever they are and whatever their order.
+/// Objects within a limit can be loaded, whatever they are and whatever their order, with two whole segments to spare.
+/// Each number below a limit is a limit.
 pub fn limits_hold()
     ensures limit { WithinLimitLoads }
     ensures tested { TestedLimitLoads }

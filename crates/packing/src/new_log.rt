@@ -18,7 +18,7 @@ pub struct NewLog {
 }
 
 /// The bytes of the opening of a head whose digest lists so many segments.
-pub(crate) fn opening_len(sizes: &Sizes, listed: u64) -> u64
+fn opening_len(sizes: &Sizes, listed: u64) -> u64
     requires few { listed ≤ 2 ^ 32 }
     ensures { result ≡ opening_len sizes.now listed }
 {
