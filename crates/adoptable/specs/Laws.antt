@@ -1,0 +1,92 @@
+-- The laws of a limit: each master keeps it, and what a recovery finds within it can be adopted.
+use Rattle.std.specs.Prelude.{◌≡◌, ◌<◌, ◌≤◌, Bool, true, false, List, Result, Ok}
+use Rattle.claims.specs.declared.rebuilt.Rebuilt.{Rebuilt}
+use Rattle.replica.specs.Picture.{FleetState}
+use Rattle.replay.specs.Adopting.{IsAdopted, DeclinesList}
+use Rattle.replay.specs.master.failover_model.Data.{FailData}
+use Rattle.replay.specs.master.master_state.declared.config.Config.{Config}
+use Rattle.replay.specs.master.master_state.declared.step.Refusal.{Refusal}
+use Rattle.replay.specs.master.master_state.declared.step.Refusal.TheVariants as refusal
+use Rattle.replay.specs.master.master_state.declared.step.Step.{Step}
+use Rattle.replay.specs.master.master_state.declared.step.StepAnswer.{StepAnswer}
+use Rattle.replay.specs.master.master_state.Data.{MasterData, fresh_data}
+use Rattle.replay.specs.master.Steps.{Steps, IsRun}
+use Rattle.replay.specs.master.World.{World}
+use Rattle.recovery.specs.declared.succession.Course.{Course}
+use Rattle.recovery.specs.declared.succession.Lived.{Lived}
+use Rattle.recovery.specs.Recovered.{IsRecovered}
+use Rattle.recovery.specs.Succession.{IsDrillBy, AreLived, next_config}
+use Rattle.adoptable.specs.Limit.{HasLimit, HasRoomFor, IsAdmitted, IsWithin, KeepsLimit}
+
+-- ---- one master
+
+-- A new master keeps its limit.
+abbrev pub NewKeepsLimit : Type 0
+NewKeepsLimit = (c : Config) → HasLimit c → KeepsLimit (fresh_data c)
+
+-- Each step keeps it, whether it is accepted or declined.
+abbrev pub StepKeepsLimit : Type 0
+StepKeepsLimit = (old new : World) (step : Step) (answer : Result StepAnswer Refusal) → Steps old step answer new
+    → KeepsLimit old.knows → KeepsLimit new.knows
+
+-- So do any steps.
+abbrev pub RunKeepsLimit : Type 0
+RunKeepsLimit = (old new : World) (steps : List Step) (answers : List (Result StepAnswer Refusal))
+    → IsRun old steps answers new → KeepsLimit old.knows → KeepsLimit new.knows
+
+-- A master that adopted a table within its limit keeps it.
+abbrev pub AdoptedKeepsLimit : Type 0
+AdoptedKeepsLimit = (c : Config) (r : Rebuilt) (d : MasterData) → HasLimit c → IsWithin c r.objects
+    → IsAdopted c r d → KeepsLimit d
+
+-- ---- a recovery
+
+-- A log is admitted too by a configuration with segments of the same size and no lower limits, as is that of a next
+-- master with more memory.
+abbrev pub MoreAdmits : Type 0
+MoreAdmits = (c e : Config) (d : FailData) → e.segment ≡ c.segment → c.largest ≤ e.largest
+    → c.most_live ≤ e.most_live → IsAdmitted c d → IsAdmitted e d
+
+-- What is recovered of a log that had no table beyond the limit is within the limit, and a new master has room for it.
+abbrev pub RecoveredFits : Type 0
+RecoveredFits = (c : Config) (d : FailData) (r : Rebuilt) → HasLimit c → IsAdmitted c d → IsRecovered d r
+    → IsWithin c r.objects × HasRoomFor c r.objects
+
+-- The refusals that an adoption of a table within the limit may end in. All but Full have nothing to do with how large
+-- the table is: memory of the process ran out, a key lies in no tablet, no number is left for a segment, the fleet is
+-- spent, or the master halted.
+abbrev pub may_refuse : Refusal → Bool
+may_refuse refusal.Full = true
+may_refuse refusal.NoMemory = true
+may_refuse refusal.NoTablet = true
+may_refuse refusal.SegmentsSpent = true
+may_refuse refusal.Spent = true
+may_refuse refusal.Halted = true
+may_refuse _ = false
+
+-- An adoption was refused, and turned the old fleet into the new one. The size of the table wasn't the cause: if it was
+-- refused as Full, a take of it ended in a fault, and that may cost memory.
+pub record IsNotForSize (old : FleetState) (why : Refusal) (new : FleetState) : Type 0 where
+  pub known : may_refuse why ≡ true
+  pub full : why ≡ refusal.Full → old.faults < new.faults
+
+-- An adoption of a table within the limit is refused for no other cause.
+abbrev pub WithinIsAdopted : Type 0
+WithinIsAdopted = (c : Config) (r : Rebuilt) (old new : FleetState) (why : Refusal) → HasLimit c
+    → IsWithin c r.objects → DeclinesList c r old why new → IsNotForSize old why new
+
+-- ---- lives
+
+-- Say the first of some lives begins with a master that keeps its limit. Then so does each later life, and the one that
+-- goes on.
+abbrev pub LivesKeepLimit : Type 0
+LivesKeepLimit = (start last : World) (courses : List Course) (lived : List Lived)
+    → AreLived start courses lived last → KeepsLimit start.knows → KeepsLimit last.knows
+
+-- Say lives are lived from such a start, whatever their steps, the backups that are kept, and the wills and orders of
+-- their recoveries. Then no adoption is refused as Full unless a take of it ended in a fault.
+abbrev pub RecoveriesFit : Type 0
+RecoveriesFit = (start last : World) (courses : List Course) (lived : List Lived) (course : Course)
+    (answers : List (Result StepAnswer Refusal)) (r : Rebuilt) (left new : FleetState) (why : Refusal)
+    → KeepsLimit start.knows → AreLived start courses lived last → IsDrillBy last course answers (Ok r) left
+    → DeclinesList (next_config last.knows.config) r left why new → IsNotForSize left why new

@@ -1,0 +1,23 @@
+//! Laws of a limit of live bytes, for the proofs of callers.
+
+ghost use Rattle.adoptable.specs.Laws.{AdoptedKeepsLimit, NewKeepsLimit, RunKeepsLimit, StepKeepsLimit};
+ghost use Rattle.adoptable.specs.Laws.{LivesKeepLimit, MoreAdmits, RecoveredFits, RecoveriesFit, WithinIsAdopted};
+
+/// A master that begins within its limit keeps it: a new one, one that adopted a table within the limit, and each of
+/// them after any steps.
+pub fn limits_are_kept()
+    ensures new { NewKeepsLimit }
+    ensures step { StepKeepsLimit }
+    ensures run { RunKeepsLimit }
+    ensures adopted { AdoptedKeepsLimit }
+{}
+
+/// From a start that keeps its limit, whatever lives are lived, no adoption is refused as Full unless a take of it
+/// ended in a fault, none is refused as TooBig, and the master that goes on keeps the limit.
+pub fn recoveries_fit()
+    ensures more { MoreAdmits }
+    ensures recovered { RecoveredFits }
+    ensures within { WithinIsAdopted }
+    ensures lives { LivesKeepLimit }
+    ensures fit { RecoveriesFit }
+{}
