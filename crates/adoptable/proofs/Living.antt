@@ -3,6 +3,7 @@ use Rattle.std.proofs.Common.{◌≡◌, List, [], ◌∷◌, refl, sym, subst, 
 use Rattle.std.specs.Prelude.{Result, Ok}
 use Rattle.claims.specs.declared.rebuilt.Rebuilt.{Rebuilt}
 use Rattle.replica.specs.Picture.{FleetState}
+use Rattle.replay.specs.Adopting.{DeclinesList}
 use Rattle.replay.specs.master.master_state.declared.config.Config.{Config}
 use Rattle.replay.specs.master.master_state.declared.step.Refusal.{Refusal}
 use Rattle.replay.specs.master.master_state.declared.step.StepAnswer.{StepAnswer}
@@ -11,9 +12,15 @@ use Rattle.replay.specs.master.master_state.Log.{log_of}
 use Rattle.replay.specs.master.World.{World}
 use Rattle.recovery.specs.declared.succession.Course.{Course}
 use Rattle.recovery.specs.declared.succession.Lived.{Lived}
-use Rattle.recovery.specs.Succession.{IsDrillBy, IsLived, next_config}
+use Rattle.recovery.specs.declared.drill.Drill.{Drill}
+use Rattle.recovery.specs.declared.recovery.RecoveryFault.{RecoveryFault}
+use Rattle.recovery.specs.declared.succession.End.{End}
+use Rattle.recovery.specs.declared.succession.End.TheVariants as the_end
+use Rattle.recovery.specs.declared.succession.NotAdopted.{NotAdopted}
+use Rattle.recovery.specs.declared.succession.NotAdopted.TheVariants as not_adopted
+use Rattle.recovery.specs.Succession.{IsDrillBy, IsLived, EndsIn, next_config}
 use Rattle.recovery.proofs.Drilling.{run_keeps}
-use Rattle.adoptable.specs.Laws.{LivesKeepLimit, RecoveriesFit}
+use Rattle.adoptable.specs.Laws.{LivesKeepLimit, RecoveriesFit, EndsFit, DrilledFit, IsNotForSize}
 use Rattle.adoptable.specs.Limit.{HasLimit, IsAdmitted, IsWithin, KeepsLimit}
 use Rattle.adoptable.proofs.Refusing.{recovered_fits, within_is_adopted}
 use Rattle.adoptable.proofs.Starting.{adopted_keeps_limit}
@@ -62,8 +69,37 @@ lives_keep_limit start last (c ∷ cs) [] are keeps = absurd are
 lives_keep_limit start last (c ∷ cs) (l ∷ ls) are keeps =
     lives_keep_limit are.0 last cs ls are.2 (life_keeps start are.0 c l are.1 keeps)
 
+-- a life from a master that keeps its limit
+fits : (start : World) (course : Course) (answers : List (Result StepAnswer Refusal)) (r : Rebuilt)
+    (left new : FleetState) (why : Refusal) → KeepsLimit start.knows → IsDrillBy start course answers (Ok r) left
+    → DeclinesList (next_config start.knows.config) r left why new → IsNotForSize left why new
+fits start course answers r left new why keeps drill declines =
+    within_is_adopted (next_config start.knows.config) r left new why (next_limit start.knows.config keeps.limit)
+    (next_within start course answers r left keeps drill) declines
+
 pub recoveries_fit : RecoveriesFit
 recoveries_fit start last courses lived course answers r left new why keeps are drill declines =
-    let now = lives_keep_limit start last courses lived are keeps in
-    within_is_adopted (next_config last.knows.config) r left new why (next_limit last.knows.config now.limit)
-    (next_within last course answers r left now drill) declines
+    fits last course answers r left new why (lives_keep_limit start last courses lived are keeps) drill declines
+
+-- ---- what a row of lives ends in
+
+module _ {F : Type 0} (state : F → FleetState) (last : World) (keeps : KeepsLimit last.knows) where
+  not_adopted_fits : (c : Course) (cs : List Course) (d : Drill F) (why : NotAdopted)
+      → (ends : EndsIn state last (c ∷ cs) (the_end.NotAdopted d why))
+      → EndsFit state last (c ∷ cs) (the_end.NotAdopted d why) ends
+  not_adopted_fits c cs d not_adopted.NumbersSpent ends = tt
+  not_adopted_fits c cs d (not_adopted.Refused why) ends =
+      fits last c d.answers.items ends.0 ends.2 (state d.fleet) why keeps
+      (subst (λ (x : Result Rebuilt RecoveryFault). IsDrillBy last c d.answers.items x ends.2) ends.1 ends.3) ends.4
+
+  ends_fit : (rest : List Course) (e : End F) (ends : EndsIn state last rest e) → EndsFit state last rest e ends
+  ends_fit [] e ends = tt
+  ends_fit (c ∷ cs) (the_end.Up m) ends = tt
+  ends_fit (c ∷ cs) (the_end.NoMemory m) ends = tt
+  ends_fit (c ∷ cs) (the_end.NotRecovered d) ends = tt
+  ends_fit (c ∷ cs) (the_end.NotAdopted d why) ends = not_adopted_fits c cs d why ends
+
+pub drilled_fit : {F : Type 0} (state : F → FleetState) → DrilledFit state
+drilled_fit state start courses lived ended are keeps =
+    let now = lives_keep_limit start are.last are.done lived are.lives keeps in
+    (now, ends_fit state are.last now are.rest ended are.ends)

@@ -1,5 +1,5 @@
 -- The laws of a limit: each master keeps it, and what a recovery finds within it can be adopted.
-use Rattle.std.specs.Prelude.{◌≡◌, ◌<◌, ◌≤◌, Bool, true, false, List, Result, Ok}
+use Rattle.std.specs.Prelude.{◌≡◌, ◌<◌, ◌≤◌, Bool, true, false, List, ◌∷◌, Result, Ok}
 use Rattle.claims.specs.declared.rebuilt.Rebuilt.{Rebuilt}
 use Rattle.replica.specs.Picture.{FleetState}
 use Rattle.replay.specs.Adopting.{IsAdopted, DeclinesList}
@@ -14,8 +14,11 @@ use Rattle.replay.specs.master.Steps.{Steps, IsRun}
 use Rattle.replay.specs.master.World.{World}
 use Rattle.recovery.specs.declared.succession.Course.{Course}
 use Rattle.recovery.specs.declared.succession.Lived.{Lived}
+use Rattle.recovery.specs.declared.succession.NotAdopted.TheVariants as not_adopted
+use Rattle.recovery.specs.declared.succession.End.{End}
+use Rattle.recovery.specs.declared.succession.End.TheVariants as the_end
 use Rattle.recovery.specs.Recovered.{IsRecovered}
-use Rattle.recovery.specs.Succession.{IsDrillBy, AreLived, next_config}
+use Rattle.recovery.specs.Succession.{IsDrillBy, AreLived, EndsIn, AreDrilled, next_config}
 use Rattle.adoptable.specs.Limit.{HasLimit, HasRoomFor, IsAdmitted, IsWithin, KeepsLimit}
 
 -- ---- one master
@@ -90,3 +93,16 @@ RecoveriesFit = (start last : World) (courses : List Course) (lived : List Lived
     (answers : List (Result StepAnswer Refusal)) (r : Rebuilt) (left new : FleetState) (why : Refusal)
     → KeepsLimit start.knows → AreLived start courses lived last → IsDrillBy last course answers (Ok r) left
     → DeclinesList (next_config last.knows.config) r left why new → IsNotForSize left why new
+
+-- If the row of lives ended for an adoption that was refused, the size of the table wasn't the cause.
+abbrev pub EndsFit : {F : Type 0} → (state : F → FleetState) → (last : World) → (rest : List Course) → (e : End F)
+    → EndsIn state last rest e → Type 0
+EndsFit state last (c ∷ cs) (the_end.NotAdopted d (not_adopted.Refused why)) ends =
+    IsNotForSize ends.2 why (state d.fleet)
+EndsFit state last rest e ends = Unit {0}
+
+-- The same is true of whatever `run_lives` hands back: the last master keeps its limit, and the row ends so.
+abbrev pub DrilledFit : {F : Type 0} → (F → FleetState) → Type 0
+DrilledFit {F} state = (start : World) (courses : List Course) (lived : List Lived) (ended : End F)
+    (are : AreDrilled state start courses lived ended) → KeepsLimit start.knows
+    → KeepsLimit are.last.knows × EndsFit state are.last are.rest ended are.ends

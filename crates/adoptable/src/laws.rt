@@ -1,7 +1,9 @@
 //! Laws of a limit of live bytes, for the proofs of callers.
 
 ghost use Rattle.adoptable.specs.Laws.{AdoptedKeepsLimit, NewKeepsLimit, RunKeepsLimit, StepKeepsLimit};
-ghost use Rattle.adoptable.specs.Laws.{LivesKeepLimit, MoreAdmits, RecoveredFits, RecoveriesFit, WithinIsAdopted};
+ghost use Rattle.adoptable.specs.Laws.{DrilledFit, LivesKeepLimit, MoreAdmits, RecoveredFits, RecoveriesFit, WithinIsAdopted};
+
+use replica::Fleet;
 
 /// A master that begins within its limit keeps it: a new one, one that adopted a table within the limit, and each of
 /// them after any steps.
@@ -20,4 +22,9 @@ pub fn recoveries_fit()
     ensures within { WithinIsAdopted }
     ensures lives { LivesKeepLimit }
     ensures fit { RecoveriesFit }
+{}
+
+/// The same is true of whatever `recovery::run_lives` hands back.
+pub fn drilled_fit<F: Fleet>()
+    ensures { DrilledFit F.state }
 {}

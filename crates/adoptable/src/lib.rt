@@ -3,9 +3,10 @@
 //! A master whose configuration limits the bytes of its live objects refuses each put that would pass the limit. A
 //! configuration is valid only if a new master has room for any table within it. So whatever a recovery finds of such a
 //! master, the next master can adopt it, and it keeps the limit again. The crate has no code that runs. The contracts
-//! of `limits_are_kept` and `recoveries_fit` are the laws, over the relations of `recovery`, `replay` and `master`.
+//! of `limits_are_kept`, `recoveries_fit` and `drilled_fit` are the laws, over the relations of `master`, `replay` and
+//! `recovery`.
 #![tactic(auto)]
 
 mod laws;
 
-pub use laws::{limits_are_kept, recoveries_fit};
+pub use laws::{drilled_fit, limits_are_kept, recoveries_fit};
