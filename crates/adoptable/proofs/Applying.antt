@@ -1,8 +1,9 @@
 -- A command that is applied keeps the limit.
 use Rattle.std.proofs.Common.{◌≡◌, ◌⊎◌, ◌≤◌, ℕ, Bool, true, false, [], ◌∷◌, ◌++◌, refl, sym, ap}
 use Rattle.std.proofs.Common.{subst, inl, inr}
-use Rattle.std.specs.Prelude.{Option, Some, None, nat_lt, is_none, ◌&&◌, ◌||◌, if◌then◌else◌}
-use Rattle.std.proofs.lemmas.Bool.{ltb-false}
+use Rattle.std.specs.Prelude.{not, Option, Some, None, nat_lt, is_none, ◌&&◌, ◌||◌, if◌then◌else◌}
+use Rattle.std.proofs.lemmas.Bool.{ltb-false, not-false}
+use Rattle.entry.specs.Tablet.{have_key}
 use Rattle.versioned_map.specs.declared.command.Command.{Command}
 use Rattle.versioned_map.specs.declared.command.Record.{Record}
 use Rattle.versioned_map.specs.Command.{command_key}
@@ -18,7 +19,7 @@ use Rattle.replay.specs.master.master_state.Data.{MasterData}
 use Rattle.replay.specs.master.master_state.Log.{log_of, state_now, opening_of}
 use Rattle.replay.specs.master.master_state.Steps.{Applies, record_now}
 use Rattle.replay.proofs.of_driving.of_master.master_state.Refusals.{passes}
-use Rattle.adoptable.specs.Limit.{HasLimit, IsAdmitted, IsSmall, IsSum, KeepsLimit}
+use Rattle.adoptable.specs.Limit.{HasLimit, IsAdmitted, IsAllowed, IsSum, KeepsLimit}
 use Rattle.adoptable.proofs.Growing.{Admits, admits_more, sum_goes_on}
 
 -- ---- what the tests let through
@@ -33,10 +34,12 @@ module _ (d : MasterData) (command : Command) (passed : command_refusal d comman
   both : (early_refusal d command ≡ None) × (late_refusal d command ≡ None)
   both = if_none _ (early_refusal d command) (late_refusal d command) refl passed
 
-  passed_small : IsSmall d.config command
-  passed_small =
+  passed_allowed : IsAllowed d.config command
+  passed_allowed =
       let a = passes d.is_halted refusal.Halted _ both.0 in
-      (passes (is_too_big command d.config.segment || is_longer command d.config.largest) refusal.TooBig _ a.1).0
+      let b = passes (is_too_big command d.config.segment || is_longer command d.config.largest) refusal.TooBig _ a.1 in
+      let t = passes (not (have_key d.config.tablets (command_key command))) refusal.NoTablet _ b.1 in
+      (not-false (have_key d.config.tablets (command_key command)) t.0, b.0)
 
   within_or_less : (a b : Bool) → (a && b) ≡ false → (a ≡ false) ⊎ (b ≡ false)
   within_or_less true b e = inr e
@@ -75,8 +78,8 @@ applied_keeps d e seat command answer h keeps = record {
 
     counted : IsSum (state_of (record (log_of d) { history = d.history ++ r ∷ [] })).contents (live_now d command)
     counted = sum_goes_on d.config keeps.limit.limited d.live (opening_of d) d.history keeps.admitted keeps.counted r
-        (passed_small d command h.passed) (passed_live d command h.passed)
+        (passed_allowed d command h.passed) (passed_live d command h.passed)
 
     admitted : Admits d.config (opening_of d) (d.history ++ r ∷ [])
     admitted = admits_more d.config keeps.limit.limited d.live (opening_of d) d.history keeps.admitted keeps.counted r
-        (passed_small d command h.passed) (passed_live d command h.passed)
+        (passed_allowed d command h.passed) (passed_live d command h.passed)

@@ -4,6 +4,8 @@ use Rattle.std.proofs.Common.{◌+◌, ◌*◌, ◌/◌, ◌∙◌, arith}
 use Rattle.std.specs.Prelude.{not, ◌==◌, ◌||◌}
 use Rattle.std.proofs.lemmas.Bool.{or_cases, ltb-false, le-ltb, eqb-true, not-false}
 use Rattle.entry.specs.declared.entry.Object.{Object}
+use Rattle.entry.specs.declared.tablet.Tablet.{Tablet}
+use Rattle.entry.specs.Tablet.{have_key}
 use Rattle.packing.specs.Limits.{AreLengths, longest, is_limit, unlimited}
 use Rattle.packing.proofs.Testing.{tested_limit_loads}
 use Rattle.replay.specs.master.master_state.declared.config.Config.{Config}
@@ -15,9 +17,9 @@ use Rattle.replay.specs.Needs.{length_of, lengths_of}
 use Rattle.replay.proofs.of_driving.of_master.master_state.Refusals.{passes}
 use Rattle.replay.proofs.of_driving.of_master.master_state.Refusals.{sizes_of as config_sizes}
 use Rattle.adoptable.specs.Laws.{MoreAdmits}
-use Rattle.adoptable.specs.Limit.{HasLimit, HasRoomFor, IsSmall, IsWithin, put_of}
+use Rattle.adoptable.specs.Limit.{HasLimit, HasRoomFor, IsAllowed, IsWithin, put_of}
 use Rattle.adoptable.proofs.Dropped.{length_is}
-use Rattle.adoptable.proofs.Sums.{AreSmall}
+use Rattle.adoptable.proofs.Sums.{AreAllowed}
 
 -- a valid configuration with a limit has one that leaves room
 limit_holds : (c : Config) → HasLimit c → is_limit (sizes_of c) c.largest c.most_live ≡ true
@@ -42,25 +44,25 @@ limit_holds c limit =
 
 -- ---- lengths
 
--- a put that is small is neither too big nor longer than allowed
+-- neither of two tests is true if not one of them is
 pub neither_of : (a b : Bool) → (a || b) ≡ false → (a ≡ false) × (b ≡ false)
 neither_of true b e = absurd (cc)
 neither_of false true e = absurd (cc)
 neither_of false false e = (refl, refl)
 
-small_length : (c : Config) (o : Object) → IsSmall c (put_of o) → length_of o ≤ longest (sizes_of c) c.largest
-small_length c o small =
-    let both = neither_of (is_too_big (put_of o) c.segment) (is_longer (put_of o) c.largest) small in
+allowed_length : (c : Config) (o : Object) → IsAllowed c (put_of o) → length_of o ≤ longest (sizes_of c) c.largest
+allowed_length c o allowed =
+    let both = neither_of (is_too_big (put_of o) c.segment) (is_longer (put_of o) c.largest) allowed.1 in
     let big = ltb-false (c.segment / 4) (50 + 2 * length o.key.bytes + length o.value) both.0 in
     let long = ltb-false c.largest (23 + length o.key.bytes + length o.value) both.1 in
     let is = length_is o in
     omega arith
 
-lengths_are : (c : Config) (os : List Object) → AreSmall c os
+lengths_are : (c : Config) (os : List Object) → AreAllowed c os
     → AreLengths (longest (sizes_of c) c.largest) (lengths_of os)
-lengths_are c [] small = tt
-lengths_are c (o ∷ os) small =
-    ((let is = length_is o in omega arith, small_length c o small.0), lengths_are c os small.1)
+lengths_are c [] allowed = tt
+lengths_are c (o ∷ os) allowed =
+    ((let is = length_is o in omega arith, allowed_length c o allowed.0), lengths_are c os allowed.1)
 
 -- ---- room
 
@@ -69,29 +71,30 @@ within_fits c os limit within =
     let sizes = config_sizes c limit.valid in
     let loads = tested_limit_loads (sizes_of c) c.largest c.most_live (lengths_of os)
     (record { seglet = sizes.least_seglet; least = sizes.least_segment; most = sizes.most_segment }) sizes.multiple
-    (limit_holds c limit) (lengths_are c os within.small) within.sum in
+    (limit_holds c limit) (lengths_are c os within.allowed) within.sum in
     record { adoptable = loads.loads; spare = loads.memory }
 
 -- ---- more
 
--- what is small stays small where more may be put
-more_small : (c e : Config) (o : Object) → e.segment ≡ c.segment → c.largest ≤ e.largest → IsSmall c (put_of o)
-    → IsSmall e (put_of o)
-more_small c e o same le small =
-    let both = neither_of (is_too_big (put_of o) c.segment) (is_longer (put_of o) c.largest) small in
-    let big = ap (is_too_big (put_of o)) same ∙ both.0 in
-    let long = ltb-false c.largest (23 + length o.key.bytes + length o.value) both.1 in
-    let longer : is_longer (put_of o) e.largest ≡ false =
-    le-ltb e.largest (23 + length o.key.bytes + length o.value) (omega arith) in
-    rw (big, longer) refl
+-- another configuration, with as much or more
+module _ (c e : Config) (tablets : e.tablets ≡ c.tablets) (segment : e.segment ≡ c.segment)
+    (largest : c.largest ≤ e.largest) where
+  -- it allows what the first one allows
+  one_more : (o : Object) → IsAllowed c (put_of o) → IsAllowed e (put_of o)
+  one_more o allowed =
+      let both = neither_of (is_too_big (put_of o) c.segment) (is_longer (put_of o) c.largest) allowed.1 in
+      let big = ap (is_too_big (put_of o)) segment ∙ both.0 in
+      let long = ltb-false c.largest (23 + length o.key.bytes + length o.value) both.1 in
+      let longer : is_longer (put_of o) e.largest ≡ false =
+      le-ltb e.largest (23 + length o.key.bytes + length o.value) (omega arith) in
+      (ap (λ (ts : List Tablet). have_key ts o.key) tablets ∙ allowed.0, rw (big, longer) refl)
 
-all_more : (c e : Config) (os : List Object) → e.segment ≡ c.segment → c.largest ≤ e.largest → AreSmall c os
-    → AreSmall e os
-all_more c e [] same le small = tt
-all_more c e (o ∷ os) same le small = (more_small c e o same le small.0, all_more c e os same le small.1)
+  all_more : (os : List Object) → AreAllowed c os → AreAllowed e os
+  all_more [] allowed = tt
+  all_more (o ∷ os) allowed = (one_more o allowed.0, all_more os allowed.1)
 
 pub more_admits : MoreAdmits
-more_admits c e d same le more admitted count os within once has =
+more_admits c e d tablets segment largest more admitted count os within once has =
     let all = admitted count os within once has in
     let sum = all.sum in
-    record { sum = omega arith; small = all_more c e os same le all.small }
+    record { sum = omega arith; allowed = all_more c e tablets segment largest os all.allowed }

@@ -13,7 +13,7 @@ use Rattle.replay.specs.master.master_state.declared.config.Config.{Config}
 use Rattle.replay.specs.master.master_state.Live.{live_after}
 use Rattle.replay.specs.master.master_state.Sizes.{AreOnce}
 use Rattle.replay.proofs.of_driving.of_master.log_model.Fronts.{state_front, state_next}
-use Rattle.adoptable.specs.Limit.{IsSum, IsSmall, IsWithin}
+use Rattle.adoptable.specs.Limit.{IsSum, IsAllowed, IsWithin}
 use Rattle.adoptable.proofs.Sums.{IsCounted, command_counted}
 
 -- each table after a count of these records is within the limit
@@ -23,7 +23,7 @@ Admits c opening history = (count : ℕ) (os : List Object) → count ≤ length
 
 module _ (c : Config) (limited : c.most_live < unlimited) (n : ℕ) (opening : State) (history : List Record)
     (admitted : Admits c opening history) (is : IsSum (after opening (commands_of history)).contents n)
-    (r : Record) (small : IsSmall c r.command) where
+    (r : Record) (allowed : IsAllowed c r.command) where
   -- the state, and the bytes that are counted once the record is there
   abbrev now : State
   now = after opening (commands_of history)
@@ -43,7 +43,7 @@ module _ (c : Config) (limited : c.most_live < unlimited) (n : ℕ) (opening : S
     then_counted : (os : List Object) → AreOnce os
         → contents_of os ≡ (after opening (commands_of (history ++ r ∷ []))).contents → IsCounted c os live_then
     then_counted os once has =
-        command_counted c limited n now is within_now r.command small may os once
+        command_counted c limited n now is within_now r.command allowed may os once
         (has ∙ ap (λ (s : State). s.contents) (state_next opening history r))
 
     pub sum_goes_on : IsSum (after opening (commands_of (history ++ r ∷ []))).contents live_then

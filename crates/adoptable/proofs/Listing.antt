@@ -16,7 +16,7 @@ use Rattle.replay.specs.master.master_state.Sizes.{AreOnce}
 use Rattle.replay.specs.Needs.{length_of, lengths_of}
 use Rattle.adoptable.specs.Limit.{IsSum, IsWithin}
 use Rattle.adoptable.proofs.Dropped.{dropped, dropped_has, dropped_once, dropped_sum, length_is, sum_first}
-use Rattle.adoptable.proofs.Sums.{AreSmall, all_small}
+use Rattle.adoptable.proofs.Sums.{AreAllowed, all_allowed}
 use Rattle.adoptable.proofs.Growing.{Admits}
 
 -- ---- the same contents
@@ -36,13 +36,13 @@ rest_has o os none = λ i q. go q i
       | inr f ↦ (let e = f.0 in rw e refl)
     ]
 
--- The second list has as many bytes, and its objects are small if those of the first are.
+-- The second list has as many bytes, and its objects are allowed if those of the first are.
 record Same (c : Config) (os ps : List Object) : Type 0 where
   sum : sum (lengths_of ps) ≡ sum (lengths_of os)
-  small : AreSmall c os → AreSmall c ps
+  allowed : AreAllowed c os → AreAllowed c ps
 
 none_listed : (c : Config) (ps : List Object) → contents_of ps ≡ contents_of [] → Same c [] ps
-none_listed c [] has = record { sum = refl; small = λ s. s }
+none_listed c [] has = record { sum = refl; allowed = λ s. s }
 none_listed c (p ∷ ps) has =
     absurd (let never = sym (own_there p ps) ∙ ap (λ (cs : Contents). cs p.key) has in cc)
 
@@ -68,7 +68,7 @@ same_lists c (o ∷ os) ps once other has =
           let first = sum_first o os in
           let same = rest.sum in
           omega arith;
-      small = λ all. all_small c o.key ps other (rest.small all.1) (rw there (all.0));
+      allowed = λ all. all_allowed c o.key ps other (rest.allowed all.1) (rw there (all.0));
     }
 
 pub sum_is : (c : Config) (os : List Object) → AreOnce os → IsSum (contents_of os) (sum (lengths_of os))
@@ -89,4 +89,4 @@ begun_admits c opening history os none has once within count ps le other same =
     let lists = same_lists c os ps once other (same ∙ ap (λ (s : State). s.contents) first ∙ has) in
     let sums = lists.sum in
     let most = within.sum in
-    record { sum = omega arith; small = lists.small within.small }
+    record { sum = omega arith; allowed = lists.allowed within.allowed }

@@ -51,7 +51,7 @@ module _ (start : World) (course : Course) (answers : List (Result StepAnswer Re
   next_within : IsWithin (next_config start.knows.config) r.objects
   next_within =
       let fits = recovered_fits start.knows.config (log_of drill.stop.knows) r keeps.limit admitted drill.prefix in
-      let within = fits.0 in record { sum = within.sum; small = within.small }
+      let within = fits.0 in record { sum = within.sum; allowed = within.allowed }
 
 life_keeps : (start next : World) (course : Course) (l : Lived) → IsLived start course l next
     → KeepsLimit start.knows → KeepsLimit next.knows

@@ -1,7 +1,7 @@
 -- What is recovered fits a limit, and an adoption of it is refused as Full only after a fault.
 use Rattle.std.proofs.Common.{◌≡◌, Bool, true, false, List, [], ◌∷◌, ◌++◌, refl, sym, ap, subst, inl, inr}
 use Rattle.std.proofs.Common.{◌∙◌}
-use Rattle.std.specs.Prelude.{Option, Some, None, unwrap_or, if◌then◌else◌}
+use Rattle.std.specs.Prelude.{not, Option, Some, None, unwrap_or, if◌then◌else◌}
 use Rattle.std.proofs.lemmas.Option.{same_Some}
 use Rattle.entry.specs.declared.entry.Entry.TheVariants as entry
 use Rattle.entry.specs.declared.entry.Object.{Object}
@@ -26,10 +26,10 @@ use Rattle.replay.proofs.FullForFault.{full_is_for_fault}
 use Rattle.replay.proofs.LoadSteps.{one_keeps, room_keeps}
 use Rattle.replay.proofs.of_driving.MasterSteps.{push_tested}
 use Rattle.adoptable.specs.Laws.{RecoveredFits, WithinIsAdopted, may_refuse}
-use Rattle.adoptable.specs.Limit.{IsSmall, put_of}
+use Rattle.adoptable.specs.Limit.{IsAllowed, put_of}
 use Rattle.adoptable.proofs.Fitting.{neither_of, within_fits}
 use Rattle.adoptable.proofs.Ordered.{ordered_once}
-use Rattle.adoptable.proofs.Sums.{AreSmall}
+use Rattle.adoptable.proofs.Sums.{AreAllowed}
 
 pub recovered_fits : RecoveredFits
 recovered_fits c d r limit admitted found =
@@ -76,33 +76,37 @@ roll_may old new r (same, inl test) final = tested _ _ _ _ test
     tested false false false false e = absurd (cc)
 roll_may old new r (same, inr memory) final = ap may_refuse memory.1
 
--- an object that isn't too big
-load_may : (d e : MasterData) (o : Object) (r : Refusal) → is_object_too_big o d.config.segment ≡ false
+-- an object that the configuration allows
+load_may : (d e : MasterData) (o : Object) (r : Refusal) → IsAllowed d.config (put_of o)
     → DeclinesLoad d (entry.Object o) r e → (r ≡ refusal.Rolling → ⊥) → may_refuse r ≡ true
-load_may d e o r small (same, inl test) final = tested _ _ _ _ small test
+load_may d e o r allowed (same, inl test) final = tested _ _ _ _ small allowed.0 test
   where
-    tested : (big stray full room : Bool) → big ≡ false
-        → (if big then Some refusal.TooBig else if stray then Some refusal.NoTablet else if full then Some refusal.Full
-        else if room then Some refusal.Rolling else None) ≡ Some r → may_refuse r ≡ true
-    tested true stray full room small e = absurd (cc)
-    tested false true full room small e = may_be refusal.NoTablet r e refl
-    tested false false true room small e = may_be refusal.Full r e refl
-    tested false false false true small e = absurd (final (sym (same_Some refusal.Rolling r e)))
-    tested false false false false small e = absurd (cc)
-load_may d e o r small (same, inr memory) final = ap may_refuse memory.1
+    small : is_object_too_big o d.config.segment ≡ false
+    small = (neither_of (is_too_big (put_of o) d.config.segment) (is_longer (put_of o) d.config.largest) allowed.1).0
 
-one_may : (old new : World) (o : Object) (r : Refusal) → is_object_too_big o old.knows.config.segment ≡ false
-    → IsFinal r → DeclinesOne o old r new → may_refuse r ≡ true
-one_may old new o r small final (inl (declines, fleet)) = load_may old.knows new.knows o r small declines final.0
-one_may old new o r small final (inr (waits, inl (declines, not_rolling))) = roll_may old new r declines not_rolling
-one_may old new o r small final (inr (waits, inr (mid, rolling, until, not_nothing))) =
+    tested : (big there full room : Bool) → big ≡ false → there ≡ true
+        → (if big then Some refusal.TooBig else if not there then Some refusal.NoTablet
+        else if full then Some refusal.Full else if room then Some refusal.Rolling else None) ≡ Some r
+        → may_refuse r ≡ true
+    tested true there full room small known e = absurd (cc)
+    tested false false full room small known e = absurd (cc)
+    tested false true true room small known e = may_be refusal.Full r e refl
+    tested false true false true small known e = absurd (final (sym (same_Some refusal.Rolling r e)))
+    tested false true false false small known e = absurd (cc)
+load_may d e o r allowed (same, inr memory) final = ap may_refuse memory.1
+
+one_may : (old new : World) (o : Object) (r : Refusal) → IsAllowed old.knows.config (put_of o) → IsFinal r
+    → DeclinesOne o old r new → may_refuse r ≡ true
+one_may old new o r allowed final (inl (declines, fleet)) = load_may old.knows new.knows o r allowed declines final.0
+one_may old new o r allowed final (inr (waits, inl (declines, not_rolling))) = roll_may old new r declines not_rolling
+one_may old new o r allowed final (inr (waits, inr (mid, rolling, until, not_nothing))) =
     until_may mid new r until not_nothing
 
 loaded_config : (os : List Object) (old new : World) → HasLoaded os old new → new.knows.config ≡ old.knows.config
 loaded_config [] old new same = ap (λ (w : World). w.knows.config) same
 loaded_config (o ∷ os) old new (mid, one, rest) = loaded_config os mid new rest ∙ (one_keeps o old mid one).config
 
-module _ (c : Config) (os : List Object) (small : AreSmall c os) (start new : World) (r : Refusal)
+module _ (c : Config) (os : List Object) (allowed : AreAllowed c os) (start new : World) (r : Refusal)
     (begins : start.knows.config ≡ c) (stops : Stops os start r new) where
   abbrev mid : World
   mid = stops.mid
@@ -112,28 +116,25 @@ module _ (c : Config) (os : List Object) (small : AreSmall c os) (start new : Wo
     where
       go : (left : List Object) → os ≡ stops.loaded ++ left → IsStuck left mid r new → may_refuse r ≡ true
       go [] parts until = until_may mid new r until stops.final.1
-      go (o ∷ left) parts (rooms, now, made, declines) = one_may now new o r not_big stops.final declines
+      go (o ∷ left) parts (rooms, now, made, declines) = one_may now new o r there stops.final declines
         where
-          here : IsSmall c (put_of o)
-          here = all_among (λ (p : Object). IsSmall c (put_of p)) os o small
-              (subst (IsAmong o) (sym parts) (among_right o stops.loaded (o ∷ left) (inl refl)))
-
           config : now.knows.config ≡ c
           config = (room_keeps rooms o mid now made).config ∙ loaded_config stops.loaded start mid stops.steps ∙ begins
 
-          not_big : is_object_too_big o now.knows.config.segment ≡ false
-          not_big = ap (λ (k : Config). is_object_too_big o k.segment) config
-              ∙ (neither_of (is_too_big (put_of o) c.segment) (is_longer (put_of o) c.largest) here).0
+          there : IsAllowed now.knows.config (put_of o)
+          there = subst (λ (k : Config). IsAllowed k (put_of o)) (sym config)
+              (all_among (λ (p : Object). IsAllowed c (put_of p)) os o allowed
+              (subst (IsAmong o) (sym parts) (among_right o stops.loaded (o ∷ left) (inl refl))))
 
-declined_may : (c : Config) (r : Rebuilt) (old new : FleetState) (why : Refusal) → AreSmall c r.objects
+declined_may : (c : Config) (r : Rebuilt) (old new : FleetState) (why : Refusal) → AreAllowed c r.objects
     → DeclinesList c r old why new → may_refuse why ≡ true
-declined_may c r old new why small (inl (is, same)) = ap may_refuse is
-declined_may c r old new why small (inr (after, stops)) =
-    stops_may c r.objects small (world_of (restored_data c r.safe) old) (world_of after new) why refl stops
+declined_may c r old new why allowed (inl (is, same)) = ap may_refuse is
+declined_may c r old new why allowed (inr (after, stops)) =
+    stops_may c r.objects allowed (world_of (restored_data c r.safe) old) (world_of after new) why refl stops
 
 pub within_is_adopted : WithinIsAdopted
 within_is_adopted c r old new why limit within declines = record {
-  known = declined_may c r old new why within.small declines;
+  known = declined_may c r old new why within.allowed declines;
   full = λ is. full_is_for_fault c r old new limit.valid (within_fits c r.objects limit within).adoptable
       (subst (λ (x : Refusal). DeclinesList c r old x new) is declines);
 }

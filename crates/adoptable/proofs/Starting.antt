@@ -25,7 +25,7 @@ pub new_keeps_limit : NewKeepsLimit
 new_keeps_limit c limit = record {
   limit = limit;
   counted = sum_is c [] tt;
-  admitted = begun_admits c (opening_of (fresh_data c)) [] [] refl refl tt (record { sum = omega arith; small = tt });
+  admitted = begun_admits c (opening_of (fresh_data c)) [] [] refl refl tt (record { sum = omega arith; allowed = tt });
 }
 
 -- ---- a table that was adopted

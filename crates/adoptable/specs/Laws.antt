@@ -44,24 +44,22 @@ AdoptedKeepsLimit = (c : Config) (r : Rebuilt) (d : MasterData) → HasLimit c �
 
 -- ---- a recovery
 
--- A log is admitted too by a configuration with segments of the same size and no lower limits, as is that of a next
--- master with more memory.
+-- A log is admitted too by a configuration with the same tablets, segments of the same size and no lower limits, as is
+-- that of a next master with more memory.
 abbrev pub MoreAdmits : Type 0
-MoreAdmits = (c e : Config) (d : FailData) → e.segment ≡ c.segment → c.largest ≤ e.largest
-    → c.most_live ≤ e.most_live → IsAdmitted c d → IsAdmitted e d
+MoreAdmits = (c e : Config) (d : FailData) → e.tablets ≡ c.tablets → e.segment ≡ c.segment
+    → c.largest ≤ e.largest → c.most_live ≤ e.most_live → IsAdmitted c d → IsAdmitted e d
 
 -- What is recovered of a log that had no table beyond the limit is within the limit, and a new master has room for it.
 abbrev pub RecoveredFits : Type 0
 RecoveredFits = (c : Config) (d : FailData) (r : Rebuilt) → HasLimit c → IsAdmitted c d → IsRecovered d r
     → IsWithin c r.objects × HasRoomFor c r.objects
 
--- The refusals that an adoption of a table within the limit may end in. All but Full have nothing to do with how large
--- the table is: memory of the process ran out, a key lies in no tablet, no number is left for a segment, the fleet is
--- spent, or the master halted.
+-- The refusals that an adoption of a table within the limit may end in. All but Full have nothing to do with the table:
+-- memory of the process ran out, no number is left for a segment, the fleet is spent, or the master halted.
 abbrev pub may_refuse : Refusal → Bool
 may_refuse refusal.Full = true
 may_refuse refusal.NoMemory = true
-may_refuse refusal.NoTablet = true
 may_refuse refusal.SegmentsSpent = true
 may_refuse refusal.Spent = true
 may_refuse refusal.Halted = true

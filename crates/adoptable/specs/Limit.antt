@@ -1,13 +1,15 @@
 -- Tables that are within the limit of a configuration, logs that had no others, and masters that keep their limit.
-use Rattle.std.specs.Prelude.{◌≡◌, ℕ, ◌+◌, ◌*◌, ◌<◌, ◌≤◌, List, length, sum, None, false, ◌||◌}
+use Rattle.std.specs.Prelude.{◌≡◌, ℕ, ◌+◌, ◌*◌, ◌<◌, ◌≤◌, List, length, sum, None, true, false, ◌||◌}
 use Rattle.std.specs.List.{AllByRecursion}
 use Rattle.entry.specs.declared.entry.Object.{Object}
 use Rattle.entry.specs.Meaning.{Contents, contents_of}
+use Rattle.entry.specs.Tablet.{have_key}
 use Rattle.packing.specs.Limits.{unlimited}
 use Rattle.packing.specs.Packing.{whole}
 use Rattle.versioned_map.specs.declared.command.Command.{Command}
 use Rattle.versioned_map.specs.declared.command.Command.TheVariants.{Put}
 use Rattle.versioned_map.specs.declared.command.If.TheVariants.{Any}
+use Rattle.versioned_map.specs.Command.{command_key}
 use Rattle.replay.specs.master.failover_model.Data.{FailData, state_after}
 use Rattle.replay.specs.master.master_state.declared.config.Config.{Config}
 use Rattle.replay.specs.master.master_state.Causes.{is_too_big, is_longer}
@@ -23,18 +25,19 @@ use Rattle.replay.specs.Needs.{lengths_of, needed_for, CanBeAdopted}
 abbrev pub IsSum : Contents → ℕ → Type 0
 IsSum contents bytes = (os : List Object) → AreOnce os → contents_of os ≡ contents → sum (lengths_of os) ≡ bytes
 
--- the command is no put that the configuration refuses as TooBig
-abbrev pub IsSmall : Config → Command → Type 0
-IsSmall c command = (is_too_big command c.segment || is_longer command c.largest) ≡ false
+-- The configuration allows the command: its key lies in a tablet, and it is no put of an object that is too big.
+abbrev pub IsAllowed : Config → Command → Type 0
+IsAllowed c command = (have_key c.tablets (command_key command) ≡ true)
+    × ((is_too_big command c.segment || is_longer command c.largest) ≡ false)
 
 -- a put of the object
 abbrev pub put_of : Object → Command
 put_of o = Put o.key o.value Any
 
--- The objects have at most as many bytes as the limit, and none of them is too big to be put.
+-- The objects have at most as many bytes as the limit, and the configuration allows a put of each.
 pub record IsWithin (c : Config) (os : List Object) : Type 0 where
   pub sum : sum (lengths_of os) ≤ c.most_live
-  pub small : AllByRecursion (λ (o : Object). IsSmall c (put_of o)) os
+  pub allowed : AllByRecursion (λ (o : Object). IsAllowed c (put_of o)) os
 
 -- A new master of this configuration can adopt the objects, and has two whole segments to spare then.
 pub record HasRoomFor (c : Config) (os : List Object) : Type 0 where

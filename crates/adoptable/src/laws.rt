@@ -1,7 +1,8 @@
 //! Laws of a limit of live bytes, for the proofs of callers.
 
 ghost use Rattle.adoptable.specs.Laws.{AdoptedKeepsLimit, NewKeepsLimit, RunKeepsLimit, StepKeepsLimit};
-ghost use Rattle.adoptable.specs.Laws.{DrilledFit, LivesKeepLimit, MoreAdmits, RecoveredFits, RecoveriesFit, WithinIsAdopted};
+ghost use Rattle.adoptable.specs.Laws.{DrilledFit, LivesKeepLimit, MoreAdmits, RecoveredFits};
+ghost use Rattle.adoptable.specs.Laws.{RecoveriesFit, WithinIsAdopted};
 
 use replica::Fleet;
 

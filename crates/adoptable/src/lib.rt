@@ -1,4 +1,4 @@
-//! Under a limit of live bytes a recovery is never refused for want of memory.
+//! Under a limit of live bytes a next master has room for whatever a recovery finds.
 //!
 //! A master whose configuration limits the bytes of its live objects refuses each put that would pass the limit. A
 //! configuration is valid only if a new master has room for any table within it. So whatever a recovery finds of such a
