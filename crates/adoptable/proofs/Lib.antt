@@ -7,5 +7,6 @@ pub mod Applying
 pub mod Ordered
 pub mod Starting
 pub mod Stepping
+pub mod Faulting
 pub mod Refusing
 pub mod Living

@@ -20,7 +20,7 @@ use Rattle.recovery.specs.declared.succession.NotAdopted.{NotAdopted}
 use Rattle.recovery.specs.declared.succession.NotAdopted.TheVariants as not_adopted
 use Rattle.recovery.specs.Succession.{IsDrillBy, IsLived, EndsIn, next_config}
 use Rattle.recovery.proofs.Drilling.{run_keeps}
-use Rattle.adoptable.specs.Laws.{LivesKeepLimit, RecoveriesFit, EndsFit, DrilledFit, IsNotForSize}
+use Rattle.adoptable.specs.Laws.{LivesKeepLimit, RecoveriesFit, EndsFit, DrilledFit, IsNotForTable}
 use Rattle.adoptable.specs.Limit.{HasLimit, IsAdmitted, IsWithin, KeepsLimit}
 use Rattle.adoptable.proofs.Refusing.{recovered_fits, within_is_adopted}
 use Rattle.adoptable.proofs.Starting.{adopted_keeps_limit}
@@ -72,7 +72,7 @@ lives_keep_limit start last (c ∷ cs) (l ∷ ls) are keeps =
 -- a life from a master that keeps its limit
 fits : (start : World) (course : Course) (answers : List (Result StepAnswer Refusal)) (r : Rebuilt)
     (left new : FleetState) (why : Refusal) → KeepsLimit start.knows → IsDrillBy start course answers (Ok r) left
-    → DeclinesList (next_config start.knows.config) r left why new → IsNotForSize left why new
+    → DeclinesList (next_config start.knows.config) r left why new → IsNotForTable left why new
 fits start course answers r left new why keeps drill declines =
     within_is_adopted (next_config start.knows.config) r left new why (next_limit start.knows.config keeps.limit)
     (next_within start course answers r left keeps drill) declines

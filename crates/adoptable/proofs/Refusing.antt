@@ -22,11 +22,13 @@ use Rattle.replay.specs.master.master_state.Loading.{is_object_too_big, restored
 use Rattle.replay.specs.master.Loading.{DeclinesLoad}
 use Rattle.replay.specs.master.Steps.{Declines}
 use Rattle.replay.specs.master.World.{World, world_of}
+use Rattle.replay.proofs.AdoptedList.{stops_spent}
 use Rattle.replay.proofs.FullForFault.{full_is_for_fault}
 use Rattle.replay.proofs.LoadSteps.{one_keeps, room_keeps}
 use Rattle.replay.proofs.of_driving.MasterSteps.{push_tested}
-use Rattle.adoptable.specs.Laws.{RecoveredFits, WithinIsAdopted, may_refuse}
+use Rattle.adoptable.specs.Laws.{RecoveredFits, WithinIsAdopted, IsNotForTable}
 use Rattle.adoptable.specs.Limit.{IsAllowed, put_of}
+use Rattle.adoptable.proofs.Faulting.{halts_for_fault}
 use Rattle.adoptable.proofs.Fitting.{neither_of, within_fits}
 use Rattle.adoptable.proofs.Ordered.{ordered_once}
 use Rattle.adoptable.proofs.Sums.{AreAllowed}
@@ -37,6 +39,15 @@ recovered_fits c d r limit admitted found =
     (within, within_fits c r.objects limit within)
 
 -- ---- how an adoption may be refused
+
+-- the refusals that an adoption of a table within the limit may end in
+abbrev may_refuse : Refusal → Bool
+may_refuse refusal.Full = true
+may_refuse refusal.NoMemory = true
+may_refuse refusal.SegmentsSpent = true
+may_refuse refusal.Spent = true
+may_refuse refusal.Halted = true
+may_refuse _ = false
 
 -- the refusal by a test whose answer may be given
 may_be : (given : Refusal) (r : Refusal) → Some given ≡ Some r → may_refuse given ≡ true → may_refuse r ≡ true
@@ -132,9 +143,21 @@ declined_may c r old new why allowed (inl (is, same)) = ap may_refuse is
 declined_may c r old new why allowed (inr (after, stops)) =
     stops_may c r.objects allowed (world_of (restored_data c r.safe) old) (world_of after new) why refl stops
 
+declined_spent : (c : Config) (r : Rebuilt) (old new : FleetState) → DeclinesList c r old refusal.Spent new
+    → new.takes ≡ new.end
+declined_spent c r old new (inl (is, same)) = absurd (cc)
+declined_spent c r old new (inr (after, stops)) =
+    stops_spent r.objects (world_of (restored_data c r.safe) old) (world_of after new) refusal.Spent stops refl
+
 pub within_is_adopted : WithinIsAdopted
-within_is_adopted c r old new why limit within declines = record {
-  known = declined_may c r old new why within.allowed declines;
-  full = λ is. full_is_for_fault c r old new limit.valid (within_fits c r.objects limit within).adoptable
-      (subst (λ (x : Refusal). DeclinesList c r old x new) is declines);
-}
+within_is_adopted c r old new why limit within declines =
+    go why (declined_may c r old new why within.allowed declines) declines
+  where
+    go : (why : Refusal) → may_refuse why ≡ true → DeclinesList c r old why new → IsNotForTable old why new
+    go refusal.Full may declines =
+        full_is_for_fault c r old new limit.valid (within_fits c r.objects limit within).adoptable declines
+    go refusal.Halted may declines = halts_for_fault c r old new declines
+    go refusal.Spent may declines = declined_spent c r old new declines
+    go refusal.NoMemory may declines = tt
+    go refusal.SegmentsSpent may declines = tt
+    go why may declines = absurd (cc)

@@ -1,5 +1,5 @@
 -- The laws of a limit: each master keeps it, and what a recovery finds within it can be adopted.
-use Rattle.std.specs.Prelude.{◌≡◌, ◌<◌, ◌≤◌, Bool, true, false, List, ◌∷◌, Result, Ok}
+use Rattle.std.specs.Prelude.{◌≡◌, ◌<◌, ◌≤◌, List, ◌∷◌, Result, Ok}
 use Rattle.claims.specs.declared.rebuilt.Rebuilt.{Rebuilt}
 use Rattle.replica.specs.Picture.{FleetState}
 use Rattle.replay.specs.Adopting.{IsAdopted, DeclinesList}
@@ -44,8 +44,8 @@ AdoptedKeepsLimit = (c : Config) (r : Rebuilt) (d : MasterData) → HasLimit c �
 
 -- ---- a recovery
 
--- A log is admitted too by a configuration with the same tablets, segments of the same size and no lower limits, as is
--- that of a next master with more memory.
+-- A configuration with the same tablets, segments of the same size and no lower limits admits a log too. So does that of
+-- a next master that has more memory.
 abbrev pub MoreAdmits : Type 0
 MoreAdmits = (c e : Config) (d : FailData) → e.tablets ≡ c.tablets → e.segment ≡ c.segment
     → c.largest ≤ e.largest → c.most_live ≤ e.most_live → IsAdmitted c d → IsAdmitted e d
@@ -55,26 +55,21 @@ abbrev pub RecoveredFits : Type 0
 RecoveredFits = (c : Config) (d : FailData) (r : Rebuilt) → HasLimit c → IsAdmitted c d → IsRecovered d r
     → IsWithin c r.objects × HasRoomFor c r.objects
 
--- The refusals that an adoption of a table within the limit may end in. All but Full have nothing to do with the table:
--- memory of the process ran out, no number is left for a segment, the fleet is spent, or the master halted.
-abbrev pub may_refuse : Refusal → Bool
-may_refuse refusal.Full = true
-may_refuse refusal.NoMemory = true
-may_refuse refusal.SegmentsSpent = true
-may_refuse refusal.Spent = true
-may_refuse refusal.Halted = true
-may_refuse _ = false
+-- An adoption was refused so, and turned the old fleet into the new one, but the table wasn't the cause. Full, Halted:
+-- a take of it ended in a fault, which may halt the master or cost it memory. Spent: the fleet takes no more. NoMemory:
+-- memory of the process ran out. SegmentsSpent: no number was left for a segment.
+abbrev pub IsNotForTable : FleetState → Refusal → FleetState → Type 0
+IsNotForTable old refusal.Full new = old.faults < new.faults
+IsNotForTable old refusal.Halted new = old.faults < new.faults
+IsNotForTable old refusal.Spent new = new.takes ≡ new.end
+IsNotForTable old refusal.NoMemory new = Unit {0}
+IsNotForTable old refusal.SegmentsSpent new = Unit {0}
+IsNotForTable old _ new = ⊥
 
--- An adoption was refused, and turned the old fleet into the new one. The size of the table wasn't the cause: if it was
--- refused as Full, a take of it ended in a fault, and that may cost memory.
-pub record IsNotForSize (old : FleetState) (why : Refusal) (new : FleetState) : Type 0 where
-  pub known : may_refuse why ≡ true
-  pub full : why ≡ refusal.Full → old.faults < new.faults
-
--- An adoption of a table within the limit is refused for no other cause.
+-- An adoption of a table within the limit is never refused for the table.
 abbrev pub WithinIsAdopted : Type 0
 WithinIsAdopted = (c : Config) (r : Rebuilt) (old new : FleetState) (why : Refusal) → HasLimit c
-    → IsWithin c r.objects → DeclinesList c r old why new → IsNotForSize old why new
+    → IsWithin c r.objects → DeclinesList c r old why new → IsNotForTable old why new
 
 -- ---- lives
 
@@ -85,18 +80,18 @@ LivesKeepLimit = (start last : World) (courses : List Course) (lived : List Live
     → AreLived start courses lived last → KeepsLimit start.knows → KeepsLimit last.knows
 
 -- Say lives are lived from such a start, whatever their steps, the backups that are kept, and the wills and orders of
--- their recoveries. Then no adoption is refused as Full unless a take of it ended in a fault.
+-- their recoveries. Then no adoption is refused for the table: none as Full, unless a take of it ended in a fault.
 abbrev pub RecoveriesFit : Type 0
 RecoveriesFit = (start last : World) (courses : List Course) (lived : List Lived) (course : Course)
     (answers : List (Result StepAnswer Refusal)) (r : Rebuilt) (left new : FleetState) (why : Refusal)
     → KeepsLimit start.knows → AreLived start courses lived last → IsDrillBy last course answers (Ok r) left
-    → DeclinesList (next_config last.knows.config) r left why new → IsNotForSize left why new
+    → DeclinesList (next_config last.knows.config) r left why new → IsNotForTable left why new
 
--- If the row of lives ended for an adoption that was refused, the size of the table wasn't the cause.
+-- If the row of lives ended for an adoption that was refused, the table wasn't the cause.
 abbrev pub EndsFit : {F : Type 0} → (state : F → FleetState) → (last : World) → (rest : List Course) → (e : End F)
     → EndsIn state last rest e → Type 0
 EndsFit state last (c ∷ cs) (the_end.NotAdopted d (not_adopted.Refused why)) ends =
-    IsNotForSize ends.2 why (state d.fleet)
+    IsNotForTable ends.2 why (state d.fleet)
 EndsFit state last rest e ends = Unit {0}
 
 -- The same is true of whatever `run_lives` hands back: the last master keeps its limit, and the row ends so.

@@ -15,8 +15,10 @@ pub fn limits_are_kept()
     ensures adopted { AdoptedKeepsLimit }
 {}
 
-/// From a start that keeps its limit, whatever lives are lived, no adoption is refused as Full unless a take of it
-/// ended in a fault, none is refused as TooBig, and the master that goes on keeps the limit.
+/// From a start that keeps its limit, whatever lives are lived, the master that goes on keeps the limit, and no
+/// adoption is refused for the table. It is refused as Full or as Halted only if a take of it ended in a fault, as
+/// Spent only by a spent fleet, as NoMemory if memory of the process ran out, and as SegmentsSpent if no number was
+/// left.
 pub fn recoveries_fit()
     ensures more { MoreAdmits }
     ensures recovered { RecoveredFits }
