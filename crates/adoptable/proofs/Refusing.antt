@@ -1,4 +1,4 @@
--- What is recovered fits a limit, and an adoption of it is refused as Full only after a fault.
+-- What is recovered fits a limit, and an adoption of it is never refused for the table.
 use Rattle.std.proofs.Common.{◌≡◌, Bool, true, false, List, [], ◌∷◌, ◌++◌, refl, sym, ap, subst, inl, inr}
 use Rattle.std.proofs.Common.{◌∙◌}
 use Rattle.std.specs.Prelude.{not, Option, Some, None, unwrap_or, if◌then◌else◌}

@@ -44,8 +44,8 @@ AdoptedKeepsLimit = (c : Config) (r : Rebuilt) (d : MasterData) → HasLimit c �
 
 -- ---- a recovery
 
--- A configuration with the same tablets, segments of the same size and no lower limits admits a log too. So does that of
--- a next master that has more memory.
+-- A configuration with the same tablets, segments of the same size and no lower limits admits a log too. So does that
+-- of a next master that has more memory.
 abbrev pub MoreAdmits : Type 0
 MoreAdmits = (c e : Config) (d : FailData) → e.tablets ≡ c.tablets → e.segment ≡ c.segment
     → c.largest ≤ e.largest → c.most_live ≤ e.most_live → IsAdmitted c d → IsAdmitted e d
