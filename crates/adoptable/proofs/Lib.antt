@@ -1,0 +1,12 @@
+pub mod Dropped
+pub mod Sums
+pub mod Growing
+pub mod Listing
+pub mod Fitting
+pub mod Applying
+pub mod Ordered
+pub mod Starting
+pub mod Stepping
+pub mod Faulting
+pub mod Refusing
+pub mod Living

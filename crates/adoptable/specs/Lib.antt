@@ -1,0 +1,2 @@
+pub mod Limit
+pub mod Laws
