@@ -1,6 +1,6 @@
 -- What is printed. Each line ends with a line feed, byte 10; byte 32 is a space.
-use Rattle.std.specs.Prelude.{[], ℕ, ◌-◌, ◌*◌, ◌/◌, ◌%◌, List, ◌∷◌, ◌++◌, length, Bool, true, false, codes, Some}
-use Rattle.std.specs.Prelude.{None as nothing}
+use Rattle.std.specs.Prelude.{[], ℕ, ◌-◌, ◌*◌, ◌/◌, ◌%◌, ◌^◌, ◌==◌, if◌then◌else◌, List, ◌∷◌, ◌++◌, length, Bool}
+use Rattle.std.specs.Prelude.{true, false, codes, Option, Some, None as nothing}
 use Rattle.std.specs.List.{flat_map}
 use Rattle.std.specs.Fmt.{decimal, digit_glyph}
 use Rattle.std.specs.Int.{w64, to_be_bytes}
@@ -18,7 +18,8 @@ use Rattle.lines.specs.Grammar.{fate_word}
 use Rattle.lines.specs.Texts.{reason_text}
 use Rattle.recovery.specs.master.master_state.declared.config.Config.{Config}
 use Rattle.recovery.specs.master.master_state.declared.config.ConfigFault.{ConfigFault}
-use Rattle.recovery.specs.master.master_state.declared.config.ConfigFault.TheVariants.{BadBackups, BadSegment, BadBudget}
+use Rattle.recovery.specs.master.master_state.declared.config.ConfigFault.TheVariants.{BadBackups, BadSegment}
+use Rattle.recovery.specs.master.master_state.declared.config.ConfigFault.TheVariants.{BadBudget, BadLive}
 use Rattle.recovery.specs.master.master_state.Names.{refusal_text, config_fault_name}
 use Rattle.tablet_will.specs.declared.part.Part.{Part}
 use Rattle.tablet_will.specs.Parts.{partitions_of}
@@ -75,6 +76,19 @@ cleaned_text survivors head =
 -- the seglets of memory that are counted, and those that are free
 abbrev pub room_text : ℕ → ℕ → List ℕ
 room_text used free = codes "used " ++ decimal used ++ 32 ∷ codes "free " ++ decimal free ++ 10 ∷ []
+
+-- the bytes that puts may make of the live objects; no limit is the greatest number of 64 bits
+abbrev pub limit_text : ℕ → List ℕ
+limit_text most = if most == 2 ^ 64 - 1 then codes "none" else decimal most
+
+-- the bytes of all live objects, and their limit
+abbrev pub live_text : ℕ → ℕ → List ℕ
+live_text bytes most = codes "live " ++ decimal bytes ++ 32 ∷ limit_text most ++ 10 ∷ []
+
+-- the seglets that a new master needs; none are enough if a digest lists too few segments
+abbrev pub needs_text : Option ℕ → List ℕ
+needs_text nothing = codes "needs segments" ++ 10 ∷ []
+needs_text (Some seglets) = codes "needs " ++ decimal seglets ++ 10 ∷ []
 
 abbrev pub state_text : Bool → List ℕ
 state_text true = codes " open\n"
@@ -143,6 +157,9 @@ answer_text (answer.Cleaned survivors head) = cleaned_text survivors head
 answer_text (answer.Counted clients rounds calls) = codes "clients " ++ decimal clients ++ 32 ∷ op_text [] rounds calls
 answer_text (answer.Log ids) = log_text ids
 answer_text (answer.Room used free) = room_text used free
+answer_text (answer.Live bytes most) = live_text bytes most
+answer_text (answer.Needs needed) = needs_text needed
+answer_text (answer.Seglets seglets) = codes "seglets " ++ decimal seglets ++ 10 ∷ []
 answer_text (answer.Will parts limits) = will_text parts
 answer_text (answer.BadLimits limits) = codes "refused BadLimits" ++ 10 ∷ []
 answer_text (answer.Holdings labels) = flat_map label_text labels
@@ -174,12 +191,13 @@ why_line _ _ = []
 abbrev pub fault_lines : Bool → ScriptFault → List ℕ
 fault_lines explains fault = error_line (script_fault_text fault) ++ why_line explains fault
 
--- which options disagree, and by how much
+-- which options disagree, and by how much; a limit of live bytes is named alone
 abbrev pub config_why : Config → ConfigFault → List ℕ
 config_why c BadBackups = codes "--replicas is more than --backups by " ++ decimal (c.replicas - c.backups)
 config_why c BadSegment = codes "--segment is more than a multiple of --seglet by " ++ decimal (c.segment % c.seglet)
 config_why c BadBudget =
     codes "--seglets is less than those of four segments by " ++ decimal (4 * (c.segment / c.seglet) - c.seglets)
+config_why c BadLive = codes "--live is more than a new master can always load"
 config_why c _ = []
 
 -- the second line of a bad configuration, if faults are explained; options can't make it bad in another way
@@ -187,6 +205,7 @@ abbrev pub config_why_line : Bool → Config → ConfigFault → List ℕ
 config_why_line true c BadBackups = error_line (config_why c BadBackups)
 config_why_line true c BadSegment = error_line (config_why c BadSegment)
 config_why_line true c BadBudget = error_line (config_why c BadBudget)
+config_why_line true c BadLive = error_line (config_why c BadLive)
 config_why_line _ _ _ = []
 
 -- the lines of a bad configuration

@@ -7,7 +7,7 @@ ghost use Rattle.answers.specs.Texts.{answer_text, hex_digits, hex_text, object_
 ghost use Rattle.answers.specs.Texts.{part_text, place_text, will_text, take_fault_text};
 ghost use Rattle.recovery.specs.master.cleaner.Passes.{survivor_ids};
 ghost use Rattle.answers.specs.Texts.{asked_text, begun_text, cleaned_text, op_text, log_text, room_text, spaced_text};
-ghost use Rattle.answers.specs.Texts.{label_text, state_text};
+ghost use Rattle.answers.specs.Texts.{label_text, limit_text, live_text, needs_text, state_text};
 ghost use Rattle.answers.specs.Errors.{IsHanded};
 ghost use Rattle.lines.specs.Grammar.{fate_word};
 ghost use Rattle.std.specs.List.{flat_map};
@@ -95,6 +95,14 @@ pub enum Answer {
     Log(Row<u64>),
     /// How many seglets of memory are counted as used, and how many are free.
     Room(u64, u64),
+    /// How many bytes all live objects have together, and how many puts may make them. `u64::MAX` bytes stand for as
+    /// many or more, and as the second number for no limit.
+    Live(u64, u64),
+    /// How many seglets a new master needs to adopt the table that a recovery finds. None if no number is enough: a
+    /// digest lists too few segments.
+    Needs(Option<u64>),
+    /// Masters that start later have this many seglets.
+    Seglets(u64),
     /// The parts of the will that was made and handed to the coordinator, and the limits of its partitions.
     Will(Row<Part>, Limits),
     /// No will was made: by these limits a partition may have no byte, or no object.
@@ -155,6 +163,9 @@ pub fn write_answer<W: Write>(writer: &mut W, answer: &Answer) -> Result<(), Wri
         }
         Answer::Log(ids) => write_log(writer, ids.as_slice()),
         Answer::Room(used, free) => write_room(writer, *used, *free),
+        Answer::Live(bytes, most) => write_live(writer, *bytes, *most),
+        Answer::Needs(needed) => write_needs(writer, *needed),
+        Answer::Seglets(seglets) => write_number(writer, b"seglets ", *seglets, b'\n'),
         Answer::Will(parts, _) => write_will(writer, parts.as_slice()),
         Answer::BadLimits(_) => hand(writer, b"refused BadLimits\n"),
         Answer::Holdings(labels) => write_labels(writer, labels.as_slice()),
@@ -472,6 +483,52 @@ fn room_line(used: u64, free: u64) -> ShortLine
     line.put_number(used);
     line.put(b"used ");
     line
+}
+
+/// Writes the line of the bytes of all live objects, and of their limit.
+#[inline(never)]
+fn write_live<W: Write>(writer: &mut W, bytes: u64, most: u64) -> Result<(), WriteFailed>
+    ensures { IsHanded (W.contents writer.old) (W.contents writer.new) (live_text bytes most) result }
+{
+    hand(writer, live_line(bytes, most).as_slice())
+}
+
+/// The line of the bytes of all live objects, and of their limit.
+#[inline(always)]
+fn live_line(bytes: u64, most: u64) -> ShortLine
+    ensures { result ≡ live_text bytes most }
+{
+    let mut line = ShortLine::new();
+    put_limit(&mut line, most);
+    line.put_space();
+    line.put_number(bytes);
+    line.put(b"live ");
+    line
+}
+
+/// Puts a limit in front of a line: its number, or the word none.
+#[inline(always)]
+fn put_limit(line: &mut ShortLine, most: u64)
+    requires { 20 + length line.old ≤ 240 }
+    ensures put { line.new ≡ limit_text most ++ line.old }
+    ensures len { length line.new ≤ 20 + length line.old }
+{
+    if most == u64::MAX {
+        line.put(b"none");
+    } else {
+        line.put_number(most);
+    }
+}
+
+/// Writes the line of the seglets that a new master needs.
+#[inline(never)]
+fn write_needs<W: Write>(writer: &mut W, needed: Option<u64>) -> Result<(), WriteFailed>
+    ensures { IsHanded (W.contents writer.old) (W.contents writer.new) (needs_text needed) result }
+{
+    match needed {
+        Some(seglets) => write_number(writer, b"needs ", seglets, b'\n'),
+        None => hand(writer, b"needs segments\n"),
+    }
 }
 
 /// Writes the line of the survivors of a pass that began.

@@ -126,7 +126,7 @@ pub fn report_config<W: Write + Drop>(
     2
 }
 
-/// Writes which options disagree, and by how much, if the output explains faults.
+/// Writes which options disagree, if the output explains faults, and by how much, unless it is the limit of live bytes.
 fn write_config_why<W: Write + Drop>(
     errors: &mut ErrorOutput<W>,
     config: &Config,
@@ -167,6 +167,12 @@ fn write_config_why<W: Write + Drop>(
                 Some(by),
             );
         }
+        ConfigFault::BadLive => write_line(
+            errors,
+            "--live is more than a new master can always load",
+            "",
+            None,
+        ),
         _ => {}
     }
 }

@@ -46,4 +46,5 @@ wrong_behind text first rest reason.Unknown is w = absurd w.2
 wrong_behind text first rest (reason.Shape name shape) is w = absurd w.2
 wrong_behind text first rest reason.TooLong is w = absurd w.2
 wrong_behind text first rest reason.TooMany is w = absurd w.2
+wrong_behind text first rest reason.NoLaterMaster is w = absurd w.2
 wrong_behind text first rest (reason.NoBackup last) is w = absurd w.2

@@ -4,8 +4,8 @@ use Rattle.std.proofs.Common.{map, cond, codes, true, false, arith}
 use Rattle.std.specs.Str.Parse.{digits_value}
 use Rattle.std.specs.Fmt.{decimal}
 use Rattle.lines.specs.Grammar.{LineValue, words_of}
-use Rattle.lines.specs.Grammar.{Idle, Put, New, Cas, Get, Del, Compact, Roll, BeginRoll, Push, Log, Room, Hex, Stop}
-use Rattle.lines.specs.Grammar.{Fault, Format, Crash, Lose, Will, Recover, Holdings}
+use Rattle.lines.specs.Grammar.{Idle, Put, New, Cas, Get, Del, Compact, Roll, BeginRoll, Push, Log, Room, LiveBytes, Needs}
+use Rattle.lines.specs.Grammar.{Hex, Stop, Fault, Format, Seglets, Crash, Lose, Will, Recover, Holdings}
 use Rattle.lines.specs.Grammar.{Clean, Begin, Copy, Seal, Free, Clients}
 use Rattle.lines.specs.declared.line.ReplayOrder.{ReplayOrder}
 use Rattle.lines.specs.declared.line.ReplayOrder.TheVariants.{Forward, Reverse, Threads}
@@ -52,10 +52,13 @@ line_of ws =
     (cond (are_named (codes "push") ws) Push
     (cond (are_named (codes "log") ws) Log
     (cond (are_named (codes "room") ws) Room
+    (cond (are_named (codes "live") ws) LiveBytes
+    (cond (are_named (codes "needs") ws) Needs
     (cond (are_named (codes "hex") ws) (Hex (number_at 1 ws))
     (cond (are_named (codes "stop") ws) (Stop (number_at 1 ws))
     (cond (are_named (codes "fault") ws) (Fault (number_at 1 ws) (is_taken ws))
     (cond (are_named (codes "format") ws) Format
+    (cond (are_named (codes "seglets") ws) (Seglets (number_at 1 ws))
     (cond (are_named (codes "crash") ws) Crash
     (cond (are_named (codes "lose") ws) (Lose (number_at 1 ws))
     (cond (are_named (codes "will") ws) Will
@@ -67,7 +70,7 @@ line_of ws =
     (cond (are_named (codes "seal") ws) Seal
     (cond (are_named (codes "free") ws) Free
     (cond (are_named (codes "clients") ws) (Clients (number_at 1 ws) (number_at 2 ws) (number_at 3 ws))
-    Idle)))))))))))))))))))))))))
+    Idle))))))))))))))))))))))))))))
 
 pub line_is : (words : List (List ℕ)) (line : LineValue) → AreWordsOf words line → line_of words ≡ line
 line_is words Idle are = absurd are
@@ -85,6 +88,8 @@ line_is words BeginRoll are = ap line_of are.spelled
 line_is words Push are = ap line_of are.spelled
 line_is words Log are = ap line_of are.spelled
 line_is words Room are = ap line_of are.spelled
+line_is words LiveBytes are = ap line_of are.spelled
+line_is words Needs are = ap line_of are.spelled
 line_is words (Hex n) are = ap line_of are.spelled ∙ ap Hex (value n are.limits)
 line_is words (Stop n) are = ap line_of are.spelled ∙ ap Stop (value n are.limits)
 line_is words (Fault n true) are =
@@ -92,6 +97,7 @@ line_is words (Fault n true) are =
 line_is words (Fault n false) are =
     ap line_of are.spelled ∙ ap (λ m. Fault m false) (value n (omega (arith, are.limits.1)))
 line_is words Format are = ap line_of are.spelled
+line_is words (Seglets n) are = ap line_of are.spelled ∙ ap Seglets (value n (omega (arith, are.limits.1)))
 line_is words Crash are = ap line_of are.spelled
 line_is words (Lose n) are = ap line_of are.spelled ∙ ap Lose (value n are.limits)
 line_is words Will are = ap line_of are.spelled

@@ -8,7 +8,7 @@ use Rattle.std.proofs.lemmas.List.Elements.{All-push, All-nil, All-cons}
 use Rattle.std.proofs.lemmas.List.Splits.{slice_split_at, slice_split_none, join_with_byte-slice_split}
 use Rattle.std.proofs.lemmas.Fmt.{decimal_by_steps}
 use Rattle.lines.specs.Keys.{IsKeyWord, IsWord}
-use Rattle.lines.specs.Grammar.{IsIdle, LineValue, Says, Idle, Del, Lose, shown_line}
+use Rattle.lines.specs.Grammar.{IsIdle, LineValue, Says, Idle, Del, Lose, Seglets, shown_line}
 use Rattle.lines.specs.Cutting.{is_space}
 use Rattle.lines.specs.Words.{AreNumber, AreWordsOf, ReadsWords}
 use Rattle.lines.specs.declared.line.Line.{Line}
@@ -40,6 +40,9 @@ is_del = record { some = search (arith); visible = λ k d below. search (arith) 
 is_lose : IsWord (codes "lose")
 is_lose = record { some = search (arith); visible = λ k d below. search (arith) }
 
+is_seglets : IsWord (codes "seglets")
+is_seglets = record { some = search (arith); visible = λ k d below. search (arith) }
+
 -- what is behind `del`
 pub del_words : (words : List (List ℕ)) (table : ℕ) (key : List ℕ) (behind : List (List ℕ))
     → words ≡ decimal table ∷ behind
@@ -60,6 +63,16 @@ lose_words words backup number = record {
   each = All-cons IsWord (codes "lose") (decimal backup ∷ []) is_lose
       (All-cons IsWord (decimal backup) [] (decimal_is_word backup number.small) (All-nil IsWord));
   limits = number.small;
+}
+
+-- what is behind `seglets`
+pub seglets_words : (words behind : List (List ℕ)) (n : ℕ) → (words ≡ decimal n ∷ behind) × (1 ≤ n) × (n ≤ 4294967296)
+    → behind ≡ [] → AreWordsOf (codes "seglets" ∷ words) (Seglets n)
+seglets_words words behind n read end = record {
+  spelled = ap (λ ws. codes "seglets" ∷ ws) (read.0 ∙ ap (λ ws. decimal n ∷ ws) end);
+  each = All-cons IsWord (codes "seglets") (decimal n ∷ []) is_seglets
+      (All-cons IsWord (decimal n) [] (decimal_is_word n (omega (arith, read.2))) (All-nil IsWord));
+  limits = (read.1, read.2);
 }
 
 -- ---- cutting
@@ -84,7 +97,7 @@ split_joined word (next ∷ rest) each =
 -- a text that is cut into the words of a line is that of the line
 said_of_words : (text : List ℕ) (line : LineValue) → AreWordsOf (slice_split is_space text) line → Says text line
 said_of_words text Idle are = absurd are
-said_of_words text line are = record {
+said_of_words text _ are = record {
   spaced = sym (join_with_byte-slice_split 32 text) ∙ ap (join_with_byte 32) are.spelled;
   words = are.each;
   limits = are.limits;
@@ -94,7 +107,7 @@ said_of_words text line are = record {
 pub cut_or_idle : (text : List ℕ) (line : LineValue) → Says text line → (line ≡ Idle)
     ⊎ AreWordsOf (slice_split is_space text) line
 cut_or_idle text Idle says = inl refl
-cut_or_idle text line says = inr (record {
+cut_or_idle text _ says = inr (record {
   spelled = ap (slice_split is_space) says.spaced ∙ split_joined _ _ says.words;
   each = says.words;
   limits = says.limits;

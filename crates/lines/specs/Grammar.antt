@@ -28,10 +28,13 @@ pub data LineValue : Type 0 where
   Push : LineValue
   Log : LineValue
   Room : LineValue
+  LiveBytes : LineValue
+  Needs : LineValue
   Hex : (segment : ℕ) → LineValue
   Stop : (takes : ℕ) → LineValue
   Fault : (takes : ℕ) (taken : Bool) → LineValue
   Format : LineValue
+  Seglets : (seglets : ℕ) → LineValue
   Crash : LineValue
   Lose : (backup : ℕ) → LineValue
   Will : LineValue
@@ -62,10 +65,13 @@ shown_line line.BeginRoll = BeginRoll
 shown_line line.Push = Push
 shown_line line.Log = Log
 shown_line line.Room = Room
+shown_line line.Live = LiveBytes
+shown_line line.Needs = Needs
 shown_line (line.Hex segment) = Hex segment
 shown_line (line.Stop takes) = Stop takes
 shown_line (line.Fault takes taken) = Fault takes taken
 shown_line line.Format = Format
+shown_line (line.Seglets seglets) = Seglets seglets
 shown_line line.Crash = Crash
 shown_line (line.Lose backup) = Lose backup
 shown_line line.Will = Will
@@ -105,10 +111,13 @@ words_of BeginRoll = codes "beginroll" ∷ []
 words_of Push = codes "push" ∷ []
 words_of Log = codes "log" ∷ []
 words_of Room = codes "room" ∷ []
+words_of LiveBytes = codes "live" ∷ []
+words_of Needs = codes "needs" ∷ []
 words_of (Hex segment) = codes "hex" ∷ decimal segment ∷ []
 words_of (Stop takes) = codes "stop" ∷ decimal takes ∷ []
 words_of (Fault takes taken) = codes "fault" ∷ decimal takes ∷ fate_word taken ∷ []
 words_of Format = codes "format" ∷ codes "2" ∷ []
+words_of (Seglets seglets) = codes "seglets" ∷ decimal seglets ∷ []
 words_of Crash = codes "crash" ∷ []
 words_of (Lose backup) = codes "lose" ∷ decimal backup ∷ []
 words_of Will = codes "will" ∷ []
@@ -132,7 +141,8 @@ IsOrder Reverse = Unit {0}
 IsOrder (Threads workers) = IsWithin 1 64 workers
 
 -- The numbers of the line have 64 bits, its key is a word of at most 1,024 bytes, and a list of segments names one or
--- more. There are 1 to 63 clients, and 1 to 1,000,000 rounds, and the takes to a fault count from 1.
+-- more. There are 1 to 63 clients, 1 to 1,000,000 rounds, and 1 to 4,294,967,296 seglets. The takes to a fault count
+-- from 1.
 abbrev pub IsLine : LineValue → Type 0
 IsLine Idle = Unit {0}
 IsLine (Put table key value) = (table < 2 ^ 64) × IsKeyWord key
@@ -146,10 +156,13 @@ IsLine BeginRoll = Unit {0}
 IsLine Push = Unit {0}
 IsLine Log = Unit {0}
 IsLine Room = Unit {0}
+IsLine LiveBytes = Unit {0}
+IsLine Needs = Unit {0}
 IsLine (Hex segment) = segment < 2 ^ 64
 IsLine (Stop takes) = takes < 2 ^ 64
 IsLine (Fault takes taken) = IsWithin 1 (2 ^ 64 - 1) takes
 IsLine Format = Unit {0}
+IsLine (Seglets seglets) = IsWithin 1 4294967296 seglets
 IsLine Crash = Unit {0}
 IsLine (Lose backup) = backup < 2 ^ 64
 IsLine Will = Unit {0}

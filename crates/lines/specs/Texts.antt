@@ -25,6 +25,7 @@ shape_text shape.Order = codes " has nothing behind it, or reverse, or threads a
 shape_text shape.Alone = codes " has nothing behind it"
 shape_text shape.Clients = codes " has a number of clients (1 to 63), of rounds (1 to 1000000) and of passes"
 shape_text shape.Format = codes " has the word 2"
+shape_text shape.Seglets = codes " has a number of seglets (1 to 4294967296)"
 
 abbrev pub reason_text : Reason → List ℕ
 reason_text reason.CarriageReturn = codes "a carriage return ends the line"
@@ -37,4 +38,5 @@ reason_text reason.Number = codes "a number has digits, no sign and no leading z
 reason_text reason.LongKey = codes "a key has at most 1024 bytes"
 reason_text reason.TooLong = codes "a line has at most 4096 bytes"
 reason_text reason.TooMany = codes "a script has at most 2^64 - 2 lines"
+reason_text reason.NoLaterMaster = codes "masters that start later need memory for four segments, and sizes that --live fits"
 reason_text (reason.NoBackup count) = codes "backups count from 0, and there are " ++ decimal count

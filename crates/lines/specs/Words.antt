@@ -46,6 +46,7 @@ pub record IsNoLongName (word : List ℕ) : Type 0 where
   pub recover : word ≢ codes "recover"
   pub clients : word ≢ codes "clients"
   pub format : word ≢ codes "format"
+  pub seglets : word ≢ codes "seglets"
 
 -- the words spell the line
 pub record Spell (words : List (List ℕ)) (line : LineValue) : Type 0 where

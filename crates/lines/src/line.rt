@@ -35,6 +35,10 @@ pub enum Line<'a> {
     Log,
     /// Show how many seglets of memory are counted, and how many are free.
     Room,
+    /// Show the bytes of the live objects, and their limit.
+    Live,
+    /// Show how many seglets a new master needs for the table that a recovery would find now.
+    Needs,
     /// Show the bytes of a segment.
     Hex {
         segment: u64,
@@ -50,6 +54,10 @@ pub enum Line<'a> {
     },
     /// Let masters that start later write format 2.
     Format,
+    /// Let masters that start later have this many seglets of memory: 1 to 4,294,967,296.
+    Seglets {
+        seglets: u64,
+    },
     /// Drop the master.
     Crash,
     /// Take from a backup all that it holds.

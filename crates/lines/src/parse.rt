@@ -21,6 +21,9 @@ const MAX_ROUNDS: u64 = 1_000_000;
 /// The most workers of a recovery.
 const MAX_WORKERS: u64 = 64;
 
+/// The most seglets of a master.
+const MAX_SEGLETS: u64 = 4_294_967_296;
+
 /// Parses the text of a line, without its line feed. With Err the line is bad for this reason.
 ///
 /// It takes no memory: a key and a value are parts of the text. It doesn't look at the length of the text, which
@@ -67,6 +70,7 @@ fn parse_words(mut words: Words<'_>) -> Option<Line<'_>>
         name if is(name, "recover") => recover(words),
         name if is(name, "clients") => clients(words),
         name if is(name, "format") => format(words),
+        name if is(name, "seglets") => seglets(words),
         name => only_name(name, words),
     }
 }
@@ -300,6 +304,16 @@ fn format(mut words: Words<'_>) -> Option<Line<'_>>
     is_two.then_some(Line::Format)
 }
 
+/// The word behind `seglets` as how many seglets there are.
+#[inline(never)]
+fn seglets(mut words: Words<'_>) -> Option<Line<'_>>
+    ensures { ReadsWords (codes "seglets" ∷ words.entry) result }
+{
+    let seglets = words.count(MAX_SEGLETS)?;
+    words.end()?;
+    Some(Line::Seglets { seglets })
+}
+
 /// The words as one number.
 fn only_number(mut words: Words<'_>) -> Option<u64>
     ensures sound { IfSome result (λ n. AreNumber words.entry n) }
@@ -323,6 +337,8 @@ fn only_name<'a>(name: &[u8], words: Words<'a>) -> Option<Line<'a>>
         name if is(name, "push") => Some(Line::Push),
         name if is(name, "log") => Some(Line::Log),
         name if is(name, "room") => Some(Line::Room),
+        name if is(name, "live") => Some(Line::Live),
+        name if is(name, "needs") => Some(Line::Needs),
         name if is(name, "crash") => Some(Line::Crash),
         name if is(name, "will") => Some(Line::Will),
         name if is(name, "holdings") => Some(Line::Holdings),

@@ -30,6 +30,8 @@ pub enum Reason {
     TooMany,
     /// The line names a backup that isn't there. The fleet has this many, numbered from 0.
     NoBackup(u64),
+    /// No master could begin with what the line sets for masters that start later.
+    NoLaterMaster,
 }
 
 /// The words that a command has behind its name.
@@ -47,6 +49,7 @@ pub enum Shape {
     Alone,
     Clients,
     Format,
+    Seglets,
 }
 
 impl Shape {
@@ -71,6 +74,7 @@ impl Shape {
                 " has a number of clients (1 to 63), of rounds (1 to 1000000) and of passes"
             }
             Shape::Format => " has the word 2",
+            Shape::Seglets => " has a number of seglets (1 to 4294967296)",
         }
     }
 }
@@ -97,6 +101,9 @@ impl Reason {
             Reason::LongKey => "a key has at most 1024 bytes",
             Reason::TooLong => "a line has at most 4096 bytes",
             Reason::TooMany => "a script has at most 2^64 - 2 lines",
+            Reason::NoLaterMaster => {
+                "masters that start later need memory for four segments, and sizes that --live fits"
+            }
             Reason::NoBackup(count) => return (
                 "backups count from 0, and there are ",
                 "",

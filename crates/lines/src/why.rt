@@ -20,10 +20,13 @@ const COMMANDS: &[(&str, Shape)] = &[
     ("push", Shape::Alone),
     ("log", Shape::Alone),
     ("room", Shape::Alone),
+    ("live", Shape::Alone),
+    ("needs", Shape::Alone),
     ("hex", Shape::Segment),
     ("stop", Shape::Ops),
     ("fault", Shape::Fault),
     ("format", Shape::Format),
+    ("seglets", Shape::Seglets),
     ("crash", Shape::Alone),
     ("lose", Shape::Backup),
     ("will", Shape::Alone),
@@ -117,7 +120,9 @@ fn wrong_word(rest: Option<&[u8]>, shape: Shape) -> Option<Reason>
             ],
         ),
         Shape::Key => wrong_of(rest, &[WordKind::Number, WordKind::Key]),
-        Shape::Segment | Shape::Ops | Shape::Backup => wrong_of(rest, &[WordKind::Number]),
+        Shape::Segment | Shape::Ops | Shape::Backup | Shape::Seglets => {
+            wrong_of(rest, &[WordKind::Number])
+        }
         Shape::Fault => wrong_of(rest, &[WordKind::Number, WordKind::Any]),
         Shape::Segments => wrong_number(rest),
         Shape::Clients => wrong_of(

@@ -3,7 +3,8 @@ pub mod Recovered
 pub mod Retired
 pub mod Halted
 pub mod HowItEnds
-pub mod Later
+pub mod NextConfig
+pub mod WhatIsNeeded
 pub mod NextLife
 pub use Rattle.node.proofs.of_driving
 pub use Rattle.node.proofs as of_node

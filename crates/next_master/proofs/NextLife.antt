@@ -1,5 +1,5 @@
 -- Recoveries, told of the life that ends and of the one that begins.
-use Rattle.std.proofs.Common.{[], ◌≡◌, ℕ, suc, ◌≤◌, max, Bool, List, ◌∷◌, length, inl, inr, refl, sym, ap, subst, ◌∙◌}
+use Rattle.std.proofs.Common.{[], ◌≡◌, ℕ, suc, ◌≤◌, max, List, ◌∷◌, length, inl, inr, refl, sym, ap, subst, ◌∙◌}
 use Rattle.std.proofs.Common.{arith}
 use Rattle.std.proofs.lemmas.List.{append-nil}
 use Rattle.std.proofs.lemmas.Option.{same_Some}
@@ -21,7 +21,6 @@ use Rattle.node.specs.master.World.{MasterValue, World, world}
 use Rattle.node.specs.master.master_state.declared.config.Config.{Config}
 use Rattle.node.specs.master.master_state.declared.step.Refusal.{Refusal}
 use Rattle.node.specs.master.master_state.declared.step.Refusal.TheVariants as refusal
-use Rattle.node.specs.master.master_state.Config.{config_fault}
 use Rattle.node.specs.master.master_state.Data.{MasterData}
 use Rattle.node.specs.answers.declared.answer.Answer.{Answer}
 use Rattle.node.specs.answers.declared.answer.Answer.TheVariants as answer
@@ -37,7 +36,8 @@ use Rattle.node.specs.replay.driving.Served.{IsSpent}
 use Rattle.node.specs.Served.{AnswersLine, IsLeftOf, IsNodeAt, IsOf, Refuses, fleet_of, life_of, refusal_answer}
 use Rattle.next_master.specs.Succession.{EndsRecovery}
 use Rattle.node.specs.Told.{HoldsLeft, IsUnadopted, Tells}
-use Rattle.next_master.proofs.Later.{later_checked, next_config_is}
+use Rattle.next_master.specs.declared.later.Later.{Later}
+use Rattle.next_master.proofs.NextConfig.{next_config_is}
 use Rattle.next_master.proofs.HowItEnds.{after_backups, after_least, after_picture, down_final, fleet_held}
 use Rattle.node.proofs.Standing.{legal_of}
 
@@ -133,22 +133,14 @@ not_of_cut d new a told is = subst (IsCut told.0) is told.3
 
 -- ---- a recovery of what is left on this fleet
 
-module _ (fleet : MemoryFleet) (options : Options) (lists : Bool) (master : ℕ) (r : Rebuilt) (config : Config)
-    (found : IsFoundIn fleet options lists master r config)
+module _ (fleet : MemoryFleet) (options : Options) (later : Later) (master : ℕ) (r : Rebuilt) (config : Config)
+    (found : IsFoundIn fleet options later master r config)
     (old : Node) (down : old ≡ Down fleet) (order : ReplayOrder) where
   was : (d : MasterData) (at : Position) → IsNodeAt old (config_of options master) d at
       → IsNodeAt (Down fleet) (config_of options master) d at
   was d at s = subst (λ (n : Node). IsNodeAt n (config_of options master) d at) down s
 
-  -- what the adoption needs of the fleet and the configuration
-  pub is_checked : (d : MasterData) (at : Position) → IsNodeAt old (config_of options master) d at
-      → config_fault config ≡ None
-  is_checked d at s =
-      let valid = (was d at s).node_of.2.valid in
-      let old_one : config_fault (config_of options master) ≡ None =
-      ap config_fault (sym s.configured) ∙ valid.config in
-      ap config_fault found.configured ∙ later_checked lists options master config.master old_one
-
+  -- what the adoption needs of the fleet
   pub has_backups : (d : MasterData) (at : Position) → IsNodeAt old (config_of options master) d at
       → config.backups ≤ (fleet_state fleet).backups
   has_backups d at s =
@@ -203,7 +195,7 @@ module _ (fleet : MemoryFleet) (options : Options) (lists : Bool) (master : ℕ)
                 r,
                 table.2,
                 config,
-                next_config_is lists options master config found.configured found.greater,
+                next_config_is later options master config found.configured found.greater,
                 (fleet_state fleet, refused.left, holds, refused.declines),
               ),
               refl,
@@ -213,7 +205,7 @@ module _ (fleet : MemoryFleet) (options : Options) (lists : Bool) (master : ℕ)
   -- it is adopted
   module _ (e : MasterData) (adopted : IsAdopted config r e) where
     abbrev pub next : Config
-    next = config_of (later_options lists options) config.master
+    next = config_of (later_options later options) config.master
 
     configured : e.config ≡ next
     configured = adopted.config ∙ found.configured
@@ -242,7 +234,7 @@ module _ (fleet : MemoryFleet) (options : Options) (lists : Bool) (master : ℕ)
             was = table.1;
             table = r;
             found = table.2;
-            config = next_config_is lists options master next refl found.greater;
+            config = next_config_is later options master next refl found.greater;
             opening = adopted.opening;
             made = refl;
             acknowledged = refl;

@@ -5,7 +5,7 @@ use Rattle.std.proofs.lemmas.List.{take_all}
 use Rattle.versioned_map.specs.declared.command.Record.{Record}
 use Rattle.backup.specs.State.{fleet_state}
 use Rattle.backup.specs.declared.fleet.MemoryFleet.{MemoryFleet}
-use Rattle.lines.specs.Grammar.{Recover}
+use Rattle.lines.specs.Grammar.{LineValue}
 use Rattle.lines.specs.declared.line.ReplayOrder.{ReplayOrder}
 use Rattle.lines.specs.declared.line.ReplayOrder.TheVariants.{Forward, Reverse, Threads}
 use Rattle.entry.specs.declared.entry.Entry.{Entry}
@@ -41,7 +41,7 @@ use Rattle.node.specs.declared.node.Node.TheVariants.{Down}
 use Rattle.next_master.specs.Recoveries.{order_named}
 use Rattle.node.specs.Lives.{Left, is_left, IsHomeOf, Position}
 use Rattle.node.specs.Served.{IsLeftOf, IsNodeAt, life_of}
-use Rattle.node.specs.Told.{IsRecoveredAt, IsFoundAt, NamesLossOf, Tells}
+use Rattle.node.specs.Told.{AsksTable, IsRecoveredAt, IsFoundAt, NamesLossOf, Tells}
 use Rattle.node.proofs.WhatIsLeft.{held_of_left, left_at}
 
 -- the inventory of what is left of a picture shows it
@@ -177,15 +177,15 @@ module _ (node : Node) (fleet : MemoryFleet) (config : Config) (d : MasterData) 
     pub loss_told : (e : RecoveryFault) (will : List Part) (order : GroupOrder)
         → IsSomeLoss hs least master will order e
         → IsRefusedFrom hs least master will order e → Covers config.tablets will
-        → NamesGroups hs least master will order → (asked : ReplayOrder)
-        → Tells config (life_of d) at (Recover asked) (answer.NotRecovered e) at
-    loss_told e will order refuses from covers names asked =
+        → NamesGroups hs least master will order → (line : LineValue) → AsksTable line
+        → Tells config (life_of d) at line (answer.NotRecovered e) at
+    loss_told e will order refuses from covers names line asks =
         let here : Covers d.config.tablets will = subst (λ (k : Config). Covers k.tablets will)
         (sym s.configured) covers in
         let loss =
         refuses (log_of d) left.0.shown (is_left left.0.lost) opened sound newest of_master same_least
         shows here names in (
-          (asked, refl),
+          asks,
           left.0,
           left.1,
           (
@@ -202,9 +202,9 @@ module _ (node : Node) (fleet : MemoryFleet) (config : Config) (d : MasterData) 
         )
 
   -- a refusal for memory names no loss
-  pub want_told : (order : ReplayOrder) → Tells config (life_of d) at (Recover order)
-      (answer.NotRecovered (fault.Plan plan_fault.NoMemory)) at
-  want_told order = ((order, refl), left.0, left.1, (inr tt, inl tt, λ both. tt), refl)
+  pub want_told : (line : LineValue) → AsksTable line
+      → Tells config (life_of d) at line (answer.NotRecovered (fault.Plan plan_fault.NoMemory)) at
+  want_told line asks = (asks, left.0, left.1, (inr tt, inl tt, λ both. tt), refl)
 
 -- ---- orders
 

@@ -1,9 +1,12 @@
 -- The configuration that the command line stands for.
-use Rattle.std.specs.Prelude.{[], ℕ, zero, suc, ◌-◌, ◌^◌, List, ◌∷◌, ◌++◌, map, Bool, true, false}
+use Rattle.std.specs.Prelude.{[], ◌≡◌, ◌≤◌, ℕ, zero, suc, ◌-◌, ◌^◌, List, ◌∷◌, ◌++◌, map, Bool, true, false, Option}
+use Rattle.std.specs.Prelude.{Some, None}
 use Rattle.entry.specs.declared.tablet.Tablet.{Tablet}
 use Rattle.tablet_will.specs.declared.part.Part.{Part}
 use Rattle.command_line.specs.declared.settings.Options.{Options}
 use Rattle.node.specs.master.master_state.declared.config.Config.{Config}
+use Rattle.node.specs.master.master_state.Config.{config_fault}
+use Rattle.next_master.specs.declared.later.Later.{Later}
 use Rattle.places.specs.Secrets.{fast_hasher}
 
 -- a table as one tablet
@@ -38,9 +41,32 @@ abbrev pub later_format : Bool → ℕ → ℕ
 later_format true format = 2
 later_format false format = format
 
+-- the seglets of masters that start later: once a number was asked for, they have that many
+abbrev pub later_seglets : Option ℕ → ℕ → ℕ
+later_seglets (Some later) seglets = later
+later_seglets None seglets = seglets
+
+-- nothing was asked for
+abbrev pub no_later : Later
+no_later = record { lists_lengths = false; seglets = None }
+
 -- the options of masters that start later
-abbrev pub later_options : Bool → Options → Options
-later_options lists o = record o { format = later_format lists o.format }
+abbrev pub later_options : Later → Options → Options
+later_options later o = record o {
+  format = later_format later.lists_lengths o.format;
+  seglets = later_seglets later.seglets o.seglets;
+}
+
+-- masters that start later are within their limits
+abbrev pub MayBegin : Later → Options → Type 0
+MayBegin later o = config_fault (config_of (later_options later o) 1) ≡ None
+
+-- the sizes of segments and seglets are within their limits
+pub record AreSizes (o : Options) : Type 0 where
+  pub seglet : 64 ≤ o.seglet
+  pub most_seglet : o.seglet ≤ 65536
+  pub segment : 512 ≤ o.segment
+  pub most_segment : o.segment ≤ 8388608
 
 -- the will that is one partition over all tablets
 abbrev pub one_partition : List Tablet → List Part

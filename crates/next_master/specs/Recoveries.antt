@@ -1,10 +1,10 @@
 -- What a recovery makes of a node, by how it ends.
-use Rattle.std.specs.Prelude.{[], ◌≡◌, ◌⊎◌, ℕ, ◌<◌, max, List, Bool, true, false, Option, Some, None, Result, Ok, Err}
+use Rattle.std.specs.Prelude.{[], ◌≡◌, ◌⊎◌, ℕ, ◌<◌, max, List, true, false, Option, Some, None, Result, Ok, Err}
 use Rattle.std.specs.Option.{option_map}
 use Rattle.backup.specs.State.{fleet_state}
 use Rattle.backup.specs.declared.fleet.MemoryFleet.{MemoryFleet}
 use Rattle.command_line.specs.declared.settings.Options.{Options}
-use Rattle.lines.specs.Grammar.{Recover}
+use Rattle.lines.specs.Grammar.{LineValue, Recover}
 use Rattle.lines.specs.declared.line.ReplayOrder.{ReplayOrder}
 use Rattle.lines.specs.declared.line.ReplayOrder.TheVariants as replay_order
 use Rattle.node.specs.master.Registry.{IsUnraised}
@@ -34,12 +34,14 @@ use Rattle.node.specs.answers.declared.answer.Answer.TheVariants as answers
 use Rattle.node.specs.declared.node.Node.{Node}
 use Rattle.node.specs.declared.node.Node.TheVariants.{Up, Down}
 use Rattle.next_master.specs.Configuration.{config_of, later_options}
+use Rattle.next_master.specs.declared.later.Later.{Later}
+use Rattle.next_master.specs.declared.recovering.Request.{Request}
 use Rattle.node.specs.Lives.{Left, left_now, Position}
 use Rattle.next_master.specs.Numbers.{IsNextNumber}
 use Rattle.node.specs.replay.driving.Served.{IsSpent}
 use Rattle.node.specs.Served.{AnswersLine, IsNodeAt, IsOf, fleet_of, is_up, life_of, refusal_answer, world_of}
 use Rattle.next_master.specs.Succession.{Standing, Succeeds}
-use Rattle.node.specs.Told.{IsFoundAt, Tells}
+use Rattle.node.specs.Told.{AsksTable, IsFoundAt, NeedsFor, Tells}
 
 -- ---- what is asked
 
@@ -61,6 +63,10 @@ order_named replay_order.Forward = group_order.Forward
 order_named replay_order.Reverse = group_order.Reverse
 order_named (replay_order.Threads workers) = group_order.Forward
 
+-- what is asked for by a request, a will and the order that a line names
+abbrev pub asked_for : Request → List Part → ReplayOrder → Asked
+asked_for request will order = ask request.master request.used will (order_named order)
+
 -- what such a recovery rebuilds from what a fleet holds, or why it rebuilds nothing
 abbrev pub Rebuilds : FleetState → Asked → Result Rebuilt RecoveryFault → Type 0
 Rebuilds f a result = IsOfHeld (shown_of f a.master) a.master a.will a.order result
@@ -78,18 +84,19 @@ FindsTable fleet config r = (d : MasterData) (at : Position) → IsNodeAt (Down 
 
 -- A table was found, and a configuration for a master with a greater number, by the options of later masters. The
 -- fleet holds no replica of this new master, and any of its heads may be used.
-pub record IsFoundIn (fleet : MemoryFleet) (options : Options) (lists : Bool) (master : ℕ) (r : Rebuilt)
+pub record IsFoundIn (fleet : MemoryFleet) (options : Options) (later : Later) (master : ℕ) (r : Rebuilt)
     (config : Config) : Type 0 where
   pub table : FindsTable fleet (config_of options master) r
-  pub configured : config ≡ config_of (later_options lists options) config.master
+  pub configured : config ≡ config_of (later_options later options) config.master
   pub greater : master < config.master
   pub unused : (b s : ℕ) → (fleet_state fleet).picture b config.master s ≡ None
   pub least : IsUnraised config.master (fleet_state fleet)
 
--- whatever a master of this configuration left on the fleet, this answer tells why nothing was found
+-- Whatever a master of this configuration left on the fleet, this answer tells why nothing was found. It is one for any
+-- line that asks for a table.
 abbrev pub FindsNone : MemoryFleet → Config → Answer → Type 0
-FindsNone fleet config answer = (order : ReplayOrder) (d : MasterData) (at : Position)
-    → IsNodeAt (Down fleet) config d at → Tells config (life_of d) at (Recover order) answer at
+FindsNone fleet config answer = (line : LineValue) (d : MasterData) (at : Position) → AsksTable line
+    → IsNodeAt (Down fleet) config d at → Tells config (life_of d) at line answer at
 
 -- why no master is to be made: nothing is rebuilt, or there is no number for the next master
 abbrev pub FindsNothing : FleetState → Asked → Answer → Type 0
@@ -97,11 +104,26 @@ FindsNothing f a (NotRecovered fault) = Rebuilds f a (Err fault)
 FindsNothing f a NumbersSpent = (table : Rebuilt) × Rebuilds f a (Ok table)
 FindsNothing f a answer = ⊥
 
--- ---- an adoption
+-- ---- what a new master needs
 
 -- the node has no master, and this fleet
 abbrev pub IsDownOn : FleetState → Node → Type 0
 IsDownOn f node = (is_up node ≡ false) × (fleet_of node ≡ Some f)
+
+-- What is answered of a table that a recovery of this fleet would find: what a new master with the next number and
+-- these options needs to adopt it, or why no table is found.
+abbrev pub NeedsOn : FleetState → Options → Asked → Answer → Type 0
+NeedsOn f options a (answers.Needs needed) = (table : Rebuilt) × Rebuilds f a (Ok table)
+    × (number : ℕ) × IsNextNumber (max a.master a.used) f.picture number
+    × NeedsFor (config_of options number) table needed
+NeedsOn f options a answer = FindsNothing f a answer
+
+-- Of a node with a master nothing is answered. Otherwise the answer is that of the node's fleet.
+abbrev pub ShowsNeeds : Node → Options → Asked → Answer → Type 0
+ShowsNeeds node options a answer = ((is_up node ≡ true) × (answer ≡ answers.Up))
+    ⊎ ((f : FleetState) × IsDownOn f node × NeedsOn f options a answer)
+
+-- ---- an adoption
 
 -- a fleet after an answer: Stopped lifts its limit, and any other leaves it as it is
 abbrev pub after_answer : Answer → FleetState → FleetState
@@ -217,7 +239,7 @@ BeginsNext old config order new next answer = (d : MasterData) (at : Position) �
 
 -- What a recovery makes of a node, and of the number of the master that a later recovery is for. Either the life of
 -- the master goes on, or the next life begins, by the options of later masters.
-abbrev pub Recovers : Node → Options → Bool → ℕ → ReplayOrder → Node → Answer → ℕ → Type 0
-Recovers old options lists master order new answer number =
+abbrev pub Recovers : Node → Options → Later → ℕ → ReplayOrder → Node → Answer → ℕ → Type 0
+Recovers old options later master order new answer number =
     ((number ≡ master) × AnswersLine old (config_of options master) (Recover order) new answer)
-    ⊎ BeginsNext old (config_of options master) order new (config_of (later_options lists options) number) answer
+    ⊎ BeginsNext old (config_of options master) order new (config_of (later_options later options) number) answer

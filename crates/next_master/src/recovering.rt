@@ -12,15 +12,16 @@ ghost use Rattle.node.specs.declared.node.Node.TheVariants.{Up, Down};
 ghost use Rattle.node.specs.recovery.Orders.{Covers};
 ghost use Rattle.node.specs.recovery.Recovered.{IsRebuiltFrom, IsRefusedFrom, IsSomeLoss, IsSomePrefix};
 ghost use Rattle.lines.specs.Grammar.{IsOrder};
-ghost use Rattle.next_master.specs.Configuration.{config_of, later_options, tables_to};
+ghost use Rattle.next_master.specs.Configuration.{config_of, later_options, tables_to, MayBegin};
 ghost use Rattle.next_master.specs.Numbers.{greatest_of, AreSpent, IsNextNumber, Renumbers};
 ghost use Rattle.next_master.specs.Recoveries.{Adopts, Ends, EndsFreeing, FindsNone, FindsNothing, IsFoundIn};
-ghost use Rattle.next_master.specs.Recoveries.{Rebuilds, Recovers, RetiresOthers, ask, order_named};
+ghost use Rattle.next_master.specs.Recoveries.{Rebuilds, Recovers, RetiresOthers, asked_for, order_named};
 ghost use Rattle.node.specs.Served.{IsNodeAt, IsOf, world_of};
 ghost use Rattle.node.specs.Served.{fleet_of, is_up};
 ghost use Rattle.node.specs.Lives.{Position};
 
-use crate::setup::{configuration, later_options};
+use crate::later::{Later, later_options};
+use crate::setup::configuration;
 use backup::MemoryFleet;
 use command_line::Options;
 use entry::NoMemory;
@@ -38,6 +39,19 @@ use std::sync::Wait;
 use std::thread::Threads;
 use tablet_will::Will;
 
+/// Whose log is recovered, and what the master has that adopts it.
+#[derive(Clone, Copy)]
+pub struct Request {
+    /// The options of the master whose log is recovered.
+    pub options: Options,
+    /// What the next master has in place of these options.
+    pub later: Later,
+    /// The number of the master whose log is recovered.
+    pub master: u64,
+    /// The greatest number that a master had, or was to have. Any head of a master with a greater number may be used.
+    pub used: u64,
+}
+
 /// What came of a recovery.
 #[derive(Drop)]
 pub struct Recovery {
@@ -50,9 +64,9 @@ pub struct Recovery {
 
 /// The table of a master, and the configuration of the master that is to adopt it.
 #[derive(Drop)]
-struct Inheritance {
-    rebuilt: Rebuilt,
-    config: Config,
+pub(crate) struct Inheritance {
+    pub(crate) rebuilt: Rebuilt,
+    pub(crate) config: Config,
 }
 
 /// The least number above `master` and above the masters of all replicas in the inventory. None if there is none. It
@@ -122,34 +136,30 @@ fn recover_by<H: Threads + Wait + Sync>(
     }
 }
 
-/// Recovers the table of the master with this number, and chooses the next master's number, which is above all that
+/// Recovers the table of the master that is asked for, and chooses the next master's number, which is above all that
 /// were used. The next master has the options of later masters.
-fn find_inheritance<H: Threads + Wait + Sync>(
+pub(crate) fn find_inheritance<H: Threads + Wait + Sync>(
     rt: &H,
     alloc: Global,
     fleet: &MemoryFleet,
-    options: &Options,
-    lists_lengths: bool,
-    master: u64,
-    used: u64,
+    request: Request,
     will: &Will,
     order: ReplayOrder,
 ) -> Result<Inheritance, Answer>
-    requires covers { Covers (tables_to options.now.tables) will.now }
+    requires covers { Covers (tables_to request.options.tables) will.now }
     requires order { IsOrder order }
-    requires later { AreUnraisedAbove used (fleet_state fleet.now) }
+    requires later { AreUnraisedAbove request.used (fleet_state fleet.now) }
     ensures found { IfOk result (λ found.
-        IsFoundIn fleet.now options.now lists_lengths master found.rebuilt found.config) }
-    ensures fresh { IfOk result (λ found. used < found.config.master) }
+        IsFoundIn fleet.now request.options request.later request.master found.rebuilt found.config) }
+    ensures fresh { IfOk result (λ found. request.used < found.config.master) }
     ensures least { IfOk result (λ found.
-        IsNextNumber (max master used) (fleet_state fleet.now).picture found.config.master) }
-    ensures none { IfErr result (FindsNone fleet.now (config_of options.now master)) }
+        IsNextNumber (max request.master request.used) (fleet_state fleet.now).picture found.config.master) }
+    ensures none { IfErr result (FindsNone fleet.now (config_of request.options request.master)) }
     ensures rebuilt { IfOk result (λ found.
-        Rebuilds (fleet_state fleet.now) (ask master used will.now (order_named order)) (Ok found.rebuilt)) }
-    ensures nothing { IfErr result
-        (FindsNothing (fleet_state fleet.now) (ask master used will.now (order_named order))) }
+        Rebuilds (fleet_state fleet.now) (asked_for request will.now order) (Ok found.rebuilt)) }
+    ensures nothing { IfErr result (FindsNothing (fleet_state fleet.now) (asked_for request will.now order)) }
     ensures spent { IfErr result (λ a.
-        a ≡ Answer.NumbersSpent → AreSpent (max master used) (fleet_state fleet.now).picture) }
+        a ≡ Answer.NumbersSpent → AreSpent (max request.master request.used) (fleet_state fleet.now).picture) }
 {
     let inventory = match fleet.inventory(alloc) {
         Ok(inventory) => inventory,
@@ -159,76 +169,68 @@ fn find_inheritance<H: Threads + Wait + Sync>(
         rt,
         alloc,
         &inventory,
-        master,
-        fleet.least(master),
+        request.master,
+        fleet.least(request.master),
         will,
         order,
     ) {
         Ok(rebuilt) => rebuilt,
         Err(fault) => return Err(Answer::NotRecovered(fault)),
     };
-    let greatest = master.max(used);
+    let greatest = request.master.max(request.used);
     let Some(number) = next_number(inventory.as_slice(), greatest) else {
         return Err(Answer::NumbersSpent);
     };
-    let later = later_options(options, lists_lengths);
+    let later = later_options(&request.options, &request.later);
     match configuration(alloc, &later, number) {
         Ok(config) => Ok(Inheritance { rebuilt, config }),
         Err(NoMemory) => Err(want()),
     }
 }
 
-/// Recovers the table of the master with this number, has the next master adopt it, and frees the replicas of all
-/// other masters. The next master has the options of later masters. The will has to cover the tablets of the options.
-/// Any head of a master with a number above `used` may be used.
+/// Recovers the table of the master that is asked for, has the next master adopt it, and frees the replicas of all
+/// other masters. The next master has the options of later masters, which have to be within their limits. The will has
+/// to cover the tablets of the options.
 pub fn recover_node<H: Threads + Wait + Sync>(
     rt: &H,
     alloc: Global,
     node: &mut Node,
-    options: &Options,
-    lists_lengths: bool,
-    master: u64,
-    used: u64,
+    request: Request,
     will: &Will,
     order: ReplayOrder,
 ) -> Recovery
-    requires covers { Covers (tables_to options.now.tables) will.now }
+    requires covers { Covers (tables_to request.options.tables) will.now }
     requires order { IsOrder order }
-    requires stands { (d : MasterData) × (at : Position) × IsNodeAt node.old (config_of options.now master) d at }
-    requires later { IfSome (fleet_of node.old) (AreUnraisedAbove used) }
-    ensures recovers { Recovers node.old options.now lists_lengths master order node.new result.answer result.master }
-    ensures ends { Ends node.old (later_options lists_lengths options.now)
-        (ask master used will.now (order_named order)) result.used node.new result.answer result.master }
-    ensures numbers { Renumbers master used result.master result.used }
-    ensures least { (result.used ≡ used)
-        ⊎ IfSome (fleet_of node.old) (λ f. IsNextNumber (max master used) f.picture result.used) }
+    requires stands { (d : MasterData) × (at : Position) ×
+        IsNodeAt node.old (config_of request.options request.master) d at }
+    requires later { IfSome (fleet_of node.old) (AreUnraisedAbove request.used) }
+    requires begins { MayBegin request.later request.options }
+    ensures recovers { Recovers node.old request.options request.later request.master order
+        node.new result.answer result.master }
+    ensures ends { Ends node.old (later_options request.later request.options)
+        (asked_for request will.now order) result.used node.new result.answer result.master }
+    ensures numbers { Renumbers request.master request.used result.master result.used }
+    ensures least { (result.used ≡ request.used)
+        ⊎ IfSome (fleet_of node.old) (λ f. IsNextNumber (max request.master request.used) f.picture result.used) }
     ensures spent { result.answer ≡ Answer.NumbersSpent →
-        IfSome (fleet_of node.old) (λ f. AreSpent (max master used) f.picture) }
+        IfSome (fleet_of node.old) (λ f. AreSpent (max request.master request.used) f.picture) }
 {
     let Node::Down(fleet) = node else {
         return Recovery {
             answer: Answer::Up,
-            master,
-            used,
+            master: request.master,
+            used: request.used,
         };
     };
     let Inheritance { rebuilt, config } = match find_inheritance(
-        rt,
-        alloc,
-        fleet,
-        options,
-        lists_lengths,
-        master,
-        used,
-        will,
-        order,
+        rt, alloc, fleet, request, will, order,
     ) {
         Ok(found) => found,
         Err(answer) => {
             return Recovery {
                 answer,
-                master,
-                used,
+                master: request.master,
+                used: request.used,
             };
         }
     };
@@ -236,7 +238,7 @@ pub fn recover_node<H: Threads + Wait + Sync>(
     if let Some(answer) = adopt(alloc, node, &rebuilt, config) {
         return Recovery {
             answer,
-            master,
+            master: request.master,
             used: number,
         };
     }

@@ -4,7 +4,7 @@ ghost use Rattle.std.specs.Prelude.{◌≡◌, ◌<◌, None, IfOk, OnErr};
 ghost use Rattle.node.specs.master.master_state.Config.{config_fault};
 ghost use Rattle.node.specs.recovery.Orders.{Covers};
 ghost use Rattle.next_master.specs.Configuration.{config_of, tables_to};
-ghost use Rattle.next_master.specs.Configuration.{later_options, one_partition};
+ghost use Rattle.next_master.specs.Configuration.{one_partition};
 
 use command_line::Options;
 use entry::{NoMemory, Tablet, Tablets};
@@ -49,19 +49,6 @@ pub fn configuration(alloc: Global, options: &Options, master: u64) -> Result<Co
         largest: options.largest,
         most_live: options.live,
     })
-}
-
-/// The options of masters that start later. If format 2 was asked for, these masters list each segment with its
-/// length.
-pub fn later_options(options: &Options, lists_lengths: bool) -> Options
-    ensures { result ≡ later_options lists_lengths options.now }
-{
-    if !lists_lengths {
-        return *options;
-    }
-    let mut later = *options;
-    later.format = 2;
-    later
 }
 
 /// The will that is one partition over all tablets of the options.

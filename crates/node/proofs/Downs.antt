@@ -6,7 +6,7 @@ use Rattle.answers.specs.declared.answer.Answer.TheVariants as answer
 use Rattle.node.specs.declared.node.Node.{Node}
 use Rattle.node.specs.declared.node.Node.TheVariants.{Up, Down, Changing}
 use Rattle.node.specs.Served.{MakesRoll, is_up}
-use Rattle.node.specs.Shows.{ShowsDigest, ShowsImage, ShowsRoom}
+use Rattle.node.specs.Shows.{ShowsDigest, ShowsImage, ShowsLive, ShowsRoom}
 use Rattle.node.specs.Waits.{MakesOpen, MakesRoom}
 use Rattle.node.proofs.Standing.{is_down_some}
 
@@ -34,6 +34,11 @@ pub room_down : (node : Node) → is_up node ≡ false → ShowsRoom node answer
 room_down (Up m) down = absurd (cc)
 room_down (Down fleet) down = refl
 room_down Changing down = refl
+
+pub live_down : (node : Node) → is_up node ≡ false → ShowsLive node answer.Down
+live_down (Up m) down = absurd (cc)
+live_down (Down fleet) down = refl
+live_down Changing down = refl
 
 pub image_down : (node : Node) (segment : ℕ) → is_up node ≡ false → ShowsImage node segment answer.Down
 image_down (Up m) segment down = absurd (cc)

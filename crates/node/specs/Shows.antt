@@ -22,6 +22,11 @@ abbrev pub ShowsRoom : Node → Answer → Type 0
 ShowsRoom (Up m) answer = answer ≡ answers.Room (used_seglets m.knows) (free_seglets m.knows)
 ShowsRoom node answer = answer ≡ answers.Down
 
+-- how many bytes the live objects of the node's master have together, and how many puts may make them
+abbrev pub ShowsLive : Node → Answer → Type 0
+ShowsLive (Up m) answer = answer ≡ answers.Live m.knows.live m.knows.config.most_live
+ShowsLive node answer = answer ≡ answers.Down
+
 -- the answer with the bytes of a segment's image, if there is one
 abbrev pub image_answer : ℕ → Option (List ℕ) → Answer
 image_answer segment (Some bytes) = answers.Hex bytes

@@ -6,7 +6,7 @@ use Rattle.entry.specs.Meaning.{IsMeaning, among, contents_of}
 use Rattle.entry.specs.Text.{text_of}
 use Rattle.lines.specs.Grammar.{LineValue, Idle, Put, New, Cas, Get, Del, Compact, Roll, BeginRoll, Push, Log, Room}
 use Rattle.lines.specs.Grammar.{Hex, Stop, Fault, Crash, Lose, Will, Recover, Holdings, Clean, Begin, Copy, Seal, Free}
-use Rattle.lines.specs.Grammar.{Clients, Format}
+use Rattle.lines.specs.Grammar.{Clients, Format, LiveBytes, Needs, Seglets}
 use Rattle.lines.specs.declared.line.ReplayOrder.{ReplayOrder}
 use Rattle.backup.specs.Inventory.{AreRising}
 use Rattle.answers.specs.driving.master.cleaner.declared.survivors.Survivors.{Survivors}
@@ -45,6 +45,7 @@ use Rattle.answers.specs.declared.answer.Answer.{Answer}
 use Rattle.answers.specs.declared.answer.Answer.TheVariants as answer
 use Rattle.node.specs.Lives.{Life, life_to, HasLived, Left, is_left, IsLeftBy, IsLeftBySpent, IsHomeOf, Position}
 use Rattle.answers.specs.replay.Adopting.{DeclinesList}
+use Rattle.answers.specs.replay.Needs.{IsNeeded, NoneIsEnough}
 use Rattle.tablet_will.specs.declared.part.Part.{Part}
 use Rattle.tablet_will.specs.Sizes.{are_limits}
 use Rattle.answers.specs.declared.limits.Limits.{Limits}
@@ -186,6 +187,10 @@ abbrev pub IsRoomAt : Config → Life → ℕ → ℕ → Type 0
 IsRoomAt config life used free = (d : MasterData) × (f : FleetState) × HasLived config life d f
     × (used ≡ used_seglets d) × (free ≡ free_seglets d)
 
+-- all live objects of a master that has lived this life have this many bytes together
+abbrev pub IsLiveAt : Config → Life → ℕ → Type 0
+IsLiveAt config life bytes = (d : MasterData) × (f : FleetState) × HasLived config life d f × (bytes ≡ d.live)
+
 -- just these of the master's replicas are left
 abbrev pub AreLeft : Config → Left → List Holding → Type 0
 AreLeft config l hs = (h : Holding) → h.master ≡ config.master
@@ -232,14 +237,19 @@ IsOfLeft config l r = (c : Choice) × IsShownChoice (survivors (is_left l.lost) 
 abbrev pub IsRecover : LineValue → Type 0
 IsRecover line = (order : ReplayOrder) × (line ≡ Recover order)
 
+-- the line asks what a recovery finds: it asks for a recovery, or for what a new master needs after one
+abbrev pub AsksTable : LineValue → Type 0
+AsksTable line = IsRecover line ⊎ (line ≡ Needs)
+
 -- a recovery of what is left gives this table
 abbrev pub IsFoundAt : Config → Life → Position → Left → Rebuilt → Type 0
 IsFoundAt config life at l r = IsRecoveredAt life at r × IsOfLeft config l r
 
--- the same configuration, for a master with a greater number, which writes the same format or format 2
+-- The same configuration, for a master with a greater number. It writes the same format or format 2, and may have
+-- another number of seglets.
 abbrev pub IsNextConfig : Config → Config → Type 0
 IsNextConfig old new = (old.master < new.master) × ((new.format ≡ old.format) ⊎ (new.format ≡ 2))
-    × (new ≡ record old { master = new.master; format = new.format })
+    × (new ≡ record old { master = new.master; format = new.format; seglets = new.seglets })
 
 -- of the master's replicas the fleet holds just what is left
 abbrev pub HoldsLeft : Config → Left → FleetState → Type 0
@@ -257,6 +267,16 @@ IsUnadopted config life at line r next = IsRecover line × ((l : Left) × (at.le
     × (table : Rebuilt) × IsFoundAt config life at l table
     × (new : Config) × IsNextConfig config new × IsListDeclined config l new table r)
     × (next ≡ at)
+
+-- A new master of this configuration needs so many seglets to adopt the table, or no number is enough.
+abbrev pub NeedsFor : Config → Rebuilt → Option ℕ → Type 0
+NeedsFor config table (Some needed) = IsNeeded config table.objects needed
+NeedsFor config table None = NoneIsEnough config table.objects
+
+-- A recovery of what is left gives a table, and this is what a new master needs to adopt it.
+abbrev pub IsNeededAt : Config → Life → Position → Left → Option ℕ → Type 0
+IsNeededAt config life at l needed = (table : Rebuilt) × IsFoundAt config life at l table
+    × (new : Config) × IsNextConfig config new × NeedsFor new table needed
 
 -- What the backups that are left hold of the master has this fault, and the loss that is named hides the log.
 abbrev pub NamesLossOf : Config → Left → RecoveryFault → Type 0
@@ -290,6 +310,7 @@ is_for_master Seal = true
 is_for_master Free = true
 is_for_master Log = true
 is_for_master Room = true
+is_for_master LiveBytes = true
 is_for_master Will = true
 is_for_master (Hex segment) = true
 is_for_master Crash = true
@@ -300,6 +321,7 @@ is_for_master _ = false
 abbrev pub is_for_none : LineValue → Bool
 is_for_none (Lose backup) = true
 is_for_none (Recover order) = true
+is_for_none Needs = true
 is_for_none _ = false
 
 -- What the answer of a line tells, if the line goes on with a life in which the script stands at this position, and
@@ -353,6 +375,8 @@ Tells config life at line (answer.Log ids) next = (at.left ≡ None) × (line �
     × IsDigestAt config (life_to life at.made) ids × (next ≡ at)
 Tells config life at line (answer.Room used free) next = (at.left ≡ None) × (line ≡ Room)
     × IsRoomAt config (life_to life at.made) used free × (next ≡ at)
+Tells config life at line (answer.Live bytes most) next = (at.left ≡ None) × (line ≡ LiveBytes)
+    × IsLiveAt config (life_to life at.made) bytes × (most ≡ config.most_live) × (next ≡ at)
 Tells config life at line (answer.Will parts limits) next = (at.left ≡ None) × (line ≡ Will)
     × IsWillAt config (life_to life at.made) limits parts × (next ≡ at)
 Tells config life at line (answer.BadLimits limits) next = (at.left ≡ None) × (line ≡ Will)
@@ -367,6 +391,9 @@ Tells config life at line (answer.NotInLog segment) next = (at.left ≡ None)
 Tells config life at line (answer.Stop takes) next = (line ≡ Stop takes) × (next ≡ at)
 Tells config life at line (answer.Fault takes taken) next = (line ≡ Fault takes taken) × (next ≡ at)
 Tells config life at line answer.Format next = (line ≡ Format) × (next ≡ at)
+Tells config life at line (answer.Seglets seglets) next = (line ≡ Seglets seglets) × (next ≡ at)
+Tells config life at line (answer.Needs needed) next = (line ≡ Needs)
+    × (l : Left) × (at.left ≡ Some l) × IsNeededAt config life at l needed × (next ≡ at)
 Tells config life at line answer.Stopped next = ((at.left ≡ None)
     × (l : Left) × IsLeftBySpent config (life_to life next.made) l
     × (IsOut at line (Some l) next
@@ -384,14 +411,14 @@ Tells config life at line (answer.Lost backup) next = (line ≡ Lose backup) × 
 -- a table that was recovered and adopted begins another life
 Tells config life at line (answer.Recovered r) next = ⊥
 Tells config life at line (answer.NotRetired why) next = ⊥
-Tells config life at line (answer.NotRecovered fault) next = IsRecover line
+Tells config life at line (answer.NotRecovered fault) next = AsksTable line
     × (l : Left) × (at.left ≡ Some l) × IsLossOf config l fault × (next ≡ at)
-Tells config life at line answer.NumbersSpent next = IsRecover line
+Tells config life at line answer.NumbersSpent next = AsksTable line
     × ((l : Left) × (at.left ≡ Some l)) × (next ≡ at)
 Tells config life at line answer.CellRefused next = AreUncounted at line None next
 -- a store couldn't tell whose its records were: the store of this line, or that of an earlier line
 Tells config life at line answer.SeatUnknown next = AreUncounted at line None next
-    ⊎ (IsRecover line × ((l : Left) × (at.left ≡ Some l)) × (next ≡ at))
+    ⊎ (AsksTable line × ((l : Left) × (at.left ≡ Some l)) × (next ≡ at))
 Tells config life at line answer.Down next =
     ((l : Left) × (at.left ≡ Some l)) × (is_for_master line ≡ true) × (next ≡ at)
 Tells config life at line answer.Up next = (at.left ≡ None) × (is_for_none line ≡ true) × (next ≡ at)

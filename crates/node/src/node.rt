@@ -10,7 +10,7 @@ ghost use Rattle.answers.specs.driving.master.master_state.declared.config.Confi
 ghost use Rattle.node.specs.Served.{IsDropped, AsksFault, asked_of, fleet_of, is_up};
 ghost use Rattle.node.specs.Served.{AnswersLine, LimitsFleet, LosesMaster, LosesOne, MakesStep, MakesRoll, Refuses};
 ghost use Rattle.node.specs.Served.{AnswersStep, MakesClean, ShowsFleet, held_answer, step_told};
-ghost use Rattle.node.specs.Shows.{ShowsDigest, ShowsImage, ShowsRoom};
+ghost use Rattle.node.specs.Shows.{ShowsDigest, ShowsImage, ShowsLive, ShowsRoom};
 ghost use Rattle.node.specs.Waits.{MakesRoom, MakesOpen, TriesLine, IsReplyAt};
 
 use crate::tried::Tried;
@@ -68,7 +68,7 @@ fn answer_of(made: StepAnswer) -> Answer
 }
 
 impl Node {
-    ghost use Rattle.lines.specs.Grammar.{Roll, Clean, Log, Room, Hex, Stop, Fault, Crash, Lose, Holdings};
+    ghost use Rattle.lines.specs.Grammar.{Roll, Clean, Log, Room, LiveBytes, Hex, Stop, Fault, Crash, Lose, Holdings};
 
     /// Applies a command, whose bytes may lie anywhere, and pushes until its record is durable.
     #[inline(always)]
@@ -285,6 +285,19 @@ impl Node {
             Ok(_) => unreachable!(),
             Err(NoMemory) => unreachable!(),
         }
+    }
+
+    /// Answers how many bytes all live objects have together, and how many puts may make them. `u64::MAX` bytes stand
+    /// for as many or more, and as the second number for no limit.
+    pub fn live(&self) -> Answer
+        ensures told { (config : Config) → AnswersLine self.now config LiveBytes self.now result }
+        ensures shown { ShowsLive self.now result }
+    {
+        let Node::Up(up) = self else {
+            return Answer::Down;
+        };
+        up.show_valid();
+        Answer::Live(up.live(), up.most_live())
     }
 
     /// Lets the fleet take this many more ops, and then no more.

@@ -3,7 +3,7 @@ use Rattle.std.proofs.Common.{◌≡◌, ℕ, sym, subst}
 use Rattle.std.specs.Prelude.{Option, Some, IfSome}
 use Rattle.lines.specs.Grammar.{LineValue, Idle, Put, New, Cas, Get, Del, Compact, Roll, BeginRoll, Push, Log, Room}
 use Rattle.lines.specs.Grammar.{Hex, Stop, Fault, Crash, Lose, Will, Recover, Holdings, Clean, Begin, Copy, Seal, Free}
-use Rattle.lines.specs.Grammar.{Clients, Format}
+use Rattle.lines.specs.Grammar.{Clients, Format, LiveBytes, Needs, Seglets}
 use Rattle.versioned_map.specs.declared.command.Command.{Command}
 use Rattle.versioned_map.specs.declared.command.Command.TheVariants as command
 use Rattle.versioned_map.specs.declared.command.If.TheVariants.{Any, Absent, Version}
@@ -35,11 +35,14 @@ command_makes old Idle new a command asks makes = absurd (cc)
 command_makes old (Hex segment) new a command asks makes = absurd (cc)
 command_makes old Log new a command asks makes = absurd (cc)
 command_makes old Room new a command asks makes = absurd (cc)
+command_makes old LiveBytes new a command asks makes = absurd (cc)
 command_makes old Holdings new a command asks makes = absurd (cc)
 command_makes old Will new a command asks makes = absurd (cc)
 command_makes old (Stop takes) new a command asks makes = absurd (cc)
 command_makes old (Fault takes taken) new a command asks makes = absurd (cc)
 command_makes old Format new a command asks makes = absurd (cc)
+command_makes old (Seglets seglets) new a command asks makes = absurd (cc)
+command_makes old Needs new a command asks makes = absurd (cc)
 command_makes old Crash new a command asks makes = absurd (cc)
 command_makes old (Lose backup) new a command asks makes = absurd (cc)
 command_makes old (Recover order) new a command asks makes = absurd (cc)
@@ -70,11 +73,14 @@ module _ (number : ℕ) where
   line_unraised old (Hex segment) new a is below = same_node number old new is.0
   line_unraised old Log new a is below = same_node number old new is.0
   line_unraised old Room new a is below = same_node number old new is.0
+  line_unraised old LiveBytes new a is below = same_node number old new is.0
   line_unraised old Holdings new a is below = same_node number old new is.0
   line_unraised old Will new a is below = same_node number old new is
   line_unraised old (Stop takes) new a is below = stops_unraised number old takes new is.1
   line_unraised old (Fault takes taken) new a is below = same_fleet number old new is.1
   line_unraised old Format new a is below = same_node number old new is
+  line_unraised old (Seglets seglets) new a is below = same_node number old new is
+  line_unraised old Needs new a is below = same_node number old new is
   line_unraised old Crash new a is below = same_fleet number old new is.1
   line_unraised old (Lose backup) new a is below = loses_unraised number old backup new is
   line_unraised old (Recover order) new a is below = absurd is

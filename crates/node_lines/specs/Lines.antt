@@ -2,21 +2,21 @@
 use Rattle.std.specs.Prelude.{◌≡◌, IfSome}
 use Rattle.lines.specs.Grammar.{LineValue, Idle, Roll, BeginRoll, Compact, Push, Clean, Begin, Copy, Seal, Free, Will}
 use Rattle.lines.specs.Grammar.{Recover, Hex, Log, Room, Stop, Fault, Crash, Lose, Holdings as HoldingsLine, Clients}
-use Rattle.lines.specs.Grammar.{Format}
+use Rattle.lines.specs.Grammar.{Format, LiveBytes, Needs, Seglets}
 use Rattle.versioned_map.specs.declared.command.Command.{Command}
 use Rattle.node.specs.master.master_state.declared.step.Step.TheVariants as step
 use Rattle.node.specs.answers.declared.answer.Answer.{Answer}
 use Rattle.node.specs.declared.node.Node.{Node}
 use Rattle.node.specs.Served.{AsksFault, LimitsFleet, LosesMaster, LosesOne, MakesClean, MakesCommand, MakesRoll}
 use Rattle.node.specs.Served.{MakesStep, ShowsFleet}
-use Rattle.node.specs.Shows.{ShowsDigest, ShowsImage, ShowsRoom}
+use Rattle.node.specs.Shows.{ShowsDigest, ShowsImage, ShowsLive, ShowsRoom}
 use Rattle.node.specs.Told.{command_of}
 use Rattle.node_lines.specs.Clients.{MakesClients}
 
 -- What a line makes of the node: just the steps of its command, its step, its roll, its cleaning, or the rounds of its
 -- clients. A line that shows something changes nothing, and shows what this node has. A stop sets just the limit that
--- it names, a line of a fault asks for just this fault, a format changes nothing of this master, and a crash leaves
--- just the fleet. What a recovery makes is said of the session, in `script`.
+-- it names, a line of a fault asks for just this fault, a format or a number of seglets changes nothing of this master,
+-- and a crash leaves just the fleet. What a recovery makes, and what `needs` shows, is said of the session, in `script`.
 abbrev pub MakesLine : Node → LineValue → Node → Answer → Type 0
 MakesLine old Roll new answer = MakesRoll old new answer
 MakesLine old BeginRoll new answer = MakesStep old step.BeginRoll new answer
@@ -31,11 +31,14 @@ MakesLine old Idle new answer = new ≡ old
 MakesLine old (Hex segment) new answer = (new ≡ old) × ShowsImage old segment answer
 MakesLine old Log new answer = (new ≡ old) × ShowsDigest old answer
 MakesLine old Room new answer = (new ≡ old) × ShowsRoom old answer
+MakesLine old LiveBytes new answer = (new ≡ old) × ShowsLive old answer
 MakesLine old HoldingsLine new answer = (new ≡ old) × ShowsFleet old answer
 MakesLine old Will new answer = new ≡ old
 MakesLine old (Stop takes) new answer = LimitsFleet old takes new
 MakesLine old (Fault takes taken) new answer = AsksFault old takes taken new
 MakesLine old Format new answer = new ≡ old
+MakesLine old (Seglets seglets) new answer = new ≡ old
+MakesLine old Needs new answer = new ≡ old
 MakesLine old Crash new answer = LosesMaster old new
 MakesLine old (Lose backup) new answer = LosesOne old backup new
 MakesLine old (Recover order) new answer = ⊥

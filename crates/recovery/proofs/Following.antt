@@ -1,5 +1,5 @@
 -- A life that is followed by a next master, and one that isn't.
-use Rattle.std.proofs.Common.{◌≡◌, ℕ, suc, ◌+◌, List, sym, ap, subst, ◌∙◌, arith}
+use Rattle.std.proofs.Common.{◌≡◌, ℕ, suc, ◌+◌, List, refl, sym, ap, subst, ◌∙◌, arith}
 use Rattle.std.specs.Prelude.{Result, Ok, Err}
 use Rattle.replica.specs.declared.op.TakeFault.{TakeFault}
 use Rattle.replica.specs.declared.op.TakeFault.TheVariants as take_fault
@@ -11,6 +11,7 @@ use Rattle.replay.specs.master.master_state.declared.config.Config.{Config}
 use Rattle.replay.specs.master.master_state.declared.step.Refusal.{Refusal}
 use Rattle.replay.specs.master.master_state.declared.step.Step.{Step}
 use Rattle.replay.specs.master.master_state.declared.step.StepAnswer.{StepAnswer}
+use Rattle.replay.specs.master.master_state.Config.{config_fault, has_live}
 use Rattle.replay.specs.master.master_state.Data.{MasterData}
 use Rattle.replay.specs.master.Valid.{IsValid}
 use Rattle.replay.specs.master.World.{World, world_of, retired_data}
@@ -22,6 +23,11 @@ use Rattle.recovery.specs.Succession.{IsNewest, with_number, next_config, IsDril
 use Rattle.recovery.proofs.Succeeding.{run_newest, next_newest}
 
 -- ---- the next master
+
+-- no limit of a configuration depends on the master's number
+pub any_number : (n : ℕ) (c : Config) → config_fault (with_number n c) ≡ config_fault c
+unfolding has_live
+any_number n c = refl
 
 -- the configuration, under the next number
 pub config_next : (c d : Config) (n m : ℕ) → d ≡ with_number m c → m ≡ n + 1 → d ≡ with_number (suc n) c

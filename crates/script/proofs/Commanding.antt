@@ -1,5 +1,5 @@
--- Which lines have a command.
-use Rattle.std.proofs.Common.{◌≡◌, refl}
+-- Which lines have a command, and which lines a session doesn't take.
+use Rattle.std.proofs.Common.{◌≡◌, ℕ, refl, subst}
 use Rattle.std.specs.Prelude.{None}
 use Rattle.lines.specs.declared.command.CommandLine.{CommandLine}
 use Rattle.lines.specs.declared.command.CommandLine.TheVariants as command
@@ -7,10 +7,11 @@ use Rattle.lines.specs.declared.line.Line.{Line}
 use Rattle.lines.specs.declared.line.Line.TheVariants as line
 use Rattle.lines.specs.Grammar.{shown_command, shown_line}
 use Rattle.next_master.specs.node.Told.{command_of}
-use Rattle.script.specs.Runs.{IsOfFleet}
-use Rattle.std.specs.Prelude.{ℕ}
-use Rattle.lines.specs.Grammar.{LineValue, Lose}
-use Rattle.lines.specs.Grammar as grammar
+use Rattle.lines.specs.Grammar.{LineValue, Format, Seglets}
+use Rattle.script.specs.Runs.{Allows, IsOfFleet}
+use Rattle.script.specs.Turns.{RefusesLine}
+use Rattle.script.specs.declared.session.LineFault.TheVariants as line_fault
+use Rattle.script.specs.declared.session.Session.{Session}
 
 pub has_command : (c : CommandLine) → command_of (shown_command c) ≡ None → ⊥
 has_command (command.Put table key value) is = absurd (cc)
@@ -37,6 +38,9 @@ has_no_command (line.Lose backup) other = refl
 has_no_command line.Will other = refl
 has_no_command (line.Recover order) other = refl
 has_no_command line.Holdings other = refl
+has_no_command line.Live other = refl
+has_no_command line.Needs other = refl
+has_no_command (line.Seglets seglets) other = refl
 has_no_command (line.Clean segments) other = refl
 has_no_command (line.Begin segments) other = refl
 has_no_command line.Copy other = refl
@@ -52,32 +56,11 @@ command_of_fleet backups (command.Cas table key version value) = tt
 command_of_fleet backups (command.Get table key) = tt
 command_of_fleet backups (command.Del table key) = tt
 
--- a line that isn't one of the fleet loses a backup
-pub loses_one : (backups : ℕ) (l : LineValue) → (IsOfFleet backups l → ⊥) → (backup : ℕ) × (l ≡ Lose backup)
-loses_one backups (Lose backup) other = (backup, refl)
-loses_one backups grammar.Idle other = absurd (other tt)
-loses_one backups (grammar.Put a b c) other = absurd (other tt)
-loses_one backups (grammar.New a b c) other = absurd (other tt)
-loses_one backups (grammar.Cas a b c d) other = absurd (other tt)
-loses_one backups (grammar.Get a b) other = absurd (other tt)
-loses_one backups (grammar.Del a b) other = absurd (other tt)
-loses_one backups (grammar.Compact a) other = absurd (other tt)
-loses_one backups grammar.Roll other = absurd (other tt)
-loses_one backups grammar.BeginRoll other = absurd (other tt)
-loses_one backups grammar.Push other = absurd (other tt)
-loses_one backups grammar.Log other = absurd (other tt)
-loses_one backups grammar.Room other = absurd (other tt)
-loses_one backups (grammar.Hex a) other = absurd (other tt)
-loses_one backups (grammar.Stop a) other = absurd (other tt)
-loses_one backups (grammar.Fault a b) other = absurd (other tt)
-loses_one backups grammar.Format other = absurd (other tt)
-loses_one backups grammar.Crash other = absurd (other tt)
-loses_one backups grammar.Will other = absurd (other tt)
-loses_one backups (grammar.Recover a) other = absurd (other tt)
-loses_one backups grammar.Holdings other = absurd (other tt)
-loses_one backups (grammar.Clean a) other = absurd (other tt)
-loses_one backups (grammar.Begin a) other = absurd (other tt)
-loses_one backups grammar.Copy other = absurd (other tt)
-loses_one backups grammar.Seal other = absurd (other tt)
-loses_one backups grammar.Free other = absurd (other tt)
-loses_one backups (grammar.Clients a b c) other = absurd (other tt)
+-- ---- lines that the session doesn't take
+
+pub no_backup : (s : Session) (l : LineValue) → RefusesLine s l line_fault.NoBackup → Allows s l → ⊥
+no_backup s l (backup, is, none) allows = none (subst (Allows s) is allows).0
+
+-- a text says one line, which isn't taken
+pub says_none : (s : Session) (other l : LineValue) → other ≡ l → (Allows s l → ⊥) → Allows s other → ⊥
+says_none s other l is none allows = none (subst (Allows s) is allows)

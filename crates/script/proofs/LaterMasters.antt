@@ -48,7 +48,7 @@ recovery_unraised : (old new : Session) (line : LineValue) (a : Answer) → Sess
     → AreLaterUnraised old → AreLaterUnraised new
 recovery_unraised old new line a r are = go r.ends where
   go : EndsFor old r.order new a → AreLaterUnraised new
-  go (inl (known, ends)) = ends_unraised old.node new.node (later_options old.lists_lengths old.options)
+  go (inl (known, ends)) = ends_unraised old.node new.node (later_options old.later old.options)
       (asked_of old r.order) new.used a new.master ends r.numbers.rises are
   go (inr (down, unknown, is, same)) = subst (λ (s : Session). AreLaterUnraised s) (sym same) are
 

@@ -20,7 +20,8 @@ use Rattle.next_master.specs.master.master_state.declared.step.StepAnswer.{StepA
 use Rattle.next_master.specs.master.master_state.declared.step.Step.TheVariants as step
 use Rattle.next_master.specs.master.master_state.declared.step.StepAnswer.TheVariants as step_answer
 use Rattle.next_master.specs.node.Told.{IsRecordAt, IsIn, IsCause, IsImageAt, IsPushedAt, IsRecoveredAt, IsUnadopted, Tells}
-use Rattle.next_master.specs.node.Told.{IsStepAt, IsRollAt, IsCleanAt, IsStepRefusal, IsDigestAt, IsRoomAt, IsWillAt, AreHeldAt}
+use Rattle.next_master.specs.node.Told.{IsStepAt, IsRollAt, IsCleanAt, IsStepRefusal, IsDigestAt, IsLiveAt, IsRoomAt}
+use Rattle.next_master.specs.node.Told.{IsNeededAt, IsWillAt, AreHeldAt}
 
 -- ---- a longer history tells the same
 
@@ -66,6 +67,7 @@ module _ (config : Config) (life : Life) where
   rises at line (answer.Counted clients rounds calls) next t = t.2.more
   rises at line (answer.Log ids) next t = as_before at next t.3
   rises at line (answer.Room used free) next t = as_before at next t.3
+  rises at line (answer.Live bytes most) next t = as_before at next t.4
   rises at line (answer.Will parts limits) next t = as_before at next t.3
   rises at line (answer.BadLimits limits) next t = as_before at next t.3
   rises at line (answer.Holdings hs) next t = as_before at next t.3
@@ -74,6 +76,8 @@ module _ (config : Config) (life : Life) where
   rises at line (answer.Stop takes) next t = as_before at next t.1
   rises at line (answer.Fault takes taken) next t = as_before at next t.1
   rises at line answer.Format next t = as_before at next t.1
+  rises at line (answer.Seglets seglets) next t = as_before at next t.1
+  rises at line (answer.Needs needed) next t = as_before at next t.4
   rises at line answer.Stopped next t = elim t [
     | inl (none, l, spent, inl out) ↦ let made = ap (λ (p : Position). p.made) out.2 in omega arith
     | inl (none, l, spent, inr (inl added)) ↦ let made = ap (λ (p : Position). p.made) added.2 in omega arith
@@ -131,6 +135,12 @@ module _ (config : Config) (opening : State) (history more : List Record) where
       → IsUnadopted config longer at line r next
   unadopted_longer at line r next within (asks, (l, left, table, (found, of_left), new, number, declined), is) =
       (asks, (l, left, table, (recovered_longer at table within found, of_left), new, number, declined), is)
+
+  -- what a new master needs for such a table
+  needed_longer : (at : Position) (l : Left) (needed : Option ℕ) → at.made ≤ length history
+      → IsNeededAt config life at l needed → IsNeededAt config longer at l needed
+  needed_longer at l needed within (table, (found, of_left), new, number, needs) =
+      (table, (recovered_longer at table within found, of_left), new, number, needs)
 
   -- the records of clients
   counted_longer : (at : Position) (clients rounds calls : ℕ) (next : Position) → at.made ≤ length history
@@ -246,6 +256,8 @@ module _ (config : Config) (opening : State) (history more : List Record) where
       (t.0, t.1, subst (λ (l : Life). IsDigestAt config l ids) (same_front at.made within) t.2, t.3)
   tells_longer at line (answer.Room used free) next within after t =
       (t.0, t.1, subst (λ (l : Life). IsRoomAt config l used free) (same_front at.made within) t.2, t.3)
+  tells_longer at line (answer.Live bytes most) next within after t =
+      (t.0, t.1, subst (λ (l : Life). IsLiveAt config l bytes) (same_front at.made within) t.2, t.3, t.4)
   tells_longer at line (answer.Will parts limits) next within after t =
       (t.0, t.1, subst (λ (l : Life). IsWillAt config l limits parts) (same_front at.made within) t.2, t.3)
   tells_longer at line (answer.BadLimits limits) next within after t = t
@@ -266,6 +278,9 @@ module _ (config : Config) (opening : State) (history more : List Record) where
   tells_longer at line (answer.Stop takes) next within after t = t
   tells_longer at line (answer.Fault takes taken) next within after t = t
   tells_longer at line answer.Format next within after t = t
+  tells_longer at line (answer.Seglets seglets) next within after t = t
+  tells_longer at line (answer.Needs needed) next within after (asks, l, left, needs, is) =
+      (asks, l, left, needed_longer at l needed within needs, is)
   tells_longer at line answer.Stopped next within after t = elim t [
     | inl (none, l, spent, why) ↦ inl (
       none,

@@ -1,5 +1,5 @@
 -- What the line of a command comes to, by what its try came to.
-use Rattle.std.proofs.Common.{◌≡◌, refl, sym, subst}
+use Rattle.std.proofs.Common.{◌≡◌, ◌∙◌, refl, sym, subst}
 use Rattle.std.specs.Prelude.{ℕ, Some, None}
 use Rattle.lines.specs.Grammar.{LineValue}
 use Rattle.versioned_map.specs.declared.command.Command.{Command}
@@ -13,7 +13,10 @@ use Rattle.node_lines.proofs.Lines.{command_makes}
 use Rattle.next_master.proofs.of_node.Tries.{tried_makes, waited_makes}
 use Rattle.script.specs.declared.session.Session.{Session}
 use Rattle.script.specs.Sessions.{AnswersAfterRoll, SessionAnswers, TriesCommand}
-use Rattle.script.proofs.Sessions.{command_keeps, command_keeps_format, command_keeps_word}
+use Rattle.next_master.specs.Configuration.{MayBegin}
+use Rattle.next_master.specs.declared.later.Later.{Later}
+use Rattle.command_line.specs.declared.settings.Options.{Options}
+use Rattle.script.proofs.Sessions.{command_keeps, command_keeps_later, command_keeps_word, command_shows}
 
 -- a command whose try has this answer
 pub tried_answers : (first : Session) (node : Node) (line : LineValue) (command : Command)
@@ -28,7 +31,9 @@ tried_answers first node line command asks answer serves makes = record {
   makes = command_makes _ line _ answer command asks (tried_makes _ _ command answer makes);
   wills = command_keeps first line (record first { node = node }) answer refl command asks;
   word = command_keeps_word first line (record first { node = node }) answer refl command asks;
-  format = command_keeps_format first line (record first { node = node }) refl command asks;
+  later = sym (command_keeps_later line first.later command asks);
+  begins = λ all. all.3;
+  shows = command_shows first line answer command asks;
 }
 
 -- a command that waits for a roll
@@ -46,7 +51,10 @@ waited_answers first node line command asks last answer waits makes ran = record
       (waited_makes _ _ _ command answer makes (ran.makes command asks));
   wills = command_keeps first line last answer ran.will command asks;
   word = command_keeps_word first line last answer ran.known command asks;
-  format = command_keeps_format first line last ran.format command asks;
+  later = ran.later ∙ sym (command_keeps_later line first.later command asks);
+  begins = λ all. subst (λ (l : Later). MayBegin l last.options) (sym ran.later)
+      (subst (λ (o : Options). MayBegin first.later o) (sym ran.options) all.3);
+  shows = command_shows first line answer command asks;
 }
 
 -- a command that has its reply at once

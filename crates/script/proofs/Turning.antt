@@ -27,7 +27,7 @@ use Rattle.script.specs.Runs.{IsBadLine, IsReasonFor, EndsWith, CutsLast, Prints
 use Rattle.next_master.specs.answers.Errors.{AppendsFront}
 use Rattle.command_line.specs.declared.settings.Options.{Options}
 use Rattle.lines.specs.Grammar.{LineValue, Recover}
-use Rattle.next_master.specs.Configuration.{config_of}
+use Rattle.next_master.specs.Configuration.{config_of, MayBegin}
 use Rattle.next_master.specs.node.Lives.{Life, Position, at_start}
 use Rattle.script.specs.Sessions.{RunsLine, BeginsSession, IsCovered, AreLaterUnraised, Stands}
 use Rattle.next_master.specs.Recoveries.{standing_of}
@@ -37,7 +37,7 @@ use Rattle.next_master.specs.Succession.{Standing, Succeeds}
 use Rattle.script.specs.Telling.{at_first, Moves, AreTelling, TellLives, Told}
 use Rattle.next_master.specs.node.Told.{Tells}
 use Rattle.script.specs.Turns.{RunsText, IsPrinted, PrintsText, TakesTurn, IsNoMore}
-use Rattle.script.proofs.Sessions.{options_kept, options_renewed, options_stay}
+use Rattle.script.proofs.Sessions.{begins_later, options_kept, options_renewed, options_stay, renewed_begins, told_of}
 use Rattle.script.proofs.LaterMasters.{begins_unraised, line_numbers, line_unraised}
 use Rattle.script.proofs.Succeeding.{nothing_more, telling_longer, telling_more, with_more}
 use Rattle.next_master.proofs.of_node.Standing.{legal_of, same_opening}
@@ -119,14 +119,15 @@ pub record Running (options : Options) (session : Session) (had left held holds 
   pub start : Session
   pub knows : MasterData
   pub at : Position
-  -- only the format may be another
-  pub set : record session.options { format = options.format } ≡ options
+  -- only the format and the seglets may be others
+  pub set : record session.options { format = options.format; seglets = options.seglets } ≡ options
   pub begins : BeginsSession options start
   pub run : AreRunOn start told session
   pub covers : IsCovered session
   pub stands : IsNodeAt session.node (config_of session.options session.master) knows at
   pub used : session.master ≤ session.used
   pub later : AreLaterUnraised session
+  pub may_begin : MayBegin session.later session.options
   pub count : suc (length told) ≡ number
   pub lines : All (IsScriptLine options.backups) told
   pub opening : first.opening ≡ empty_state
@@ -149,13 +150,14 @@ starts_running options session had held begins =
       start = session;
       knows = d;
       at = at_start;
-      set = ap (λ (o : Options). record o { format = options.format }) set;
+      set = ap (λ (o : Options). record o { format = options.format; seglets = options.seglets }) set;
       begins = begins;
       run = refl;
       covers = begins.covers;
       stands = subst (λ (c : Config). IsNodeAt session.node c d at_start) (sym same) begins.stands.1;
       used = let used = begins.used in omega (arith, number, used);
       later = begins_unraised options session begins;
+      may_begin = begins_later options session begins;
       count = refl;
       lines = All-nil (IsScriptLine options.backups);
       opening = empty_opening d begins.stands.3;
@@ -167,7 +169,8 @@ starts_running options session had held begins =
 -- the session stands for some master
 pub running_stands : (options : Options) (session : Session) (had left held holds : Option (List ℕ)) (number : ℕ)
     → Running options session had left held holds number → Stands session
-running_stands options session had left held holds number r = (r.covers, (r.knows, r.at, r.stands), r.later)
+running_stands options session had left held holds number r =
+    (r.covers, (r.knows, r.at, r.stands), r.later, r.may_begin)
 
 -- ---- where a line leads
 
@@ -210,7 +213,7 @@ line_leads : (old new : Session) (line : LineValue) (a : Answer) → RunsLine ol
     → (d : MasterData) (at : Position)
     → IsNodeAt old.node (config_of old.options old.master) d at → LeadsOn old line a new d at
 line_leads old new line a (inl r) d at s = answers_lead old new line a d at r.options r.number
-    (r.answers (config_of old.options old.master) refl) s
+    (r.answers (config_of old.options old.master) (told_of old line)) s
 line_leads old new line a (inr r) d at s =
     subst (λ (l : LineValue). LeadsOn old l a new d at) (sym r.asks)
     (elim r.recovers [
@@ -239,10 +242,18 @@ covers_on : (old new : Session) (line : LineValue) (a : Answer) → RunsLine old
 covers_on old new line a (inl r) stands = r.covers stands
 covers_on old new line a (inr r) stands = r.covers stands
 
-options_on : (old new : Session) (line : LineValue) (a : Answer) (format : ℕ) → RunsLine old line new a
-    → record new.options { format = format } ≡ record old.options { format = format }
-options_on old new line a format (inl r) = ap (λ (o : Options). record o { format = format }) r.options
-options_on old new line a format (inr r) = options_kept old new format r.options
+options_on : (old new : Session) (line : LineValue) (a : Answer) (format seglets : ℕ) → RunsLine old line new a
+    → record new.options { format = format; seglets = seglets }
+    ≡ record old.options { format = format; seglets = seglets }
+options_on old new line a format seglets (inl r) =
+    ap (λ (o : Options). record o { format = format; seglets = seglets }) r.options
+options_on old new line a format seglets (inr r) = options_kept old new format seglets r.options
+
+-- later masters may begin as before, or as the line asks
+begins_on : (old new : Session) (line : LineValue) (a : Answer) → RunsLine old line new a → Stands old
+    → MayBegin new.later new.options
+begins_on old new line a (inl r) stands = r.begins stands
+begins_on old new line a (inr r) stands = renewed_begins old new r.options r.later stands.3
 
 -- one line more was run
 runs_more : (first : Session) (told : List Told) (old : Session) (t : Told) (new : Session) → AreRunOn first told old
@@ -262,6 +273,9 @@ module _ (options : Options) (old : Session) (had mid left held wrote holds : Op
     (r : Running options old had mid held wrote number) where
   fleet : old.options.backups ≡ options.backups
   fleet = ap (λ (o : Options). o.backups) r.set
+
+  now_stands : Stands old
+  now_stands = (r.covers, (r.knows, r.at, r.stands), r.later, r.may_begin)
 
   abbrev now : Standing
   now = standing_of (config_of old.options old.master) r.knows r.at
@@ -338,13 +352,14 @@ module _ (options : Options) (old : Session) (had mid left held wrote holds : Op
           start = r.start;
           knows = after_line.0;
           at = after_line.1;
-          set = options_on old new runs.line a options.format runs.runs ∙ r.set;
+          set = options_on old new runs.line a options.format options.seglets runs.runs ∙ r.set;
           begins = r.begins;
           run = run_on;
-          covers = covers_on old new runs.line a runs.runs (r.covers, (r.knows, r.at, r.stands), r.later);
+          covers = covers_on old new runs.line a runs.runs now_stands;
           stands = after_line.2;
           used = line_numbers old new runs.line a runs.runs r.used;
           later = line_unraised old new runs.line a runs.runs r.knows r.at r.stands r.used r.later;
+          may_begin = begins_on old new runs.line a runs.runs now_stands;
           count = omega arith;
           lines = line_there;
           opening = r.opening;
@@ -361,7 +376,7 @@ module _ (options : Options) (old : Session) (had mid left held wrote holds : Op
 
     -- a line was run, and no more
     ends_here : (taken : List ℕ) (result : Result (Unit {0}) ScriptFault) → Consumes mid left taken
-        → EndsWith options.backups (r.told ++ next_told ∷ []) (texts_of r.told ++ taken) left result
+        → EndsWith options (r.told ++ next_told ∷ []) (texts_of r.told ++ taken) left result
         → Prints held holds (r.told ++ next_told ∷ []) result
         → RunsScript options had left held holds result
     ends_here taken result consumed ends prints = record {
@@ -400,7 +415,7 @@ module _ (options : Options) (old : Session) (had mid left held wrote holds : Op
 
   -- the lines were run, and no more
   closes : (taken : List ℕ) (result : Result (Unit {0}) ScriptFault) → Consumes mid left taken
-      → EndsWith options.backups r.told (texts_of r.told ++ taken) left result → Prints held holds r.told result
+      → EndsWith options r.told (texts_of r.told ++ taken) left result → Prints held holds r.told result
       → RunsScript options had left held holds result
   closes taken result consumed ends prints = record {
     told = r.told;
@@ -419,10 +434,8 @@ module _ (options : Options) (old : Session) (had mid left held wrote holds : Op
   runs_out : Consumes mid left [] → IsAtEnd left → Keeps wrote holds → RunsScript options had left held holds (Ok tt)
   runs_out consumed end kept = closes [] (Ok tt) consumed (inl (append-nil (texts_of r.told)), end) (kept_answers kept)
 
-  bad_here : (n : ℕ) (bad : List ℕ) → n ≡ number → IsBadLine old.options.backups number bad left
-      → IsBadLine options.backups n bad left
-  bad_here n bad is line = subst (λ (k : ℕ). IsBadLine k n bad left) fleet
-      (subst (λ (k : ℕ). IsBadLine old.options.backups k bad left) (sym is) line)
+  bad_here : (n : ℕ) (bad : List ℕ) → n ≡ number → IsBadLine old number bad left → IsBadLine old n bad left
+  bad_here n bad is line = subst (λ (k : ℕ). IsBadLine old k bad left) (sym is) line
 
   reason_here : (n : ℕ) (bad : List ℕ) (why : Reason) → n ≡ number → IsReasonFor old.options.backups number bad left why
       → IsReasonFor options.backups n bad left why
@@ -437,6 +450,7 @@ module _ (options : Options) (old : Session) (had mid left held wrote holds : Op
         t.0 ∙ sym r.count,
         t.1,
         refl,
+        record { first = r.start; last = old; begins = r.begins; run = r.run },
         bad_here n t.1 t.0 t.3,
         reason_here n t.1 why t.0 t.5,
       ) (kept_answers t.4)
@@ -476,8 +490,7 @@ runs_dry options old had mid left held wrote holds number is r (Err (fault.BadLi
       none.0 ∙ sym is,
       none.1,
       none.2,
-      subst (λ (k : ℕ). IsBadLine old.options.backups k none.1 left) (none.0 ∙ sym is)
-          (none.3 old.options.backups),
+      subst (λ (k : ℕ). IsBadLine old k none.1 left) (none.0 ∙ sym is) (none.3 old),
       none.4,
       inr (inr (none.5, is)),
     )

@@ -8,12 +8,12 @@ use Rattle.lines.specs.Grammar.{LineValue, Says, Lose}
 use Rattle.lines.specs.Reading.{IsUnbroken, IsLineText}
 use Rattle.lines.specs.Reasons.{HasReason}
 use Rattle.lines.specs.declared.reason.Reason.{Reason}
-use Rattle.lines.specs.declared.reason.Reason.TheVariants.{NoBackup, TooLong, TooMany}
+use Rattle.lines.specs.declared.reason.Reason.TheVariants.{NoBackup, NoLaterMaster, TooLong, TooMany}
 use Rattle.next_master.specs.answers.declared.fault.ScriptFault.{ScriptFault}
 use Rattle.next_master.specs.answers.declared.fault.ScriptFault.TheVariants.{BadLine, ReadFailed, WriteFailed, NoMemory}
 use Rattle.script.specs.declared.session.Session.{Session}
-use Rattle.next_master.specs.Configuration.{config_of}
-use Rattle.script.specs.Sessions.{RunsLine, BeginsSession}
+use Rattle.next_master.specs.Configuration.{config_of, MayBegin}
+use Rattle.script.specs.Sessions.{RunsLine, BeginsSession, SetsLater, later_after}
 use Rattle.script.specs.Telling.{TellLives, Told}
 use Rattle.next_master.specs.answers.Texts.{answer_text}
 
@@ -23,6 +23,10 @@ use Rattle.next_master.specs.answers.Texts.{answer_text}
 abbrev pub IsOfFleet : ℕ → LineValue → Type 0
 IsOfFleet backups (Lose backup) = backup < backups
 IsOfFleet backups _ = Unit {0}
+
+-- the session takes the line: its fleet has the backup that the line names, and later masters may begin after the line
+abbrev pub Allows : Session → LineValue → Type 0
+Allows s line = IsOfFleet s.options.backups line × MayBegin (later_after line s.later) s.options
 
 -- a line that was run is one of the script
 pub record IsScriptLine (backups : ℕ) (t : Told) : Type 0 where
@@ -50,12 +54,12 @@ AreLines told bytes = (bytes ≡ texts_of told)
 abbrev pub IsTakenLine : List ℕ → List ℕ → Option (List ℕ) → Type 0
 IsTakenLine text taken left = (taken ≡ text ++ 10 ∷ []) ⊎ ((taken ≡ text) × (0 < length text) × IsAtEnd left)
 
--- a line is bad if it is too long, if its text says no line of this fleet, or if it is line 2^64 - 1
-abbrev pub IsBadLine : ℕ → ℕ → List ℕ → Option (List ℕ) → Type 0
-IsBadLine backups number taken left =
+-- a line is bad if it is too long, if its text says no line that the session takes, or if it is line 2^64 - 1
+abbrev pub IsBadLine : Session → ℕ → List ℕ → Option (List ℕ) → Type 0
+IsBadLine s number taken left =
     (IsUnbroken taken × (length taken ≡ 4097))
     ⊎ ((text : List ℕ) × IsLineText text × IsTakenLine text taken left
-    × ((number ≡ 2 ^ 64 - 1) ⊎ ((line : LineValue) → Says text line → IsOfFleet backups line → ⊥)))
+    × ((number ≡ 2 ^ 64 - 1) ⊎ ((line : LineValue) → Says text line → Allows s line → ⊥)))
 
 -- ---- one session
 
@@ -71,10 +75,12 @@ pub record AreRun (options : Options) (told : List Told) : Type 0 where
   pub begins : BeginsSession options first
   pub run : AreRunOn first told last
 
--- what is said of a bad text: why it says no line or, if it loses a backup, how many backups the fleet has
+-- What is said of a bad text: why it says no line or, if it loses a backup, how many backups the fleet has, or that no
+-- master could begin with what it sets for later masters.
 abbrev pub IsReasonOf : ℕ → List ℕ → Reason → Type 0
 IsReasonOf backups text why =
-    HasReason text why ⊎ ((why ≡ NoBackup backups) × (backup : ℕ) × Says text (Lose backup))
+    HasReason text why ⊎ (((why ≡ NoBackup backups) × (backup : ℕ) × Says text (Lose backup))
+    ⊎ ((why ≡ NoLaterMaster) × (line : LineValue) × SetsLater line × Says text line))
 
 -- why a line is bad
 abbrev pub IsReasonFor : ℕ → ℕ → List ℕ → Option (List ℕ) → Reason → Type 0
@@ -89,17 +95,18 @@ abbrev pub RunResult : Type 0
 RunResult = Result (Unit {0}) ScriptFault
 
 -- What was taken of the reader: the lines that were run, and then nothing, or a bad line, which has the next number,
--- or part of a line at a fault. If the writer fails, it fails at the answer of the last line that was run, or while
--- part of the next line is read.
-abbrev pub EndsWith : ℕ → List Told → List ℕ → Option (List ℕ) → Result (Unit {0}) ScriptFault → Type 0
-EndsWith backups told taken left (Ok done) = AreLines told taken × IsAtEnd left
-EndsWith backups told taken left (Err (BadLine number why)) =
-    (number ≡ suc (length told)) × (bad : List ℕ) × (taken ≡ texts_of told ++ bad) × IsBadLine backups number bad left
-    × IsReasonFor backups number bad left why
-EndsWith backups told taken left (Err ReadFailed) = (part : List ℕ) × (taken ≡ texts_of told ++ part) × IsLineText part
-EndsWith backups told taken left (Err WriteFailed) =
+-- or part of a line at a fault. The session on which the lines were run doesn't take the bad one. If the writer fails,
+-- it fails at the answer of the last line that was run, or while part of the next line is read.
+abbrev pub EndsWith : Options → List Told → List ℕ → Option (List ℕ) → Result (Unit {0}) ScriptFault → Type 0
+EndsWith options told taken left (Ok done) = AreLines told taken × IsAtEnd left
+EndsWith options told taken left (Err (BadLine number why)) =
+    (number ≡ suc (length told)) × (bad : List ℕ) × (taken ≡ texts_of told ++ bad)
+    × (run : AreRun options told) × IsBadLine run.last number bad left
+    × IsReasonFor options.backups number bad left why
+EndsWith options told taken left (Err ReadFailed) = (part : List ℕ) × (taken ≡ texts_of told ++ part) × IsLineText part
+EndsWith options told taken left (Err WriteFailed) =
     AreLines told taken ⊎ ((part : List ℕ) × (taken ≡ texts_of told ++ part) × IsLineText part)
-EndsWith backups told taken left (Err NoMemory) =
+EndsWith options told taken left (Err NoMemory) =
     (part : List ℕ) × (taken ≡ texts_of told ++ part) × (length part ≤ 4097)
 
 -- all answers but the last were written, and a front of the last
@@ -124,5 +131,5 @@ pub record RunsScript (options : Options) (had left held holds : Option (List �
   -- the lines tell of one life after another, and were run on one session; without a line there may be no session
   pub tells : TellLives (config_of options 1) told
   pub session : (told ≡ []) ⊎ AreRun options told
-  pub ends : EndsWith options.backups told taken left result
+  pub ends : EndsWith options told taken left result
   pub prints : Prints held holds told result

@@ -2,7 +2,7 @@
 use Rattle.std.specs.Prelude.{◌≡◌, ◌⊎◌, ℕ, true, false, Some, IfSome, max}
 use Rattle.backup.specs.State.{new_fleet}
 use Rattle.command_line.specs.declared.settings.Options.{Options}
-use Rattle.lines.specs.Grammar.{LineValue, Will, Recover, Clients, Format}
+use Rattle.lines.specs.Grammar.{LineValue, Will, Recover, Clients, Format, Needs, Seglets}
 use Rattle.replica.specs.Picture.{FleetState}
 use Rattle.versioned_map.specs.declared.command.Command.{Command}
 use Rattle.versioned_map.specs.declared.command.Reply.{Reply}
@@ -19,7 +19,8 @@ use Rattle.next_master.specs.node.declared.node.Node.{Node}
 use Rattle.script.specs.declared.outcome.Outcome.{Outcome}
 use Rattle.script.specs.declared.outcome.Outcome.TheVariants as outcome
 use Rattle.script.specs.declared.session.Session.{Session}
-use Rattle.next_master.specs.Configuration.{config_of, later_options, tables_to, one_partition}
+use Rattle.next_master.specs.Configuration.{config_of, later_options, tables_to, one_partition, no_later, MayBegin}
+use Rattle.next_master.specs.declared.later.Later.{Later}
 use Rattle.next_master.specs.node.Lives.{Position, at_start}
 use Rattle.next_master.specs.recovery.Orders.{Covers}
 use Rattle.next_master.specs.driving.Rolls.{PushesUntil}
@@ -28,10 +29,11 @@ use Rattle.next_master.specs.answers.declared.limits.Limits.{Limits}
 use Rattle.next_master.specs.node.Served.{AnswersLine, IsNodeAt, world_of, fleet_of, is_up, HandsOver}
 use Rattle.node_lines.specs.Lines.{MakesLine}
 use Rattle.lines.specs.declared.line.ReplayOrder.{ReplayOrder}
+use Rattle.lines.specs.declared.line.ReplayOrder.TheVariants.{Forward}
 use Rattle.next_master.specs.Numbers.{AreSpent, IsNextNumber, Renumbers}
 use Rattle.next_master.specs.node.declared.tried.Tried.{Tried}
 use Rattle.next_master.specs.node.Waits.{IsReplyAt, MakesTryAfterRoll, TriesLine, WaitsForRoll}
-use Rattle.next_master.specs.Recoveries.{Asked, Ends, MakesLimit, Recovers, ask, order_named}
+use Rattle.next_master.specs.Recoveries.{Asked, Ends, MakesLimit, Recovers, ShowsNeeds, ask, order_named}
 
 -- ---- where a session stands
 
@@ -43,11 +45,11 @@ IsCovered s = Covers (tables_to s.options.tables) s.will
 abbrev pub AreLaterUnraised : Session → Type 0
 AreLaterUnraised s = IfSome (fleet_of s.node) (AreUnraisedAbove s.used)
 
--- the session stands for some master, at some position, and a later one may begin
+-- the session stands for some master, at some position, and a later one may begin, within its limits
 abbrev pub Stands : Session → Type 0
 Stands s = IsCovered s
     × ((d : MasterData) × (at : Position) × IsNodeAt s.node (config_of s.options s.master) d at)
-    × AreLaterUnraised s
+    × AreLaterUnraised s × MayBegin s.later s.options
 
 -- a new master of this configuration, over an empty fleet of as many backups as it says
 abbrev pub new_world : Config → World
@@ -65,8 +67,8 @@ pub record BeginsSession (options : Options) (s : Session) : Type 0 where
   pub covers : IsCovered s
   pub will : s.will ≡ one_partition (tables_to options.tables)
   pub known : s.is_known ≡ true
-  -- no line asked for a format
-  pub format : s.lists_lengths ≡ false
+  -- no line asked for a format, or for a number of seglets
+  pub later : s.later ≡ no_later
 
 -- ---- wills
 
@@ -88,10 +90,38 @@ KeepsWord old (Clients clients rounds passes) new answer = (old.is_known ≡ fal
     × ((calls : ℕ) → answer ≡ Counted clients rounds calls → new.is_known ≡ old.is_known)
 KeepsWord old line new answer = new.is_known ≡ old.is_known
 
--- what a line makes of the format of later masters: the line `format 2` sets it, and no other line changes it
-abbrev pub MakesFormat : Session → LineValue → Session → Type 0
-MakesFormat old Format new = new.lists_lengths ≡ true
-MakesFormat old line new = new.lists_lengths ≡ old.lists_lengths
+-- what a line makes of what later masters have: `format 2` sets their format, `seglets` sets how many seglets they
+-- have, and no other line changes anything
+abbrev pub later_after : LineValue → Later → Later
+later_after Format later = record later { lists_lengths = true }
+later_after (Seglets seglets) later = record later { seglets = Some seglets }
+later_after line later = later
+
+-- the line sets something for masters that start later
+abbrev pub SetsLater : LineValue → Type 0
+SetsLater Format = Unit {0}
+SetsLater (Seglets seglets) = Unit {0}
+SetsLater _ = ⊥
+
+-- Whose life the answer of a line is told of: that of a master with the session's number, whatever else its
+-- configuration says. What a new master needs is told of the session's own master.
+abbrev pub IsToldOf : Session → LineValue → Config → Type 0
+IsToldOf s Needs config = config ≡ config_of s.options s.master
+IsToldOf s line config = config.master ≡ s.master
+
+-- a recovery is of the session's master, by the session's will, in the order that the line names
+abbrev pub asked_of : Session → ReplayOrder → Asked
+asked_of s order = ask s.master s.used s.will (order_named order)
+
+-- What the line `needs` shows. If the session has a master, or if each store of clients could tell whose its records
+-- were, it shows what a recovery of the node in the order of the log would find. Otherwise nothing is recovered any
+-- more.
+abbrev pub SessionShows : Session → LineValue → Answer → Type 0
+SessionShows s Needs answer =
+    (((is_up s.node ≡ true) ⊎ (s.is_known ≡ true))
+    × ShowsNeeds s.node (later_options s.later s.options) (asked_of s Forward) answer)
+    ⊎ ((is_up s.node ≡ false) × (s.is_known ≡ false) × (answer ≡ answers.SeatUnknown))
+SessionShows s line answer = Unit {0}
 
 -- What a line makes of a session that goes on with the life of its master.
 pub record SessionAnswers (old : Session) (line : LineValue) (new : Session) (answer : Answer) : Type 0 where
@@ -99,11 +129,13 @@ pub record SessionAnswers (old : Session) (line : LineValue) (new : Session) (an
   pub options : new.options ≡ old.options
   pub used : new.used ≡ old.used
   pub covers : Stands old → IsCovered new
-  pub answers : (config : Config) → config.master ≡ old.master → AnswersLine old.node config line new.node answer
+  pub answers : (config : Config) → IsToldOf old line config → AnswersLine old.node config line new.node answer
   pub makes : MakesLine old.node line new.node answer
   pub wills : MakesWill old line new answer
   pub word : KeepsWord old line new answer
-  pub format : MakesFormat old line new
+  pub later : new.later ≡ later_after line old.later
+  pub begins : Stands old → MayBegin new.later new.options
+  pub shows : SessionShows old line answer
 
 -- The answer of a line whose command waited for a roll. It tells of what the node stood for before the command waited.
 pub record AnswersAfterRoll (mid : Session) (line : LineValue) (new : Session) (answer : Answer) : Type 0 where
@@ -116,20 +148,16 @@ pub record AnswersAfterRoll (mid : Session) (line : LineValue) (new : Session) (
   pub makes : (command : Command) → command_of line ≡ Some command → MakesTryAfterRoll mid.node command new.node answer
   pub will : new.will ≡ mid.will
   pub known : new.is_known ≡ mid.is_known
-  pub format : new.lists_lengths ≡ mid.lists_lengths
+  pub later : new.later ≡ mid.later
 
 -- ---- recoveries
-
--- the line's recovery is of the session's master, by the session's will, in the order that the line names
-abbrev pub asked_of : Session → ReplayOrder → Asked
-asked_of s order = ask s.master s.used s.will (order_named order)
 
 -- A recovery of a session ended. If the session has a master, or if each store of clients could tell whose its records
 -- were, it ended as a recovery of its node does. Otherwise nothing is recovered any more.
 abbrev pub EndsFor : Session → ReplayOrder → Session → Answer → Type 0
 EndsFor old order new answer =
     (((is_up old.node ≡ true) ⊎ (old.is_known ≡ true))
-    × Ends old.node (later_options old.lists_lengths old.options) (asked_of old order) new.used new.node answer
+    × Ends old.node (later_options old.later old.options) (asked_of old order) new.used new.node answer
     new.master)
     ⊎ ((is_up old.node ≡ false) × (old.is_known ≡ false) × (answer ≡ answers.SeatUnknown) × (new ≡ old))
 
@@ -143,18 +171,18 @@ RenewsWill old new = ((new.master ≡ old.master) × (new.will ≡ old.will))
 -- those of later masters.
 abbrev pub RenewsOptions : Session → Session → Type 0
 RenewsOptions old new = ((new.master ≡ old.master) × (new.options ≡ old.options))
-    ⊎ ((new.master ≡ old.master → ⊥) × (new.options ≡ later_options old.lists_lengths old.options))
+    ⊎ ((new.master ≡ old.master → ⊥) × (new.options ≡ later_options old.later old.options))
 
 -- what a recovery makes of a session
 pub record SessionRecovers (old : Session) (line : LineValue) (new : Session) (answer : Answer) : Type 0 where
   pub order : ReplayOrder
   pub asks : line ≡ Recover order
   pub options : RenewsOptions old new
-  pub format : new.lists_lengths ≡ old.lists_lengths
+  pub later : new.later ≡ old.later
   pub known : new.is_known ≡ old.is_known
   pub covers : Stands old → IsCovered new
   pub numbers : Renumbers old.master old.used new.master new.used
-  pub recovers : Recovers old.node old.options old.lists_lengths old.master order new.node answer new.master
+  pub recovers : Recovers old.node old.options old.later old.master order new.node answer new.master
   pub ends : EndsFor old order new answer
   pub limit : MakesLimit old.node new.node answer
   pub will : RenewsWill old new

@@ -2,7 +2,7 @@
 use Rattle.std.specs.Prelude.{[], ◌≡◌, ◌⊎◌, ◌<◌, ◌≤◌, ◌-◌, ◌^◌, ℕ, List, ◌∷◌, ◌++◌, length, Bool, true, false, Option}
 use Rattle.std.specs.Prelude.{Result, Ok, Err}
 use Rattle.std.specs.Io.KnownBytes.{Appends, Consumes, IsAtEnd, Keeps}
-use Rattle.lines.specs.Grammar.{LineValue, Says, Put, New, Cas}
+use Rattle.lines.specs.Grammar.{LineValue, Says, Put, New, Cas, Lose}
 use Rattle.lines.specs.Reading.{IsLineText}
 use Rattle.lines.specs.declared.reason.Reason.TheVariants.{TooMany}
 use Rattle.next_master.specs.answers.declared.answer.Answer.{Answer}
@@ -11,8 +11,9 @@ use Rattle.next_master.specs.answers.declared.fault.ScriptFault.TheVariants as f
 use Rattle.script.specs.declared.session.LineFault.{LineFault}
 use Rattle.script.specs.declared.session.LineFault.TheVariants as line_fault
 use Rattle.script.specs.declared.session.Session.{Session}
-use Rattle.script.specs.Runs.{IsOfFleet, IsTakenLine, IsBadLine, IsReasonFor, IsReasonOf, RunResult}
-use Rattle.script.specs.Sessions.{RunsLine}
+use Rattle.script.specs.Runs.{Allows, IsOfFleet, IsTakenLine, IsBadLine, IsReasonFor, IsReasonOf, RunResult}
+use Rattle.script.specs.Sessions.{RunsLine, SetsLater, later_after}
+use Rattle.next_master.specs.Configuration.{MayBegin}
 use Rattle.next_master.specs.answers.Texts.{answer_text}
 use Rattle.next_master.specs.answers.Errors.{AppendsFront}
 
@@ -27,10 +28,13 @@ HasValue (New table key value) = length value ≤ 2097152
 HasValue (Cas table key version value) = length value ≤ 2097152
 HasValue _ = Unit {0}
 
--- why a line wasn't run
-abbrev pub RefusesLine : ℕ → LineValue → LineFault → Type 0
-RefusesLine backups line line_fault.Bad = IsOfFleet backups line → ⊥
-RefusesLine backups line line_fault.NoMemory = Unit {0}
+-- why a line wasn't run: it names a backup that isn't there, later masters couldn't begin, or memory ran out
+abbrev pub RefusesLine : Session → LineValue → LineFault → Type 0
+RefusesLine s line line_fault.NoBackup =
+    (backup : ℕ) × (line ≡ Lose backup) × (backup < s.options.backups → ⊥)
+RefusesLine s line line_fault.NoLaterMaster =
+    SetsLater line × (MayBegin (later_after line s.later) s.options → ⊥)
+RefusesLine s line line_fault.NoMemory = Unit {0}
 
 -- the line of a text was run on a session, which became another
 pub record RunsText (old : Session) (text : List ℕ) (new : Session) (answer : Answer) : Type 0 where
@@ -53,7 +57,7 @@ IsPrinted held holds answer (Err e) = (e ≡ fault.WriteFailed) × AppendsFront 
 abbrev pub PrintsText : Session → Session → List ℕ → ℕ → Known → Known → RunResult → Type 0
 PrintsText old new text number held holds (Ok done) = AnswersText old text new held holds
 PrintsText old new text number held holds (Err (fault.BadLine n why)) =
-    (n ≡ number) × ((line : LineValue) → Says text line → IsOfFleet old.options.backups line → ⊥) × Keeps held holds
+    (n ≡ number) × ((line : LineValue) → Says text line → Allows old line → ⊥) × Keeps held holds
     × IsReasonOf old.options.backups text why
 PrintsText old new text number held holds (Err fault.ReadFailed) = ⊥
 PrintsText old new text number held holds (Err fault.WriteFailed) =
@@ -72,7 +76,7 @@ TakesTurn old new number had left held holds (Ok false) =
     × AnswersText old text new held holds)
     ⊎ (Consumes had left [] × IsAtEnd left × Keeps held holds)
 TakesTurn old new number had left held holds (Err (fault.BadLine n why)) =
-    (n ≡ number) × (bad : List ℕ) × Consumes had left bad × IsBadLine old.options.backups number bad left
+    (n ≡ number) × (bad : List ℕ) × Consumes had left bad × IsBadLine old number bad left
     × Keeps held holds
     × IsReasonFor old.options.backups number bad left why
 TakesTurn old new number had left held holds (Err fault.ReadFailed) =
@@ -88,7 +92,7 @@ TakesTurn old new number had left held holds (Err fault.NoMemory) =
 abbrev pub IsNoMore : Known → Known → Known → Known → RunResult → Type 0
 IsNoMore had left held holds (Ok done) = Consumes had left [] × IsAtEnd left × Keeps held holds
 IsNoMore had left held holds (Err (fault.BadLine n why)) =
-    (n ≡ 2 ^ 64 - 1) × (bad : List ℕ) × Consumes had left bad × ((backups : ℕ) → IsBadLine backups n bad left)
+    (n ≡ 2 ^ 64 - 1) × (bad : List ℕ) × Consumes had left bad × ((s : Session) → IsBadLine s n bad left)
     × Keeps held holds × (why ≡ TooMany)
 IsNoMore had left held holds (Err fault.ReadFailed) =
     (part : List ℕ) × Consumes had left part × IsLineText part × Keeps held holds

@@ -201,10 +201,14 @@ fn run_other<H: Threads + Wait + Sync, W: Write>(
     let backups = session.backups();
     match session.run_any(rt, line) {
         Ok(answer) => print_answer(writer, &answer),
-        Err(LineFault::Bad) => {
+        Err(LineFault::NoBackup) => {
             // This text is that of no other line.
             one_line();
             Err(ScriptFault::BadLine(number, Reason::NoBackup(backups)))
+        }
+        Err(LineFault::NoLaterMaster) => {
+            one_line();
+            Err(ScriptFault::BadLine(number, Reason::NoLaterMaster))
         }
         Err(LineFault::NoMemory) => Err(ScriptFault::NoMemory),
     }

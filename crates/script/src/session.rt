@@ -1,6 +1,6 @@
 //! What a script drives: a fleet, and the master over it if there is one.
 
-ghost use Rattle.std.specs.Prelude.{◌≡◌, ◌≤◌, ℕ, List, length, None, Some, IfOk, IfErr};
+ghost use Rattle.std.specs.Prelude.{◌≡◌, ◌≤◌, ℕ, List, length, true, false, None, Some, IfOk, IfErr};
 ghost use Rattle.entry.specs.View.{shown_key};
 ghost use Rattle.history.specs.View.{shown_command as lent_command};
 ghost use Rattle.versioned_map.specs.declared.command.Command.TheVariants as asked;
@@ -10,10 +10,10 @@ ghost use Rattle.next_master.specs.answers.Errors.{IsHanded};
 ghost use Rattle.next_master.specs.answers.Texts.{reply_text};
 ghost use Rattle.next_master.specs.node.Waits.{IsReplyAt};
 ghost use Rattle.lines.specs.Grammar.{Begin, Clean, Clients, Recover, IsLine, IsOrder, shown_command, shown_line};
-ghost use Rattle.lines.specs.Grammar.{Format, Will as WillLine};
+ghost use Rattle.lines.specs.Grammar.{Format, Needs, Seglets, Will as WillLine};
 ghost use Rattle.lines.specs.Numbers.{numbers_of};
 ghost use Rattle.next_master.specs.master.master_state.Config.{config_fault};
-ghost use Rattle.next_master.specs.Configuration.{config_of};
+ghost use Rattle.next_master.specs.Configuration.{config_of, MayBegin};
 ghost use Rattle.script.specs.declared.session.LineFault.TheVariants as line_fault;
 ghost use Rattle.script.specs.Runs.{IsOfFleet};
 ghost use Rattle.script.specs.declared.session.Session.{Session as SessionValue};
@@ -33,7 +33,9 @@ use next_master::driving::push_all;
 use next_master::master::{CommandRef, If, Master, Refusal, Step, ValueRef};
 use next_master::node::{Node, Tried};
 use next_master::recovery::{PlanFault, RecoveryFault};
-use next_master::{configuration, later_options, recover_node, whole_will};
+use next_master::{
+    Later, Request, can_begin, configuration, later_options, node_needs, recover_node, whole_will,
+};
 use node_lines::store_clients::Workload;
 use node_lines::{Served, serve_clients};
 use std::alloc::Global;
@@ -45,7 +47,11 @@ use tablet_will::Will;
 /// Why a line was not run.
 #[derive(Clone, Copy)]
 pub enum LineFault {
-    Bad,
+    /// The line names a backup that isn't there.
+    NoBackup,
+    /// With what the line sets, no master that starts later would be within its limits.
+    NoLaterMaster,
+    /// Memory ran out before the line began.
     NoMemory,
 }
 
@@ -61,7 +67,8 @@ impl From<NoMemory> for LineFault {
 pub(crate) const FIRST_MASTER: u64 = 1;
 
 /// What a script drives: a node, which is a fleet with the master over it if there is one, and what outlives the
-/// masters of a node: the coordinator's will, the numbers that masters had, and the format of later masters.
+/// masters of a node: the coordinator's will, the numbers that masters had, and the format and the seglets of later
+/// masters.
 ///
 /// `start` makes an empty fleet, and a master over it whose head is open. `serve` applies the command of a line, and
 /// mostly gives the place of the record whose reply is to be printed. Otherwise `finish` gives the answer. `run_any`
@@ -71,8 +78,8 @@ pub(crate) const FIRST_MASTER: u64 = 1;
 ///   may begin (*Stands*).
 /// - Refusals: a line that the node refuses is answered, and the session goes on. A command that is refused as Halted
 ///   or NoMemory may have been applied, and after Halted or Lost a backup may have taken an op. `LineFault` comes only
-///   for a line that names a backup that isn't there, or if memory runs out before the line began; then nothing has
-///   changed.
+///   for a line that names a backup that isn't there, for one after which later masters would not be within their
+///   limits, or if memory runs out before the line began; then nothing has changed.
 /// - Cost: what the node's own call costs. A session has no more than the node, a will and a few words.
 ///
 /// ```text
@@ -86,8 +93,8 @@ pub struct Session {
     alloc: Global,
     /// The options of the master that a recovery is for.
     options: Options,
-    /// Whether a line asked for format 2. Then masters that start later list each segment with its length.
-    lists_lengths: bool,
+    /// What masters that start later have in place of these options.
+    later: Later,
     /// The number of the master that a recovery is for.
     master: u64,
     /// The greatest number that a master had, or was to have.
@@ -121,7 +128,7 @@ impl Session {
         Ok(Session {
             alloc,
             options: *options,
-            lists_lengths: false,
+            later: Later::none(),
             master: FIRST_MASTER,
             used: FIRST_MASTER,
             will,
@@ -160,7 +167,7 @@ impl Session {
         requires stands { Stands self.old }
         ensures ran { IfOk result (λ answer. RunsLine self.old (shown_line line.entry) self.new answer) }
         ensures of_fleet { IfOk result (λ _. IsOfFleet self.old.options.backups (shown_line line.entry)) }
-        ensures refused { IfErr result (RefusesLine self.old.options.backups (shown_line line.entry)) }
+        ensures refused { IfErr result (RefusesLine self.old (shown_line line.entry)) }
     {
         match line {
             Line::Idle => Ok(Answer::Silent),
@@ -168,12 +175,14 @@ impl Session {
             Line::Hex { segment } => Ok(self.node.hex(segment)),
             Line::Stop { takes } => Ok(self.node.stop(takes)),
             Line::Fault { takes, taken } => Ok(self.node.fault(takes, taken)),
-            Line::Format => Ok(self.run_format()),
+            Line::Format => self.run_format(),
+            Line::Seglets { seglets } => self.run_seglets(seglets),
             Line::Crash => Ok(self.node.crash()),
-            Line::Lose { backup } if backup >= self.options.backups => Err(LineFault::Bad),
+            Line::Lose { backup } if backup >= self.options.backups => Err(LineFault::NoBackup),
             Line::Lose { backup } => Ok(self.node.lose(backup)),
             Line::Will => Ok(self.run_will()),
             Line::Recover { order } => Ok(self.run_recover(rt, order)),
+            Line::Needs => Ok(self.run_needs(rt)),
             Line::Roll => Ok(self.node.roll()),
             Line::BeginRoll => Ok(self.node.step(Step::BeginRoll)),
             Line::Compact { segment } => Ok(self.node.step(Step::Compact(segment))),
@@ -185,6 +194,7 @@ impl Session {
             Line::Free => Ok(self.node.step(Step::Free)),
             Line::Log => Ok(self.node.log()),
             Line::Room => Ok(self.node.room()),
+            Line::Live => Ok(self.node.live()),
             Line::Holdings => Ok(self.node.holdings(self.alloc)),
             Line::Clients {
                 clients,
@@ -201,12 +211,67 @@ impl Session {
         }
     }
 
-    /// Runs the line that sets the format of later masters.
-    fn run_format(&mut self) -> Answer
-        ensures { SessionAnswers self.old Format self.new result }
+    /// Sets what later masters have, if they are within their limits with it. Answers whether they are. If not, nothing
+    /// changes.
+    fn set_later(&mut self, later: Later) -> bool
+        requires { Stands self.old }
+        ensures set { result ≡ true → self.new ≡ record self.old { later = later } }
+        ensures begins { result ≡ true → MayBegin later self.old.options }
+        ensures kept { result ≡ false → self.new ≡ self.old }
+        ensures refused { result ≡ false → MayBegin later self.old.options → ⊥ }
     {
-        self.lists_lengths = true;
-        Answer::Format
+        if !can_begin(&self.options, &later) {
+            return false;
+        }
+        self.later = later;
+        true
+    }
+
+    /// Runs the line that sets the format of later masters.
+    fn run_format(&mut self) -> Result<Answer, LineFault>
+        requires { Stands self.old }
+        ensures ran { IfOk result (SessionAnswers self.old Format self.new) }
+        ensures refused { IfErr result (RefusesLine self.old Format) }
+    {
+        let later = self.later.with_lengths();
+        if !self.set_later(later) {
+            return Err(LineFault::NoLaterMaster);
+        }
+        Ok(Answer::Format)
+    }
+
+    /// Runs the line that sets how many seglets later masters have.
+    fn run_seglets(&mut self, seglets: u64) -> Result<Answer, LineFault>
+        requires { Stands self.old }
+        ensures ran { IfOk result (SessionAnswers self.old (Seglets seglets) self.new) }
+        ensures refused { IfErr result (RefusesLine self.old (Seglets seglets)) }
+    {
+        let later = self.later.with_seglets(seglets);
+        if !self.set_later(later) {
+            return Err(LineFault::NoLaterMaster);
+        }
+        Ok(Answer::Seglets(seglets))
+    }
+
+    /// Runs the line that asks what a new master needs to adopt what a recovery would find.
+    #[inline(never)]
+    fn run_needs<H: Threads + Wait + Sync>(&self, rt: &H) -> Answer
+        requires { Stands self.now }
+        ensures { SessionAnswers self.now Needs self.now result }
+    {
+        if let Node::Up(_) = self.node {
+            return Answer::Up;
+        }
+        if self.is_known {
+            let request = Request {
+                options: self.options,
+                later: self.later,
+                master: self.master,
+                used: self.used,
+            };
+            return node_needs(rt, self.alloc, &self.node, request, &self.will);
+        }
+        Answer::SeatUnknown
     }
 
     /// Runs the line that makes the coordinator's will anew of the live objects.
@@ -237,21 +302,17 @@ impl Session {
         let Ok(whole) = whole_will(self.alloc, &self.options) else {
             return Answer::NotRecovered(RecoveryFault::Plan(PlanFault::NoMemory));
         };
-        let recovery = recover_node(
-            rt,
-            self.alloc,
-            &mut self.node,
-            &self.options,
-            self.lists_lengths,
-            self.master,
-            self.used,
-            &self.will,
-            order,
-        );
+        let request = Request {
+            options: self.options,
+            later: self.later,
+            master: self.master,
+            used: self.used,
+        };
+        let recovery = recover_node(rt, self.alloc, &mut self.node, request, &self.will, order);
         self.used = recovery.used;
         if recovery.master != self.master {
             self.master = recovery.master;
-            self.options = later_options(&self.options, self.lists_lengths);
+            self.options = later_options(&self.options, &self.later);
             self.will = whole;
         }
         recovery.answer

@@ -12,7 +12,7 @@ use entry::NoMemory;
 use next_master::answers::Answer;
 use next_master::master::{Config, Master};
 use next_master::recovery::{PlanFault, RecoveryFault};
-use next_master::{configuration, later_options, next_number};
+use next_master::{Later, configuration, later_options, next_number};
 use replica::{Fleet, Inventory};
 use std::alloc::Global;
 
@@ -51,7 +51,11 @@ pub fn next_config(
     let Some(number) = next_number(inventory.as_slice(), greatest) else {
         return Err(Answer::NumbersSpent);
     };
-    let later = later_options(options, lists_lengths);
+    let asked = Later {
+        lists_lengths,
+        seglets: None,
+    };
+    let later = later_options(options, &asked);
     match configuration(alloc, &later, number) {
         Ok(config) => fitting(options, fleet, config),
         Err(NoMemory) => Err(want()),

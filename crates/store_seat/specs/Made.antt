@@ -31,6 +31,8 @@ nobody = record {
     history = 0;
     hasher = fast_hasher;
     format = 1;
+    largest = 0;
+    most_live = 0;
   };
   origin = no_origin;
   begun = [];

@@ -1,9 +1,10 @@
-use Rattle.std.proofs.Common.{◌≡◌, Bool, true, ℕ, ◌++◌, ◌∙◌, subst, sym}
+use Rattle.std.proofs.Common.{◌≡◌, Bool, true, ℕ, List, ◌++◌, ◌∙◌, append-nil, subst, sym}
 use Rattle.std.specs.Prelude.{codes}
 use Rattle.std.specs.Fmt.{decimal}
 use Rattle.recovery.specs.master.master_state.declared.config.Config.{Config}
 use Rattle.recovery.specs.master.master_state.declared.config.ConfigFault.{ConfigFault}
 use Rattle.recovery.specs.master.master_state.declared.config.ConfigFault.TheVariants.{BadBackups, BadSegment, BadBudget}
+use Rattle.recovery.specs.master.master_state.declared.config.ConfigFault.TheVariants.{BadLive}
 use Rattle.answers.specs.Errors.{Errors, Writes}
 use Rattle.answers.specs.Texts.{config_why_line, error_line}
 use Rattle.answers.proofs.fault.write_config_why.Goals as goal
@@ -37,3 +38,11 @@ returns-in-BadBudget g c =
     (subst (λ (n : ℕ). Writes c.args.errors.now c.write_line-in-BadBudget.new.errors
     (error_line (codes "--seglets is less than those of four segments by " ++ decimal n)))
     c.saturating_sub-by-in-BadBudget.ensures c.write_line-in-BadBudget.ensures)
+
+pub returns-in-BadLive : goal.returns-in-BadLive
+returns-in-BadLive g c =
+    let text = codes "--live is more than a new master can always load" in
+    told c.args.errors.now c.write_line-in-BadLive.new.errors c.args.config.now c.args.fault BadLive
+    c.in-BadLive.is (sym c.explains.ensures ∙ c.if-not-explains.false)
+    (subst (λ (l : List ℕ). Writes c.args.errors.now c.write_line-in-BadLive.new.errors (error_line l))
+    (append-nil text) c.write_line-in-BadLive.ensures)

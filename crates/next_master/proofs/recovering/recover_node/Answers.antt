@@ -17,12 +17,13 @@ use Rattle.next_master.proofs.NextLife.{cut_told, declined_told, has_backups, no
 use Rattle.next_master.proofs.NextLife.{not_of_refusal, recovered_told}
 use Rattle.next_master.proofs.HowItEnds.{cut_over, down_on, taken_over, up_at}
 use Rattle.node.proofs.Standing.{stays_told, up_told}
+use Rattle.next_master.proofs.NextConfig.{checked_later}
 use Rattle.next_master.proofs.recovering.recover_node.Goals as goal
 
 pub returns-in_default : goal.returns-in_default
 returns-in_default g c =
     let s = c.requires.stands in
-    let old = config_of c.args.options.now c.args.master in
+    let old = config_of c.args.request.options c.args.request.master in
     let up = up_at c.args.node.now old s.0 s.1 c.in_default.not-Down s.2 in
     record {
       recovers = inl (refl, up_told c.args.node.now old (Recover c.args.order) up refl);
@@ -35,16 +36,21 @@ returns-in_default g c =
 pub returns-in-Err-clause-recovers : goal.returns-in-Err-clause-recovers
 returns-in-Err-clause-recovers g c =
     let order = c.args.order in
-    let old = config_of c.args.options.now c.args.master in
+    let old = config_of c.args.request.options c.args.request.master in
     inl (
       refl,
       subst (λ (n : Node). AnswersLine n old (Recover order) (Down c.in-Down.fleet) c.in-Err.answer) (sym c.in-Down.is)
-          (stays_told (Down c.in-Down.fleet) old (Recover order) c.in-Err.answer (c.in-Err.ensures.none order)),
+          (stays_told (Down c.in-Down.fleet) old (Recover order) c.in-Err.answer (λ d at s. c.in-Err.ensures.none (Recover order) d at (inl (order, refl)) s)),
     )
 
 pub find_inheritance-requires-clause-later : goal.find_inheritance-requires-clause-later
 find_inheritance-requires-clause-later g c = λ κs outlive.
-    subst (λ (n : Node). IfSome (fleet_of n) (AreUnraisedAbove c.args.used)) c.in-Down.is c.requires.later
+    subst (λ (n : Node). IfSome (fleet_of n) (AreUnraisedAbove c.args.request.used)) c.in-Down.is c.requires.later
+
+pub adopt-requires-clause-config : goal.adopt-requires-clause-config
+adopt-requires-clause-config g c =
+    checked_later c.args.request.later c.args.request.options c.in-Ok.found.config c.in-Ok.ensures.found.configured
+    c.requires.begins
 
 pub adopt-requires-clause-fleet : goal.adopt-requires-clause-fleet
 adopt-requires-clause-fleet g c =
@@ -52,7 +58,7 @@ adopt-requires-clause-fleet g c =
     let found = c.in-Ok.ensures.found in (
       c.in-Down.fleet,
       refl,
-      has_backups c.in-Down.fleet c.args.options.now c.args.lists_lengths c.args.master c.in-Ok.found.rebuilt c.in-Ok.found.config
+      has_backups c.in-Down.fleet c.args.request.options c.args.request.later c.args.request.master c.in-Ok.found.rebuilt c.in-Ok.found.config
           found c.args.node.now
           c.in-Down.is Forward s.0 s.1 s.2,
       found.unused,
@@ -64,7 +70,7 @@ returns-in-Some-clause-recovers g c =
     let order = c.args.order in
     inl (
       refl,
-      declined_told c.in-Down.fleet c.args.options.now c.args.lists_lengths c.args.master c.in-Ok.found.rebuilt c.in-Ok.found.config
+      declined_told c.in-Down.fleet c.args.request.options c.args.request.later c.args.request.master c.in-Ok.found.rebuilt c.in-Ok.found.config
           c.in-Ok.ensures.found
           c.args.node.now c.in-Down.is order c.adopt.new.node c.in-Some.answer (c.in-Some.ensures c.in-Down.fleet refl),
     )
@@ -73,7 +79,7 @@ pub returns-in-None-clause-recovers : goal.returns-in-None-clause-recovers
 returns-in-None-clause-recovers g c =
     let order = c.args.order in
     let a = c.in_default-adopt.ensures c.in-Down.fleet refl in
-    inr (recovered_told c.in-Down.fleet c.args.options.now c.args.lists_lengths c.args.master c.in-Ok.found.rebuilt c.in-Ok.found.config
+    inr (recovered_told c.in-Down.fleet c.args.request.options c.args.request.later c.args.request.master c.in-Ok.found.rebuilt c.in-Ok.found.config
     c.in-Ok.ensures.found
     c.args.node.now c.in-Down.is order a.0.knows a.2 c.retire.new.node
     (c.in-None.ensures.others a.0.knows (subst (λ (n : Node). IsOf n None a.0.knows) (sym a.1) (refl, refl, a.3))))
@@ -82,7 +88,7 @@ pub returns-in-Some-retire-clause-recovers : goal.returns-in-Some-retire-clause-
 returns-in-Some-retire-clause-recovers g c =
     let order = c.args.order in
     let a = c.in_default-adopt.ensures c.in-Down.fleet refl in
-    inr (cut_told c.in-Down.fleet c.args.options.now c.args.lists_lengths c.args.master c.in-Ok.found.rebuilt c.in-Ok.found.config
+    inr (cut_told c.in-Down.fleet c.args.request.options c.args.request.later c.args.request.master c.in-Ok.found.rebuilt c.in-Ok.found.config
     c.in-Ok.ensures.found
     c.args.node.now c.in-Down.is order a.0.knows a.2 c.retire.new.node c.in-Some-retire.answer
     (c.in-Some-retire.ensures.others a.0.knows (subst (λ (n : Node). IsOf n None a.0.knows) (sym a.1)
@@ -105,7 +111,7 @@ returns-in-Some-retire-clause-numbers g c = let above = c.in-Ok.ensures.fresh in
 
 pub returns-in-Err-clause-spent : goal.returns-in-Err-clause-spent
 returns-in-Err-clause-spent g c = λ is.
-    subst (λ (n : Node). IfSome (fleet_of n) (λ (f : FleetState). AreSpent (max c.args.master c.args.used) f.picture))
+    subst (λ (n : Node). IfSome (fleet_of n) (λ (f : FleetState). AreSpent (max c.args.request.master c.args.request.used) f.picture))
     (sym c.in-Down.is)
     (c.in-Err.ensures.spent is)
 
@@ -130,19 +136,19 @@ returns-in-Err-clause-least g c = inl refl
 pub returns-in-Some-clause-least : goal.returns-in-Some-clause-least
 returns-in-Some-clause-least g c = inr
     (subst (λ (n : Node). IfSome (fleet_of n) (λ (f : FleetState). IsNextNumber
-    (max c.args.master c.args.used) f.picture c.in-Ok.found.config.master))
+    (max c.args.request.master c.args.request.used) f.picture c.in-Ok.found.config.master))
     (sym c.in-Down.is) c.in-Ok.ensures.least)
 
 pub returns-in-None-clause-least : goal.returns-in-None-clause-least
 returns-in-None-clause-least g c = inr
     (subst (λ (n : Node). IfSome (fleet_of n) (λ (f : FleetState). IsNextNumber
-    (max c.args.master c.args.used) f.picture c.in-Ok.found.config.master))
+    (max c.args.request.master c.args.request.used) f.picture c.in-Ok.found.config.master))
     (sym c.in-Down.is) c.in-Ok.ensures.least)
 
 pub returns-in-Some-retire-clause-least : goal.returns-in-Some-retire-clause-least
 returns-in-Some-retire-clause-least g c = inr
     (subst (λ (n : Node). IfSome (fleet_of n) (λ (f : FleetState). IsNextNumber
-    (max c.args.master c.args.used) f.picture c.in-Ok.found.config.master))
+    (max c.args.request.master c.args.request.used) f.picture c.in-Ok.found.config.master))
     (sym c.in-Down.is) c.in-Ok.ensures.least)
 
 pub returns-in-Err-clause-ends : goal.returns-in-Err-clause-ends

@@ -16,4 +16,6 @@ returns-clause-config c =
       history = options.history;
       hasher = c.new-2.ensures i;
       format = options.format;
+      largest = options.largest;
+      most_live = options.live;
     }

@@ -1,11 +1,12 @@
-use Rattle.std.proofs.Common.{suc, refl, subst}
+use Rattle.std.proofs.Common.{suc, refl, sym, ap, subst, ◌∙◌}
 use Rattle.std.specs.Prelude.{Result}
 use Rattle.claims.specs.declared.rebuilt.Rebuilt.{Rebuilt}
 use Rattle.replay.specs.master.World.{world}
 use Rattle.recovery.specs.declared.recovery.RecoveryFault.{RecoveryFault}
 use Rattle.replay.specs.master.master_state.declared.config.Config.{Config}
 use Rattle.recovery.specs.Succession.{IsDrillBy, IsSuccessor}
-use Rattle.recovery.proofs.Following.{config_of_next, drill_by, drill_newest, newest_again, is_not_adopted}
+use Rattle.replay.specs.master.master_state.Config.{config_fault}
+use Rattle.recovery.proofs.Following.{any_number, config_of_next, drill_by, drill_newest, newest_again, is_not_adopted}
 use Rattle.recovery.proofs.succession.live.Goals as goal
 
 pub succeed-requires-clause-newest : goal.succeed-requires-clause-newest
@@ -62,3 +63,8 @@ returns-in-Err-succeed-clause-ends g c =
           (state c.in-Err-succeed.fleet) c.in-Err-succeed.why c.requires.config c.number-number.ensures
           c.in-Err-succeed.ensures.refused,
     )
+
+pub succeed-requires-clause-config : goal.succeed-requires-clause-config
+succeed-requires-clause-config g c =
+    sym (any_number c.args.master.knows.config.master c.args.config.now) ∙ ap config_fault (sym c.requires.config)
+    ∙ c.show_valid.ensures.config

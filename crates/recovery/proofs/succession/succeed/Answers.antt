@@ -1,8 +1,9 @@
-use Rattle.std.proofs.Common.{◌≡◌, suc, ap, subst, arith}
+use Rattle.std.proofs.Common.{◌≡◌, suc, ap, subst, ◌∙◌, arith}
 use Rattle.replay.specs.Adopting.{DeclinesList}
 use Rattle.replay.specs.master.master_state.declared.config.Config.{Config}
 use Rattle.recovery.specs.Succession.{with_number}
-use Rattle.recovery.proofs.Following.{config_next, is_successor, adopted_newest}
+use Rattle.replay.specs.master.master_state.Config.{config_fault}
+use Rattle.recovery.proofs.Following.{any_number, config_next, is_successor, adopted_newest}
 use Rattle.recovery.proofs.succession.succeed.Goals as goal
 
 pub adopt_list-requires-clause-least : goal.adopt_list-requires-clause-least
@@ -40,3 +41,7 @@ returns-clause-newest g c =
     (state c.in-Ok-adopt_list.master.fleet) (state c.retire-retired.new.self.fleet) c.in-Ok-adopt_list.master.knows
     c.retire-retired.result same c.in-Ok-adopt_list.ensures.adopted c.in-Ok-adopt_list.ensures.fleet
     c.retire-retired.ensures.retires c.requires.newest
+
+pub adopt_list-requires-clause-config : goal.adopt_list-requires-clause-config
+adopt_list-requires-clause-config g c =
+    ap config_fault c.in-Ok.ensures ∙ any_number c.in-Some.next c.args.config.now ∙ c.requires.config

@@ -1,10 +1,9 @@
-use Rattle.std.proofs.Common.{ap, inr, refl, subst}
+use Rattle.std.proofs.Common.{ap, inl, inr, refl, subst}
 use Rattle.std.proofs.KnownBytes.{Keeps-refl}
 use Rattle.lines.specs.Grammar.{LineValue, Says, shown_line}
 use Rattle.lines.specs.declared.reason.Reason.TheVariants.{NoBackup}
-use Rattle.script.specs.Runs.{IsOfFleet}
 use Rattle.script.specs.Turns.{RefusesLine}
-use Rattle.script.proofs.Commanding.{loses_one}
+use Rattle.script.proofs.Commanding.{no_backup, says_none}
 use Rattle.script.proofs.Turning.{answer_printed}
 use Rattle.script.proofs.running.run_other.Goals as goal
 
@@ -19,20 +18,32 @@ returns-in-Ok g c =
     })
     c.print_answer.ensures
 
-pub returns-in-Err-Bad : goal.returns-in-Err-Bad
-returns-in-Err-Bad g c =
-    let backups = c.args.session.now.options.backups in
-    let refused = subst (RefusesLine backups (shown_line c.args.line)) c.in-Err-Bad.field-0-is
-    c.in-Err-Bad.ensures.refused in
-    let lost = loses_one backups (shown_line c.args.line) refused in (
+pub returns-in-Err-NoBackup : goal.returns-in-Err-NoBackup
+returns-in-Err-NoBackup g c =
+    let s = c.args.session.now in
+    let line = shown_line c.args.line in
+    let refused = subst (RefusesLine s line) c.in-Err-NoBackup.field-0-is c.in-Err-NoBackup.ensures.refused in (
       refl,
-      λ line says of_fleet. refused
-          (subst (IsOfFleet backups) (c.one_line.ensures c.args._text.now line (shown_line c.args.line) says
-          c.requires.says) of_fleet),
+      λ other says allows. says_none s other line (c.one_line.ensures c.args._text.now other line says c.requires.says)
+          (no_backup s line refused) allows,
       Keeps-refl _,
-      inr (
+      inr (inl (
         ap NoBackup c.backups-backups.ensures,
-        lost.0,
-        subst (λ (l : LineValue). Says c.args._text.now l) lost.1 c.requires.says,
-      ),
+        refused.0,
+        subst (λ (l : LineValue). Says c.args._text.now l) refused.1 c.requires.says,
+      )),
+    )
+
+pub returns-in-Err-NoLaterMaster : goal.returns-in-Err-NoLaterMaster
+returns-in-Err-NoLaterMaster g c =
+    let s = c.args.session.now in
+    let line = shown_line c.args.line in
+    let refused =
+    subst (RefusesLine s line) c.in-Err-NoLaterMaster.field-0-is c.in-Err-NoLaterMaster.ensures.refused in (
+      refl,
+      λ other says allows. says_none s other line
+          (c.one_line-in-Err-NoLaterMaster.ensures c.args._text.now other line says c.requires.says)
+          (λ all. refused.1 all.1) allows,
+      Keeps-refl _,
+      inr (inr (refl, line, refused.0, c.requires.says)),
     )

@@ -21,7 +21,7 @@ returns-in-Some c = (
     makes = λ command asks. not_rolled_makes c.args.self.now.node _ command c.in-Some.answer c.in-Some.ensures.rolled;
     will = refl;
     known = refl;
-    format = refl;
+    later = refl;
   },
 )
 
@@ -44,7 +44,7 @@ returns-in-Replied c =
             (rolled_makes c.args.self.now.node _ _ tried answer c.in_default.ensures.rolled t.3);
         will = refl;
         known = refl;
-        format = refl;
+        later = refl;
       },
     )
 
@@ -67,7 +67,7 @@ returns-in-Refused c =
             (rolled_makes c.args.self.now.node _ _ tried answer c.in_default.ensures.rolled t.1);
         will = refl;
         known = refl;
-        format = refl;
+        later = refl;
       },
     )
 
@@ -90,7 +90,7 @@ returns-in-Down c =
             (rolled_makes c.args.self.now.node _ _ tried answer c.in_default.ensures.rolled t.1);
         will = refl;
         known = refl;
-        format = refl;
+        later = refl;
       },
     )
 
@@ -114,6 +114,6 @@ returns-in-Waits c =
             (rolling_makes c.args.self.now.node _ _ tried c.in_default.ensures.rolled t.1);
         will = refl;
         known = refl;
-        format = refl;
+        later = refl;
       },
     )

@@ -1,8 +1,10 @@
-use Rattle.std.proofs.Common.{inl, inr, refl}
-use Rattle.lines.specs.Grammar.{Idle}
+use Rattle.std.proofs.Common.{inl, inr, refl, arith}
+use Rattle.lines.specs.Grammar.{Format, Idle, Seglets}
 use Rattle.next_master.specs.answers.declared.answer.Answer.TheVariants.{Silent}
 use Rattle.next_master.proofs.of_node.Standing.{stays_told}
+use Rattle.script.specs.Sessions.{RunsLine, SessionAnswers}
 use Rattle.script.proofs.Commanding.{has_command}
+use Rattle.script.proofs.Sessions.{ok_runs}
 use Rattle.script.proofs.session.Session.run_any.Goals as goal
 
 pub unreachable-requires : goal.unreachable-requires
@@ -19,7 +21,9 @@ returns-in-Idle-clause-ran g c = rw c.in-Idle.is (inl (record {
   makes = refl;
   wills = refl;
   word = refl;
-  format = refl;
+  later = refl;
+  begins = λ all. all.3;
+  shows = tt;
 }))
 
 pub returns-in-Hex-clause-ran : goal.returns-in-Hex-clause-ran
@@ -32,7 +36,9 @@ returns-in-Hex-clause-ran g c = rw c.in-Hex.is (inl (record {
   makes = (refl, c.hex.ensures.shown);
   wills = refl;
   word = refl;
-  format = refl;
+  later = refl;
+  begins = λ all. all.3;
+  shows = tt;
 }))
 
 pub returns-in-Stop-clause-ran : goal.returns-in-Stop-clause-ran
@@ -45,7 +51,9 @@ returns-in-Stop-clause-ran g c = rw c.in-Stop.is (inl (record {
   makes = c.stop.ensures.limited;
   wills = refl;
   word = refl;
-  format = refl;
+  later = refl;
+  begins = λ all. all.3;
+  shows = tt;
 }))
 
 pub returns-in-Fault-clause-ran : goal.returns-in-Fault-clause-ran
@@ -58,7 +66,9 @@ returns-in-Fault-clause-ran g c = rw c.in-Fault.is (inl (record {
   makes = c.fault.ensures.same;
   wills = refl;
   word = refl;
-  format = refl;
+  later = refl;
+  begins = λ all. all.3;
+  shows = tt;
 }))
 
 pub returns-in-Crash-clause-ran : goal.returns-in-Crash-clause-ran
@@ -73,7 +83,9 @@ returns-in-Crash-clause-ran g c = rw c.in-Crash.is (inl
       wills =
           refl;
       word = refl;
-      format = refl;
+      later = refl;
+      begins = λ all. all.3;
+      shows = tt;
     }))
 
 pub returns-in-Lose-2-clause-ran : goal.returns-in-Lose-2-clause-ran
@@ -87,7 +99,9 @@ returns-in-Lose-2-clause-ran g c = rw c.in-Lose-2.is (inl
       makes = c.lose.ensures.lost;
       wills = refl;
       word = refl;
-      format = refl;
+      later = refl;
+      begins = λ all. all.3;
+      shows = tt;
     }))
 
 pub returns-in-Recover-clause-ran : goal.returns-in-Recover-clause-ran
@@ -104,7 +118,9 @@ returns-in-Roll-clause-ran g c = rw c.in-Roll.is (inl (record {
   wills =
       refl;
   word = refl;
-  format = refl;
+  later = refl;
+  begins = λ all. all.3;
+  shows = tt;
 }))
 
 pub returns-in-BeginRoll-clause-ran : goal.returns-in-BeginRoll-clause-ran
@@ -118,7 +134,9 @@ returns-in-BeginRoll-clause-ran g c = rw c.in-BeginRoll.is
       makes = c.step.ensures.stepped;
       wills = refl;
       word = refl;
-      format = refl;
+      later = refl;
+      begins = λ all. all.3;
+      shows = tt;
     }))
 
 pub returns-in-Compact-clause-ran : goal.returns-in-Compact-clause-ran
@@ -133,7 +151,9 @@ returns-in-Compact-clause-ran g c = rw c.in-Compact.is
       wills =
           refl;
       word = refl;
-      format = refl;
+      later = refl;
+      begins = λ all. all.3;
+      shows = tt;
     }))
 
 pub returns-in-Push-clause-ran : goal.returns-in-Push-clause-ran
@@ -147,7 +167,9 @@ returns-in-Push-clause-ran g c = rw c.in-Push.is (inl (record {
       c.step-in-Push.ensures.stepped;
   wills = refl;
   word = refl;
-  format = refl;
+  later = refl;
+  begins = λ all. all.3;
+  shows = tt;
 }))
 
 pub returns-in-Log-clause-ran : goal.returns-in-Log-clause-ran
@@ -160,7 +182,9 @@ returns-in-Log-clause-ran g c = rw c.in-Log.is (inl (record {
   makes = (refl, c.log.ensures.shown);
   wills = refl;
   word = refl;
-  format = refl;
+  later = refl;
+  begins = λ all. all.3;
+  shows = tt;
 }))
 
 pub returns-in-Room-clause-ran : goal.returns-in-Room-clause-ran
@@ -173,8 +197,28 @@ returns-in-Room-clause-ran g c = rw c.in-Room.is (inl (record {
   makes = (refl, c.room.ensures.shown);
   wills = refl;
   word = refl;
-  format = refl;
+  later = refl;
+  begins = λ all. all.3;
+  shows = tt;
 }))
+
+pub returns-in-Live-clause-ran : goal.returns-in-Live-clause-ran
+returns-in-Live-clause-ran g c = rw c.in-Live.is (inl (record {
+  number = refl;
+  options = refl;
+  used = refl;
+  covers = λ all. all.0;
+  answers = λ config number. c.live.ensures.told config;
+  makes = (refl, c.live.ensures.shown);
+  wills = refl;
+  word = refl;
+  later = refl;
+  begins = λ all. all.3;
+  shows = tt;
+}))
+
+pub returns-in-Needs-clause-ran : goal.returns-in-Needs-clause-ran
+returns-in-Needs-clause-ran g c = rw c.in-Needs.is (inl c.run_needs.ensures)
 
 pub returns-in-Holdings-clause-ran : goal.returns-in-Holdings-clause-ran
 returns-in-Holdings-clause-ran g c = rw c.in-Holdings.is
@@ -188,7 +232,9 @@ returns-in-Holdings-clause-ran g c = rw c.in-Holdings.is
       wills =
           refl;
       word = refl;
-      format = refl;
+      later = refl;
+      begins = λ all. all.3;
+      shows = tt;
     }))
 
 pub returns-in-Copy-clause-ran : goal.returns-in-Copy-clause-ran
@@ -202,7 +248,9 @@ returns-in-Copy-clause-ran g c = rw c.in-Copy.is (inl (record {
       c.step-in-Copy.ensures.stepped;
   wills = refl;
   word = refl;
-  format = refl;
+  later = refl;
+  begins = λ all. all.3;
+  shows = tt;
 }))
 
 pub returns-in-Seal-clause-ran : goal.returns-in-Seal-clause-ran
@@ -216,7 +264,9 @@ returns-in-Seal-clause-ran g c = rw c.in-Seal.is (inl (record {
       c.step-in-Seal.ensures.stepped;
   wills = refl;
   word = refl;
-  format = refl;
+  later = refl;
+  begins = λ all. all.3;
+  shows = tt;
 }))
 
 pub returns-in-Free-clause-ran : goal.returns-in-Free-clause-ran
@@ -230,7 +280,9 @@ returns-in-Free-clause-ran g c = rw c.in-Free.is (inl (record {
       c.step-in-Free.ensures.stepped;
   wills = refl;
   word = refl;
-  format = refl;
+  later = refl;
+  begins = λ all. all.3;
+  shows = tt;
 }))
 
 pub returns-in-Will-clause-ran : goal.returns-in-Will-clause-ran
@@ -240,4 +292,24 @@ pub returns-in-Clients-clause-ran : goal.returns-in-Clients-clause-ran
 returns-in-Clients-clause-ran g c = rw c.in-Clients.is (inl c.run_clients.ensures)
 
 pub returns-in-Format-clause-ran : goal.returns-in-Format-clause-ran
-returns-in-Format-clause-ran g c = rw c.in-Format.is (inl c.run_format.ensures)
+returns-in-Format-clause-ran g c =
+    let s = c.args.self.now in
+    rw c.in-Format.is (ok_runs c.run_format.result (SessionAnswers s Format c.run_format.new.self)
+    (RunsLine s Format c.run_format.new.self) (λ a r. inl r) c.run_format.ensures.ran)
+
+pub returns-in-Format-clause-refused : goal.returns-in-Format-clause-refused
+returns-in-Format-clause-refused g c = rw c.in-Format.is c.run_format.ensures.refused
+
+pub returns-in-Seglets-clause-ran : goal.returns-in-Seglets-clause-ran
+returns-in-Seglets-clause-ran g c =
+    let s = c.args.self.now in
+    let line = Seglets c.in-Seglets.seglets in
+    rw c.in-Seglets.is (ok_runs c.run_seglets.result (SessionAnswers s line c.run_seglets.new.self)
+    (RunsLine s line c.run_seglets.new.self) (λ a r. inl r) c.run_seglets.ensures.ran)
+
+pub returns-in-Seglets-clause-refused : goal.returns-in-Seglets-clause-refused
+returns-in-Seglets-clause-refused g c = rw c.in-Seglets.is c.run_seglets.ensures.refused
+
+pub returns-in-Lose-clause-refused : goal.returns-in-Lose-clause-refused
+returns-in-Lose-clause-refused g c =
+    rw c.in-Lose.is (c.in-Lose.backup, refl, λ below. let out = c.in-Lose.guard in absurd (omega (arith, below, out)))

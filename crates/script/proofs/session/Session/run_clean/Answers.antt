@@ -17,5 +17,7 @@ returns-clause-ran c =
       wills =
           refl;
       word = refl;
-      format = refl;
+      later = refl;
+      begins = λ all. all.3;
+      shows = tt;
     })

@@ -14,7 +14,9 @@ returns g c =
       makes = c.serve_clients-answer.ensures.made;
       wills = refl;
       word = word_kept s.is_known c.serve_clients-answer.result.is_known _ _ _ c.serve_clients-answer.ensures.known;
-      format = refl;
+      later = refl;
+      begins = λ all. all.3;
+      shows = tt;
     }
 
 pub serve_clients-answer-requires-clause-records : goal.serve_clients-answer-requires-clause-records

@@ -12,5 +12,7 @@ returns c = record {
   makes = refl;
   wills = (c.will.ensures.handed, c.will.ensures.limits);
   word = refl;
-  format = refl;
+  later = refl;
+  begins = λ all. all.3;
+  shows = tt;
 }

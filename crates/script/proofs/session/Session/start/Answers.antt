@@ -65,5 +65,5 @@ returns c =
       covers = c.in_ok-will.ensures.covers;
       will = c.in_ok-will.ensures.whole;
       known = refl;
-      format = refl;
+      later = c.none.ensures;
     }
