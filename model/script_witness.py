@@ -237,8 +237,10 @@ class Witness:
     def wrong_count(self, line, answer):
         _, clients, rounds, _ = line
         if self.answered.crowd:
-            # A get behind the clients before was refused for want of room in the history, and so is each later call.
-            return None if answer == "refused HistoryFull" else f"{line} printed {answer}, and the history is full"
+            # A get behind the clients before was refused for want of room in the history, and so is each later call, unless its
+            # object is too long.
+            may_be = answer == "refused HistoryFull" or (answer == "refused TooBig" and self.is_long(clients, 1))
+            return None if may_be else f"{line} printed {answer}, and the history is full"
         if answer == "stopped":
             self.stopped = self.answered.served(clients, rounds, False)
         elif answer in ("refused Full", "refused HistoryFull") or self.may_limit(answer, clients, rounds):
@@ -251,9 +253,13 @@ class Witness:
 
     def may_limit(self, answer, clients, rounds):
         """Whether it is how a limit of bytes may refuse a put of clients."""
-        last = Object(1, 1, client_key(clients - 1), b"%d" % rounds)
-        is_over = answer == "refused Overcommit" and self.limit != NO_LIMIT
-        return is_over or (answer == "refused TooBig" and object_len(last) > self.largest)
+        if answer == "refused Overcommit":
+            return self.limit != NO_LIMIT
+        return answer == "refused TooBig" and self.is_long(clients, rounds)
+
+    def is_long(self, clients, rounds):
+        """Whether some object of so many rounds of clients has more bytes than an object may have."""
+        return object_len(Object(1, 1, client_key(clients - 1), b"%d" % rounds)) > self.largest
 
     def maps(self):
         """The map without the line that was stopped or halted, and with it, if one was."""
