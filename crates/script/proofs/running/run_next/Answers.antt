@@ -17,8 +17,14 @@ returns-in-Ok g c =
 pub returns-in-Err : goal.returns-in-Err
 returns-in-Err g c =
     let taken = taken_as _ _ _ _ _ Ended c.in-Ok-Ended.field-0-is (sym c.text.ensures) c.in-Ok-Ended.ensures.taken in
-    turn_fault _ _ _ _ _ _ _ _ _ c.in-Err.fault taken.1 taken.0 (inl refl)
-    (flushed_first _ _ _ c.args.number _ _ _ (Err c.in-Err.fault) c.next_line.ensures.flushed c.in-Err.ensures)
+    let old = c.args.session.now in
+    let new = c.run_text.new.session in
+    let text = c.text.result.now in
+    let held = g.W.Write.contents c.args.writer.now in
+    let holds = g.W.Write.contents c.run_text.new.writer in
+    turn_fault old new c.args.number _ _ held holds text _ c.in-Err.fault taken.1 taken.0 (inl refl)
+    (flushed_first old new text c.args.number held (g.W.Write.contents c.next_line.new.writer) holds
+    (Err c.in-Err.fault) c.next_line.ensures.flushed c.in-Err.ensures)
 
 pub returns-in-Ok-run_text : goal.returns-in-Ok-run_text
 returns-in-Ok-run_text g c =
@@ -31,9 +37,15 @@ pub returns-in-Err-run_text : goal.returns-in-Err-run_text
 returns-in-Err-run_text g c =
     let taken = taken_as _ _ _ _ _ Last c.in-Ok-Last.field-0-is
     (sym c.text-in-Ok-Last.ensures) c.in-Ok-Last.ensures.taken in
-    turn_fault _ _ _ _ _ _ _ _ _ c.in-Err-run_text.fault taken.3 taken.0 (inr (refl, taken.2, taken.1))
-    (flushed_first _ _ _ c.args.number _ _ _ (Err c.in-Err-run_text.fault) c.next_line.ensures.flushed
-    c.in-Err-run_text.ensures)
+    let old = c.args.session.now in
+    let new = c.run_text-in-Ok-Last.new.session in
+    let text = c.text-in-Ok-Last.result.now in
+    let held = g.W.Write.contents c.args.writer.now in
+    let holds = g.W.Write.contents c.run_text-in-Ok-Last.new.writer in
+    turn_fault old new c.args.number _ _ held holds text _ c.in-Err-run_text.fault taken.3 taken.0
+    (inr (refl, taken.2, taken.1))
+    (flushed_first old new text c.args.number held (g.W.Write.contents c.next_line.new.writer) holds
+    (Err c.in-Err-run_text.fault) c.next_line.ensures.flushed c.in-Err-run_text.ensures)
 
 pub returns-in-Ok-Nothing : goal.returns-in-Ok-Nothing
 returns-in-Ok-Nothing g c =

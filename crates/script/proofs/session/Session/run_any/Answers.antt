@@ -312,4 +312,5 @@ returns-in-Seglets-clause-refused g c = rw c.in-Seglets.is c.run_seglets.ensures
 
 pub returns-in-Lose-clause-refused : goal.returns-in-Lose-clause-refused
 returns-in-Lose-clause-refused g c =
-    rw c.in-Lose.is (c.in-Lose.backup, refl, λ below. let out = c.in-Lose.guard in absurd (omega (arith, below, out)))
+    let out = c.if-backup-self.true in
+    rw c.in-Lose.is (c.in-Lose.backup, refl, λ below. absurd (omega (arith, below, out)))
