@@ -13,7 +13,7 @@ use std::sync::Wait;
 use store_lines::master::{Config, Master};
 use store_lines::recovery::{GroupOrder, Rebuilt, make_will, recover};
 use store_lines::replay::adopt_list;
-use store_lines::{Answer, FIRST_MASTER, Options, configuration, first_master, next_config};
+use store_lines::{Answer, FIRST_MASTER, Later, Options, configuration, first_master, next_config};
 
 /// The table of a crashed master, and what the one that is to adopt it begins with.
 #[derive(Drop)]
@@ -132,7 +132,7 @@ fn find(
     let Ok(inventory) = fleet.inventory(alloc) else {
         return None;
     };
-    let Ok(config) = next_config(alloc, options, false, crashed, fleet, &inventory) else {
+    let Ok(config) = next_config(alloc, options, &Later::none(), crashed, fleet, &inventory) else {
         return None;
     };
     match rebuild(

@@ -11,9 +11,12 @@ use replica::{Fleet, Inventory};
 use std::alloc::Global;
 use store_lines::master::Config;
 use store_lines::recovery::{GroupOrder, Rebuilt, RecoveryFault, Will, make_will, recover};
-use store_lines::{Answer, FIRST_MASTER, Options, configuration, next_config, want};
+use store_lines::replay::seglets_needed;
+use store_lines::{
+    Answer, FIRST_MASTER, Later, LineFault, Options, check_later, configuration, next_config, want,
+};
 
-/// What outlives a master: its number, the will, and the format of later masters.
+/// What outlives a master: its number, the will, and what later masters have in place of the options.
 #[derive(Drop)]
 pub struct Coordinator {
     /// The number of the master that a recovery is for.
@@ -22,8 +25,8 @@ pub struct Coordinator {
     pub used: u64,
     /// The will by which a recovery divides the master's log.
     pub will: Will,
-    /// Whether a line asked for format 2. Then masters that start later list each segment with its length.
-    pub lists_lengths: bool,
+    /// What masters that start later have in place of the options.
+    pub later: Later,
 }
 
 /// The table of a master, and what the master that is to adopt it begins with.
@@ -50,7 +53,46 @@ impl Coordinator {
             master: FIRST_MASTER,
             used: FIRST_MASTER,
             will,
-            lists_lengths: false,
+            later: Later::none(),
+        }
+    }
+
+    /// Lets masters that start later have this in place of the options, if they are within their limits then.
+    pub fn set_later(
+        &mut self,
+        alloc: Global,
+        options: &Options,
+        later: Later,
+    ) -> Result<(), LineFault> {
+        check_later(alloc, options, &later)?;
+        self.later = later;
+        Ok(())
+    }
+
+    /// Runs the line that sets the format of later masters.
+    pub fn list_lengths(&mut self, alloc: Global, options: &Options) -> Result<Answer, LineFault> {
+        let later = self.later.with_lengths();
+        self.set_later(alloc, options, later)?;
+        Ok(Answer::Format)
+    }
+
+    /// Runs the line that sets how many seglets later masters have.
+    pub fn set_seglets(
+        &mut self,
+        alloc: Global,
+        options: &Options,
+        seglets: u64,
+    ) -> Result<Answer, LineFault> {
+        let later = self.later.with_seglets(seglets);
+        self.set_later(alloc, options, later)?;
+        Ok(Answer::Seglets(seglets))
+    }
+
+    /// Answers how many seglets a new master needs for the table that a recovery would find.
+    pub fn needs(&self, alloc: Global, options: &Options, fleet: &MemoryFleet) -> Answer {
+        match self.find_inheritance(alloc, options, fleet, ReplayOrder::Forward) {
+            Ok(found) => Answer::Needs(seglets_needed(&found.rebuilt, &found.config)),
+            Err(answer) => answer,
         }
     }
 
@@ -72,14 +114,7 @@ impl Coordinator {
             Err(fault) => return Err(Answer::NotRecovered(fault)),
         };
         let greatest = self.master.max(self.used);
-        let config = match next_config(
-            alloc,
-            options,
-            self.lists_lengths,
-            greatest,
-            fleet,
-            &inventory,
-        ) {
+        let config = match next_config(alloc, options, &self.later, greatest, fleet, &inventory) {
             Ok(config) => config,
             Err(answer) => return Err(answer),
         };

@@ -1,5 +1,5 @@
 //! Lines while there is no master: the fleet is limited, loses backups and is recovered, and later masters get a
-//! format.
+//! format and seglets.
 
 ghost use Rattle.std.specs.Prelude.{◌≡◌, IfOk, IfSome, IsTrue};
 ghost use Rattle.backup.specs.State.{fleet_state};
@@ -113,10 +113,9 @@ fn answer_of(
             fleet.fault_at(takes, taken);
             Ok(Answer::Fault(takes, taken))
         }
-        Line::Format => {
-            coordinator.lists_lengths = true;
-            Ok(Answer::Format)
-        }
+        Line::Format => coordinator.list_lengths(alloc, options),
+        Line::Seglets { seglets } => coordinator.set_seglets(alloc, options, seglets),
+        Line::Needs => Ok(coordinator.needs(alloc, options, fleet)),
         Line::Lose { backup } if backup >= options.backups => {
             Err(LineFault::NoBackup(options.backups))
         }

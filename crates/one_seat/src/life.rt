@@ -78,17 +78,15 @@ impl<B: Naming> Life<B> {
                 self.store.fault_at(rt, takes, taken);
                 Ok(Answer::Fault(takes, taken))
             }
-            Line::Format => {
-                coordinator.lists_lengths = true;
-                Ok(Answer::Format)
-            }
+            Line::Format => coordinator.list_lengths(self.alloc, options),
+            Line::Seglets { seglets } => coordinator.set_seglets(self.alloc, options, seglets),
             Line::Crash => Ok(Answer::Crashed),
             Line::Will => Ok(renew(rt, self.alloc, &self.store, options, &mut coordinator.will)),
             Line::Lose { backup } if backup >= options.backups => {
                 Err(LineFault::NoBackup(options.backups))
             }
             Line::Lose { .. } => Ok(Answer::Up),
-            Line::Recover { .. } => Ok(Answer::Up),
+            Line::Recover { .. } | Line::Needs => Ok(Answer::Up),
             // A store of one seat serves no clients.
             Line::Clients { .. } => Ok(Answer::Refused(Refusal::NoMemory)),
             _ => Ok(Answer::Silent),

@@ -22,7 +22,7 @@ use std::sync::Wait;
 use store_lines::master::Config;
 use store_lines::{
     Dialogue, ErrorOutput, FIRST_MASTER, Options, ScriptFault, configuration, options, report,
-    report_config,
+    report_config, with_limit,
 };
 
 /// The exit status of a bad command line.
@@ -67,7 +67,7 @@ fn read_options(rt: &HostRuntime, arguments: &[String]) -> Result<Options, ExitC
         }
     }
     match options(rt.alloc(), words.as_slice()) {
-        Ok(options) => Ok(options),
+        Ok(options) => Ok(with_limit(&options)),
         Err(error) => Err(refuse(rt, &error)),
     }
 }

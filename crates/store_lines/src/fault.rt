@@ -11,6 +11,8 @@ use std::io::{BufRead, Write};
 pub enum LineFault {
     /// The line names a backup that isn't there. The fleet has this many.
     NoBackup(u64),
+    /// With what the line sets, no master that starts later would be within its limits.
+    NoLaterMaster,
     NoMemory,
     /// The store doesn't know the seat. Only tests show that this never comes.
     SeatUnknown,
@@ -28,6 +30,7 @@ impl From<NoMemory> for LineFault {
 pub fn tell<I: BufRead + Drop, O: Write + Drop>(dialogue: &mut Dialogue<I, O>, fault: LineFault) {
     match fault {
         LineFault::NoBackup(backups) => dialogue.refuse_line(Reason::NoBackup(backups)),
+        LineFault::NoLaterMaster => dialogue.refuse_line(Reason::NoLaterMaster),
         LineFault::NoMemory => dialogue.fail(ScriptFault::NoMemory),
         LineFault::SeatUnknown => dialogue.say("refused SeatUnknown"),
         LineFault::CellRefused => dialogue.say("refused CellRefused"),

@@ -6,6 +6,7 @@ ghost use Rattle.next_master.specs.Numbers.{greatest_of};
 ghost use Rattle.replica.specs.Picture.{AreHeld};
 ghost use Rattle.store_lines.specs.Lives.{CanBegin, IsChecked, IsOpening};
 
+use crate::fault::LineFault;
 use backup::MemoryFleet;
 use command_line::Options;
 use entry::NoMemory;
@@ -36,11 +37,11 @@ pub fn first_master(
 }
 
 /// The configuration of the next master. Its number is above `greatest`, and above the masters of all replicas that
-/// were found. If format 2 was asked for, the master lists each segment with its length.
+/// were found. It has what later masters have in place of the options.
 pub fn next_config(
     alloc: Global,
     options: &Options,
-    lists_lengths: bool,
+    later: &Later,
     greatest: u64,
     fleet: &MemoryFleet,
     inventory: &Inventory<'_>,
@@ -51,14 +52,18 @@ pub fn next_config(
     let Some(number) = next_number(inventory.as_slice(), greatest) else {
         return Err(Answer::NumbersSpent);
     };
-    let asked = Later {
-        lists_lengths,
-        seglets: None,
-    };
-    let later = later_options(options, &asked);
-    match configuration(alloc, &later, number) {
+    match configuration(alloc, &later_options(options, later), number) {
         Ok(config) => fitting(options, fleet, config),
         Err(NoMemory) => Err(want()),
+    }
+}
+
+/// Tests whether masters that start later would be within their limits.
+pub fn check_later(alloc: Global, options: &Options, later: &Later) -> Result<(), LineFault> {
+    let config = configuration(alloc, &later_options(options, later), FIRST_MASTER)?;
+    match config.check() {
+        Ok(()) => Ok(()),
+        Err(_) => Err(LineFault::NoLaterMaster),
     }
 }
 

@@ -10,7 +10,7 @@ use Rattle.store_lines.proofs.succession.next_config.Goals as goal
 pub fitting-requires-clause-records : goal.fitting-requires-clause-records
 fitting-requires-clause-records c =
     ap (λ (k : Config). k.history) c.in-Ok.ensures.config
-    ∙ ap (λ (o : Options). o.history) c.later_options-later.ensures
+    ∙ ap (λ (o : Options). o.history) c.later_options.ensures
 
 pub fitting-requires-clause-unused : goal.fitting-requires-clause-unused
 fitting-requires-clause-unused c =
