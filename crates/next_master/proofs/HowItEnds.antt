@@ -116,7 +116,7 @@ module _ (f : FleetState) (r : Rebuilt) (config : Config) (m : MasterValue Memor
 
 pub taken_over : (f : FleetState) (r : Rebuilt) (config : Config) (m : MasterValue MemoryFleet)
     → IsAdopted config r m.knows
-    → IsAdoptedOn config.master f (fleet_state m.fleet) → (new : Node) → EndsFreeing (world fleet_state m) new None
+    → IsAdoptedOn config.master f (fleet_state m.fleet) → (new : Node) → EndsFreeing (world fleet_state m) new (Ok tt)
     → IsTakenOver f r config new (answer.Recovered r)
 taken_over f r config m adopted on new (next, frees, stands) = record {
   freed = Ok tt;
@@ -133,7 +133,7 @@ taken_over f r config m adopted on new (next, frees, stands) = record {
 pub cut_over : (f : FleetState) (r : Rebuilt) (config : Config) (m : MasterValue MemoryFleet)
     → IsAdopted config r m.knows
     → IsAdoptedOn config.master f (fleet_state m.fleet) → (new : Node) (a : Answer)
-    → EndsFreeing (world fleet_state m) new (Some a)
+    → EndsFreeing (world fleet_state m) new (Err a)
     → IsTakenOver f r config new a
 cut_over f r config m adopted on new a (why, next, frees, told, down) = record {
   freed = Err why;

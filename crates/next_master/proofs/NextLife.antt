@@ -3,7 +3,7 @@ use Rattle.std.proofs.Common.{[], ◌≡◌, ℕ, suc, ◌≤◌, max, List, ◌
 use Rattle.std.proofs.Common.{arith}
 use Rattle.std.proofs.lemmas.List.{append-nil}
 use Rattle.std.proofs.lemmas.Option.{same_Some}
-use Rattle.std.specs.Prelude.{Option, Some, None, Err}
+use Rattle.std.specs.Prelude.{Option, Some, None, Result, Ok, Err}
 use Rattle.backup.specs.State.{fleet_state}
 use Rattle.backup.specs.declared.fleet.MemoryFleet.{MemoryFleet}
 use Rattle.command_line.specs.declared.settings.Options.{Options}
@@ -87,7 +87,7 @@ fleet_in other (Down f) = f
 fleet_in other n = other
 
 -- an adoption from a node that is down is one from its fleet
-pub adopts_down : (self new : Node) (given : MemoryFleet) (r : Rebuilt) (config : Config) (o : Option Answer)
+pub adopts_down : (self new : Node) (given : MemoryFleet) (r : Rebuilt) (config : Config) (o : Result Unit Answer)
     → self ≡ Down given
     → Adopts (fleet_state given) r config new o → (fleet : MemoryFleet) → self ≡ Down fleet
     → Adopts (fleet_state fleet) r config new o
@@ -96,7 +96,7 @@ adopts_down self new given r config o down adopts fleet is =
 
 pub cut_spent : (d : MasterData) (m : MasterValue MemoryFleet) (new : Node) (a : Answer) → m.knows ≡ d
     → IsValid d (fleet_state m.fleet)
-    → IsSpent (fleet_state m.fleet) → Refuses (Up m) refusal.Spent new a → RetiresOthers d new (Some a)
+    → IsSpent (fleet_state m.fleet) → Refuses (Up m) refusal.Spent new a → RetiresOthers d new (Err a)
 cut_spent d m new a same valid spent (inl (is, unspent, stays)) = absurd (unspent refl)
 cut_spent d m new a same valid spent (inr (is, why, dropped, lifted)) = (
   fleet_state m.fleet,
@@ -108,7 +108,7 @@ cut_spent d m new a same valid spent (inr (is, why, dropped, lifted)) = (
 -- the same, of its fleet
 pub cut_freeing : (old : World) (m : MasterValue MemoryFleet) (new : Node) (a : Answer) (why : TakeFault)
     → Frees old (Err why) (world fleet_state m)
-    → why ≡ take_fault.Spent → Refuses (Up m) refusal.Spent new a → EndsFreeing old new (Some a)
+    → why ≡ take_fault.Spent → Refuses (Up m) refusal.Spent new a → EndsFreeing old new (Err a)
 cut_freeing old m new a why frees is (inl (told, unspent, stays)) = absurd (unspent refl)
 cut_freeing old m new a why frees is (inr (told, spent, dropped, lifted)) = (
   why,
@@ -128,7 +128,7 @@ not_of_refusal refusal.Spent is = absurd (cc)
 not_of_refusal r is = absurd (cc)
 
 -- and no cut is
-pub not_of_cut : (d : MasterData) (new : Node) (a : Answer) → RetiresOthers d new (Some a) → a ≡ answer.NumbersSpent → ⊥
+pub not_of_cut : (d : MasterData) (new : Node) (a : Answer) → RetiresOthers d new (Err a) → a ≡ answer.NumbersSpent → ⊥
 not_of_cut d new a told is = subst (IsCut told.0) is told.3
 
 -- ---- a recovery of what is left on this fleet
@@ -247,7 +247,7 @@ module _ (fleet : MemoryFleet) (options : Options) (later : Later) (master : ℕ
     alone : (f : FleetState) → HasNoOther f e.config.master → HasNoOther f next.master
     alone f none = subst (λ (m : ℕ). HasNoOther f m) (ap (λ (c : Config). c.master) configured) none
 
-    pub recovered_told : (new : Node) → RetiresOthers e new None
+    pub recovered_told : (new : Node) → RetiresOthers e new (Ok tt)
         → BeginsNext old (config_of options master) order new next (answer.Recovered r)
     recovered_told new (m, is, same, valid, none) =
         begins new (answer.Recovered r) None (subst (λ (n : Node). IsOf n None e) (sym is) (refl, same, valid))
@@ -263,7 +263,7 @@ module _ (fleet : MemoryFleet) (options : Options) (later : Later) (master : ℕ
     cut f g valid (answer.NotRetired why) unspent = (unspent, left_now e f, refl, (e, f, lived f valid, refl))
     cut f g valid a other = absurd other
 
-    pub cut_told : (new : Node) (a : Answer) → RetiresOthers e new (Some a)
+    pub cut_told : (new : Node) (a : Answer) → RetiresOthers e new (Err a)
         → BeginsNext old (config_of options master) order new next a
     cut_told new a (f, valid, of, why) =
         let held = fleet_held new (Some (left_now e f)) e of in

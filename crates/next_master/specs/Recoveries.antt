@@ -142,10 +142,10 @@ pub record IsDeclined (f : FleetState) (r : Rebuilt) (config : Config) (new : No
   pub down : IsDownOn (after_answer answer left) new
 
 -- Either the table was adopted over this fleet, and the new master is up, or it was refused, and the answer tells so.
-abbrev pub Adopts : FleetState → Rebuilt → Config → Node → Option Answer → Type 0
-Adopts f r config new None = (m : MasterValue MemoryFleet) × (new ≡ Up m) × IsAdopted config r m.knows
+abbrev pub Adopts : FleetState → Rebuilt → Config → Node → Result Unit Answer → Type 0
+Adopts f r config new (Ok u) = (m : MasterValue MemoryFleet) × (new ≡ Up m) × IsAdopted config r m.knows
     × IsValid m.knows (fleet_state m.fleet) × IsAdoptedOn config.master f (fleet_state m.fleet)
-Adopts f r config new (Some answer) = IsDeclined f r config new answer
+Adopts f r config new (Err answer) = IsDeclined f r config new answer
 
 -- ---- freeing the replicas of other masters
 
@@ -160,10 +160,10 @@ abbrev pub HasNoOther : FleetState → ℕ → Type 0
 HasNoOther f master = (b m s : ℕ) → (m ≡ master → ⊥) → f.picture b m s ≡ None
 
 -- Either the replicas of all other masters were freed, or that was cut short, and the master was dropped.
-abbrev pub RetiresOthers : MasterData → Node → Option Answer → Type 0
-RetiresOthers d new None = (m : MasterValue MemoryFleet) × (new ≡ Up m) × (m.knows ≡ d)
+abbrev pub RetiresOthers : MasterData → Node → Result Unit Answer → Type 0
+RetiresOthers d new (Ok u) = (m : MasterValue MemoryFleet) × (new ≡ Up m) × (m.knows ≡ d)
     × IsValid d (fleet_state m.fleet) × HasNoOther (fleet_state m.fleet) d.config.master
-RetiresOthers d new (Some answer) =
+RetiresOthers d new (Err answer) =
     (f : FleetState) × IsValid d f × IsOf new (Some (left_now d f)) d × IsCut f answer
 
 -- A master freed the replicas of all others, with this result. A fault of a backup halts it.
@@ -178,9 +178,9 @@ fault_answer take_fault.Spent = Stopped
 fault_answer fault = NotRetired fault
 
 -- the master of a node freed the replicas, and goes on; or the answer tells why not, and the node has the fleet alone
-abbrev pub EndsFreeing : World → Node → Option Answer → Type 0
-EndsFreeing old new None = (next : World) × Frees old (Ok tt) next × (world_of new ≡ Some next)
-EndsFreeing old new (Some answer) = (fault : TakeFault) × (next : World) × Frees old (Err fault) next
+abbrev pub EndsFreeing : World → Node → Result Unit Answer → Type 0
+EndsFreeing old new (Ok u) = (next : World) × Frees old (Ok tt) next × (world_of new ≡ Some next)
+EndsFreeing old new (Err answer) = (fault : TakeFault) × (next : World) × Frees old (Err fault) next
     × (answer ≡ fault_answer fault) × IsDownOn (after_answer answer next.fleet) new
 
 -- ---- how a recovery ends

@@ -5,8 +5,9 @@ ghost use Rattle.node.specs.master.master_state.Config.{config_fault, has_budget
 ghost use Rattle.next_master.specs.Configuration.{config_of, later_format, later_options, later_seglets, no_later};
 ghost use Rattle.next_master.specs.Configuration.{AreSizes, MayBegin};
 
+use crate::limits::sizes_of;
 use command_line::Options;
-use packing::{Sizes, is_limit};
+use packing::is_limit;
 
 /// What masters that start later have in place of the options of the command line.
 #[derive(Clone, Copy)]
@@ -98,11 +99,5 @@ fn has_room(options: &Options) -> bool
     if options.live == u64::MAX {
         return true;
     }
-    let sizes = Sizes {
-        segment: options.segment,
-        seglet: options.seglet,
-        seglets: options.seglets,
-        format: options.format,
-    };
-    is_limit(&sizes, options.largest, options.live)
+    is_limit(&sizes_of(options), options.largest, options.live)
 }

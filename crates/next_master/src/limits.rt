@@ -9,7 +9,7 @@ use command_line::Options;
 use packing::{Sizes, greatest_limit};
 
 /// The sizes of a log of these options.
-fn sizes_of(options: &Options) -> Sizes
+pub(crate) fn sizes_of(options: &Options) -> Sizes
     ensures { result ≡ option_sizes options.now }
 {
     Sizes {

@@ -235,7 +235,7 @@ pub fn recover_node<H: Threads + Wait + Sync>(
         }
     };
     let number = config.master;
-    if let Some(answer) = adopt(alloc, node, &rebuilt, config) {
+    if let Err(answer) = adopt(alloc, node, &rebuilt, config) {
         return Recovery {
             answer,
             master: request.master,
@@ -243,12 +243,12 @@ pub fn recover_node<H: Threads + Wait + Sync>(
         };
     }
     match retire(node) {
-        None => Recovery {
+        Ok(()) => Recovery {
             answer: Answer::Recovered(rebuilt),
             master: number,
             used: number,
         },
-        Some(answer) => Recovery {
+        Err(answer) => Recovery {
             answer,
             master: number,
             used: number,
@@ -256,9 +256,9 @@ pub fn recover_node<H: Threads + Wait + Sync>(
     }
 }
 
-/// Has a master of this configuration adopt the table. An answer tells why it can't. If the fleet takes no more ops,
+/// Has a master of this configuration adopt the table. The error is the answer that tells why it can't. If the fleet takes no more ops,
 /// the limit is lifted.
-fn adopt(alloc: Global, node: &mut Node, rebuilt: &Rebuilt, config: Config) -> Option<Answer>
+fn adopt(alloc: Global, node: &mut Node, rebuilt: &Rebuilt, config: Config) -> Result<(), Answer>
     requires config { config_fault config ≡ None }
     requires fleet { (fleet : FleetValue) × (node.old ≡ Down fleet)
         × (config.backups ≤ (fleet_state fleet).backups)
@@ -275,9 +275,9 @@ fn adopt(alloc: Global, node: &mut Node, rebuilt: &Rebuilt, config: Config) -> O
     answer
 }
 
-/// Frees the replicas of all other masters. If the freeing is cut short, the master is dropped, and the answer tells
-/// why.
-fn retire(node: &mut Node) -> Option<Answer>
+/// Frees the replicas of all other masters. If the freeing is cut short, the master is dropped, and the error is
+/// the answer that tells why.
+fn retire(node: &mut Node) -> Result<(), Answer>
     requires { is_up node.old ≡ true }
     ensures others { (d : MasterData) → IsOf node.old None d → RetiresOthers d node.new result }
     ensures frees { (w : World) → world_of node.old ≡ Some w → EndsFreeing w node.new result }
@@ -286,25 +286,25 @@ fn retire(node: &mut Node) -> Option<Answer>
         unreachable!();
     };
     match up.retire() {
-        Ok(()) => None,
+        Ok(()) => Ok(()),
         Err(fault) => match fault {
-            TakeFault::Spent => Some(node.refuse(Refusal::Spent)),
+            TakeFault::Spent => Err(node.refuse(Refusal::Spent)),
             _ => {
                 node.drop_master();
-                Some(Answer::NotRetired(fault))
+                Err(Answer::NotRetired(fault))
             }
         },
     }
 }
 
-/// The node after an adoption, and an answer that tells why it has no master, if it has none. If the fleet takes no
+/// The node after an adoption, and the answer that tells why it has no master, if it has none. If the fleet takes no
 /// more ops, the limit is lifted.
 fn adopted(
     alloc: Global,
     rebuilt: &Rebuilt,
     config: Config,
     fleet: MemoryFleet,
-) -> (Node, Option<Answer>)
+) -> (Node, Result<(), Answer>)
     requires config { config_fault config ≡ None }
     requires backups { config.backups ≤ (fleet_state fleet).backups }
     requires none { (b s : ℕ) → (fleet_state fleet).picture b config.master s ≡ None }
@@ -312,15 +312,15 @@ fn adopted(
     ensures { Adopts (fleet_state fleet) rebuilt.now config result.0 result.1 }
 {
     match adopt_list(alloc, rebuilt, config, fleet) {
-        Ok(master) => (Node::Up(master), None),
+        Ok(master) => (Node::Up(master), Ok(())),
         Err((refusal, left)) => {
             let mut left = left;
             match refusal {
                 Refusal::Spent => {
                     left.limit(u64::MAX);
-                    (Node::Down(left), Some(Answer::Stopped))
+                    (Node::Down(left), Err(Answer::Stopped))
                 }
-                _ => (Node::Down(left), Some(Answer::Refused(refusal))),
+                _ => (Node::Down(left), Err(Answer::Refused(refusal))),
             }
         }
     }

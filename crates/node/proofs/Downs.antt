@@ -1,6 +1,6 @@
 -- A node without a master rolls nothing, and shows nothing of a master.
 use Rattle.std.proofs.Common.{◌≡◌, ℕ, false, refl}
-use Rattle.std.specs.Prelude.{Some}
+use Rattle.std.specs.Prelude.{Err}
 use Rattle.answers.specs.driving.master.master_state.declared.config.Config.{Config}
 use Rattle.answers.specs.declared.answer.Answer.TheVariants as answer
 use Rattle.node.specs.declared.node.Node.{Node}
@@ -15,12 +15,12 @@ down_roll (Up m) down = absurd (cc)
 down_roll (Down fleet) down = (refl, refl)
 down_roll Changing down = (refl, refl)
 
-pub down_open : (node : Node) → is_up node ≡ false → MakesOpen node node (Some answer.Down)
+pub down_open : (node : Node) → is_up node ≡ false → MakesOpen node node (Err answer.Down)
 down_open (Up m) down = absurd (cc)
 down_open (Down fleet) down = (refl, refl)
 down_open Changing down = (refl, refl)
 
-pub down_room : (node : Node) (config : Config) → is_up node ≡ false → MakesRoom node config node (Some answer.Down)
+pub down_room : (node : Node) (config : Config) → is_up node ≡ false → MakesRoom node config node (Err answer.Down)
 down_room node config down d at s = (d, at, s, (refl, refl), (is_down_some node d at.left down s.node_of, refl))
 
 -- ---- what is shown

@@ -1,7 +1,7 @@
 -- Commands that wait for a roll.
 use Rattle.std.proofs.Common.{[], ◌≡◌, true, ◌++◌, refl, sym, ap, subst, inl, inr, ◌∙◌}
 use Rattle.std.proofs.lemmas.List.{append-nil}
-use Rattle.std.specs.Prelude.{Some, None}
+use Rattle.std.specs.Prelude.{Some, None, Ok, Err}
 use Rattle.lines.specs.Grammar.{LineValue, Roll}
 use Rattle.replica.specs.Picture.{FleetState}
 use Rattle.versioned_map.specs.declared.command.Command.{Command}
@@ -158,7 +158,7 @@ no_room_tells config life at line command a next asks none test t = absurd t
 
 pub no_room_told : (old mid new : Node) (config : Config) (line : LineValue) (command : Command) (a : Answer)
     → command_of line ≡ Some command
-    → WaitsForRoll old config command mid → MakesRoom mid config new (Some a) → AnswersLine old config line new a
+    → WaitsForRoll old config command mid → MakesRoom mid config new (Err a) → AnswersLine old config line new a
 no_room_told old mid new config line command a asks waits makes d at s =
     let was = waits d at s in
     let told = makes was.0 at was.1.0 in
@@ -176,7 +176,7 @@ no_room_told old mid new config line command a asks waits makes d at s =
 -- the roll is made, and the line is answered then
 pub room_told : (old mid made new : Node) (config : Config) (line : LineValue) (command : Command) (a : Answer)
     → WaitsForRoll old config command mid
-    → MakesRoom mid config made None → AnswersLine made config line new a → AnswersLine old config line new a
+    → MakesRoom mid config made (Ok tt) → AnswersLine made config line new a → AnswersLine old config line new a
 room_told old mid made new config line command a waits makes answers d at s =
     let was = waits d at s in
     let room = makes was.0 at was.1.0 in

@@ -144,15 +144,19 @@ waited_makes (Up m) Changing new command a (waits, there) tries = absurd (cc)
 waited_makes (Down f) mid new command a (same, is) tries = absurd (cc)
 waited_makes Changing mid new command a (same, is) tries = absurd (cc)
 
+abbrev err_or : Answer → Result (Unit {0}) Answer → Answer
+err_or a (Ok done) = a
+err_or a (Err answer) = answer
+
 -- the roll is refused
-pub not_rolled_makes : (old new : Node) (command : Command) (a : Answer) → MakesOpen old new (Some a)
+pub not_rolled_makes : (old new : Node) (command : Command) (a : Answer) → MakesOpen old new (Err a)
     → MakesTryAfterRoll old command new a
 not_rolled_makes (Up m) new command a (r, w, rolls, is, left) = (Err r, w, inr (r, refl, rolls), is, left)
-not_rolled_makes (Down f) new command a (same, is) = (same, ap (λ (o : Option Answer). unwrap_or o a) is)
-not_rolled_makes Changing new command a (same, is) = (same, ap (λ (o : Option Answer). unwrap_or o a) is)
+not_rolled_makes (Down f) new command a (same, is) = (same, ap (err_or a) is)
+not_rolled_makes Changing new command a (same, is) = (same, ap (err_or a) is)
 
 -- the roll is made, and then the command is answered
-pub rolled_makes : (old mid new : Node) (command : Command) (a : Answer) → MakesOpen old mid None
+pub rolled_makes : (old mid new : Node) (command : Command) (a : Answer) → MakesOpen old mid (Ok tt)
     → MakesTry mid command new (Some a)
     → MakesTryAfterRoll old command new a
 rolled_makes (Up m) (Up n) new command a (head, v, rolls, there) (result, w, tries, is, left) = (
@@ -174,7 +178,7 @@ rolled_makes (Down f) mid new command a (same, is) tries = absurd (cc)
 rolled_makes Changing mid new command a (same, is) tries = absurd (cc)
 
 -- or it is refused as Rolling once more
-pub rolling_makes : (old mid new : Node) (command : Command) → MakesOpen old mid None → MakesTry mid command new None
+pub rolling_makes : (old mid new : Node) (command : Command) → MakesOpen old mid (Ok tt) → MakesTry mid command new None
     → MakesTryAfterRoll old command new (answer.Refused refusal.Rolling)
 rolling_makes (Up m) (Up n) new command (head, v, rolls, there) (waits, stays) =
     let same : world fleet_state n ≡ v = ap (λ (o : Option World). unwrap_or o v) there in (

@@ -47,12 +47,12 @@ Serves old command new (Some answer) =
     (config : Config) (line : LineValue) → command_of line ≡ Some command → AnswersLine old config line new answer
 Serves old command new None = (config : Config) → WaitsForRoll old config command new
 
--- Either a roll was made and the head is open, or the answer tells why not. No record was made.
-abbrev pub MakesRoom : Node → Config → Node → Option Answer → Type 0
-MakesRoom old config new (Some answer) = (d : MasterData) (at : Position) → IsNodeAt old config d at →
+-- Either a roll was made and the head is open, or the error is the answer that tells why not. No record was made.
+abbrev pub MakesRoom : Node → Config → Node → Result (Unit {0}) Answer → Type 0
+MakesRoom old config new (Err answer) = (d : MasterData) (at : Position) → IsNodeAt old config d at →
     (e : MasterData) × (next : Position) × IsNodeAt new config e next × LivesSame d e
     × TellsNoStep config (life_of e) at Roll answer next
-MakesRoom old config new None = (d : MasterData) (at : Position) → IsNodeAt old config d at →
+MakesRoom old config new (Ok done) = (d : MasterData) (at : Position) → IsNodeAt old config d at →
     (e : MasterData) × StaysAt new config d at e × (is_open e.head ≡ true)
 
 -- ---- what a node's own master makes
@@ -84,14 +84,14 @@ TriesLine old command new (tried.Refused r) = (is_up new ≡ true)
 TriesLine old command new tried.Down =
     Serves old command new (Some answers.Down) × MakesTry old command new (Some answers.Down)
 
--- A node that is up just makes a roll. If there is an answer, it tells why the roll was refused. Any other node does
+-- A node that is up just makes a roll. If there is an error, it is the answer that tells why the roll was refused. Any other node does
 -- nothing.
-abbrev pub MakesOpen : Node → Node → Option Answer → Type 0
-MakesOpen (Up m) new (Some answer) = (r : Refusal) × (w : World)
+abbrev pub MakesOpen : Node → Node → Result (Unit {0}) Answer → Type 0
+MakesOpen (Up m) new (Err answer) = (r : Refusal) × (w : World)
     × Rolls (world fleet_state m) (Err r) w × (answer ≡ refusal_answer r) × IsLeftIn w answer new
-MakesOpen (Up m) new None =
+MakesOpen (Up m) new (Ok done) =
     (head : ℕ) × (w : World) × Rolls (world fleet_state m) (Ok head) w × (world_of new ≡ Some w)
-MakesOpen old new answer = (new ≡ old) × (answer ≡ Some answers.Down)
+MakesOpen old new answer = (new ≡ old) × (answer ≡ Err answers.Down)
 
 -- A node that is up makes just a roll, and then tries the command. Any other node does nothing.
 abbrev pub MakesTryAfterRoll : Node → Command → Node → Answer → Type 0

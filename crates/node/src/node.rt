@@ -114,20 +114,20 @@ impl Node {
         }
     }
 
-    /// Begins a roll if none is under way, and pushes until nothing waits. `None` says that the head is open then.
-    /// Otherwise the answer tells why not.
-    pub fn make_room(&mut self) -> Option<Answer>
+    /// Begins a roll if none is under way, and pushes until nothing waits: then the head is open. The error is the answer
+    /// that tells why not.
+    pub fn make_room(&mut self) -> Result<(), Answer>
         ensures told { (config : Config) → MakesRoom self.old config self.new result }
         ensures rolled { MakesOpen self.old self.new result }
     {
         let Node::Up(up) = self else {
-            return Some(Answer::Down);
+            return Err(Answer::Down);
         };
         let outcome = roll_all(up);
         up.show_valid();
         match outcome {
-            Ok(()) => None,
-            Err(refusal) => Some(self.refuse(refusal)),
+            Ok(()) => Ok(()),
+            Err(refusal) => Err(self.refuse(refusal)),
         }
     }
 

@@ -391,7 +391,7 @@ impl Session {
         ensures { (answer : AnswerValue) × IsPrintedAs self.new result answer
             × AnswersAfterRoll self.old (shown_command line.entry) self.new answer }
     {
-        if let Some(answer) = self.node.make_room() {
+        if let Err(answer) = self.node.make_room() {
             return Outcome::Answered(answer);
         }
         match self.node.serve(&line_command(line)) {

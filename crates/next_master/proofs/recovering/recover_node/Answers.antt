@@ -65,48 +65,48 @@ adopt-requires-clause-fleet g c =
       found.least,
     )
 
-pub returns-in-Some-clause-recovers : goal.returns-in-Some-clause-recovers
-returns-in-Some-clause-recovers g c =
+pub returns-in-Err-adopt-clause-recovers : goal.returns-in-Err-adopt-clause-recovers
+returns-in-Err-adopt-clause-recovers g c =
     let order = c.args.order in
     inl (
       refl,
       declined_told c.in-Down.fleet c.args.request.options c.args.request.later c.args.request.master c.in-Ok.found.rebuilt c.in-Ok.found.config
           c.in-Ok.ensures.found
-          c.args.node.now c.in-Down.is order c.adopt.new.node c.in-Some.answer (c.in-Some.ensures c.in-Down.fleet refl),
+          c.args.node.now c.in-Down.is order c.adopt.new.node c.in-Err-adopt.answer (c.in-Err-adopt.ensures c.in-Down.fleet refl),
     )
 
-pub returns-in-None-clause-recovers : goal.returns-in-None-clause-recovers
-returns-in-None-clause-recovers g c =
+pub returns-in-Ok-retire-clause-recovers : goal.returns-in-Ok-retire-clause-recovers
+returns-in-Ok-retire-clause-recovers g c =
     let order = c.args.order in
     let a = c.in_default-adopt.ensures c.in-Down.fleet refl in
     inr (recovered_told c.in-Down.fleet c.args.request.options c.args.request.later c.args.request.master c.in-Ok.found.rebuilt c.in-Ok.found.config
     c.in-Ok.ensures.found
     c.args.node.now c.in-Down.is order a.0.knows a.2 c.retire.new.node
-    (c.in-None.ensures.others a.0.knows (subst (λ (n : Node). IsOf n None a.0.knows) (sym a.1) (refl, refl, a.3))))
+    (c.in-Ok-retire.ensures.others a.0.knows (subst (λ (n : Node). IsOf n None a.0.knows) (sym a.1) (refl, refl, a.3))))
 
-pub returns-in-Some-retire-clause-recovers : goal.returns-in-Some-retire-clause-recovers
-returns-in-Some-retire-clause-recovers g c =
+pub returns-in-Err-retire-clause-recovers : goal.returns-in-Err-retire-clause-recovers
+returns-in-Err-retire-clause-recovers g c =
     let order = c.args.order in
     let a = c.in_default-adopt.ensures c.in-Down.fleet refl in
     inr (cut_told c.in-Down.fleet c.args.request.options c.args.request.later c.args.request.master c.in-Ok.found.rebuilt c.in-Ok.found.config
     c.in-Ok.ensures.found
-    c.args.node.now c.in-Down.is order a.0.knows a.2 c.retire.new.node c.in-Some-retire.answer
-    (c.in-Some-retire.ensures.others a.0.knows (subst (λ (n : Node). IsOf n None a.0.knows) (sym a.1)
+    c.args.node.now c.in-Down.is order a.0.knows a.2 c.retire.new.node c.in-Err-retire.answer
+    (c.in-Err-retire.ensures.others a.0.knows (subst (λ (n : Node). IsOf n None a.0.knows) (sym a.1)
     (refl, refl, a.3))))
 
 pub returns-in-Err-clause-numbers : goal.returns-in-Err-clause-numbers
 returns-in-Err-clause-numbers g c = record { rises = omega arith; fresh = inl refl }
 
-pub returns-in-Some-clause-numbers : goal.returns-in-Some-clause-numbers
-returns-in-Some-clause-numbers g c = let above = c.in-Ok.ensures.fresh in
+pub returns-in-Err-adopt-clause-numbers : goal.returns-in-Err-adopt-clause-numbers
+returns-in-Err-adopt-clause-numbers g c = let above = c.in-Ok.ensures.fresh in
     record { rises = omega arith; fresh = inl refl }
 
-pub returns-in-None-clause-numbers : goal.returns-in-None-clause-numbers
-returns-in-None-clause-numbers g c = let above = c.in-Ok.ensures.fresh in
+pub returns-in-Ok-retire-clause-numbers : goal.returns-in-Ok-retire-clause-numbers
+returns-in-Ok-retire-clause-numbers g c = let above = c.in-Ok.ensures.fresh in
     record { rises = omega arith; fresh = inr (above, refl) }
 
-pub returns-in-Some-retire-clause-numbers : goal.returns-in-Some-retire-clause-numbers
-returns-in-Some-retire-clause-numbers g c = let above = c.in-Ok.ensures.fresh in
+pub returns-in-Err-retire-clause-numbers : goal.returns-in-Err-retire-clause-numbers
+returns-in-Err-retire-clause-numbers g c = let above = c.in-Ok.ensures.fresh in
     record { rises = omega arith; fresh = inr (above, refl) }
 
 pub returns-in-Err-clause-spent : goal.returns-in-Err-clause-spent
@@ -115,38 +115,38 @@ returns-in-Err-clause-spent g c = λ is.
     (sym c.in-Down.is)
     (c.in-Err.ensures.spent is)
 
-pub returns-in-Some-clause-spent : goal.returns-in-Some-clause-spent
-returns-in-Some-clause-spent g c = λ is.
-    let refused = c.in-Some.ensures c.in-Down.fleet refl in
+pub returns-in-Err-adopt-clause-spent : goal.returns-in-Err-adopt-clause-spent
+returns-in-Err-adopt-clause-spent g c = λ is.
+    let refused = c.in-Err-adopt.ensures c.in-Down.fleet refl in
     absurd (not_of_refusal refused.why (sym refused.told ∙ is))
 
-pub returns-in-None-clause-spent : goal.returns-in-None-clause-spent
-returns-in-None-clause-spent g c = λ is. absurd (cc)
+pub returns-in-Ok-retire-clause-spent : goal.returns-in-Ok-retire-clause-spent
+returns-in-Ok-retire-clause-spent g c = λ is. absurd (cc)
 
-pub returns-in-Some-retire-clause-spent : goal.returns-in-Some-retire-clause-spent
-returns-in-Some-retire-clause-spent g c = λ is.
+pub returns-in-Err-retire-clause-spent : goal.returns-in-Err-retire-clause-spent
+returns-in-Err-retire-clause-spent g c = λ is.
     let a = c.in_default-adopt.ensures c.in-Down.fleet refl in
-    absurd (not_of_cut a.0.knows c.retire.new.node c.in-Some-retire.answer
-    (c.in-Some-retire.ensures.others a.0.knows (subst (λ (n : Node). IsOf n None a.0.knows) (sym a.1)
+    absurd (not_of_cut a.0.knows c.retire.new.node c.in-Err-retire.answer
+    (c.in-Err-retire.ensures.others a.0.knows (subst (λ (n : Node). IsOf n None a.0.knows) (sym a.1)
     (refl, refl, a.3))) is)
 
 pub returns-in-Err-clause-least : goal.returns-in-Err-clause-least
 returns-in-Err-clause-least g c = inl refl
 
-pub returns-in-Some-clause-least : goal.returns-in-Some-clause-least
-returns-in-Some-clause-least g c = inr
+pub returns-in-Err-adopt-clause-least : goal.returns-in-Err-adopt-clause-least
+returns-in-Err-adopt-clause-least g c = inr
     (subst (λ (n : Node). IfSome (fleet_of n) (λ (f : FleetState). IsNextNumber
     (max c.args.request.master c.args.request.used) f.picture c.in-Ok.found.config.master))
     (sym c.in-Down.is) c.in-Ok.ensures.least)
 
-pub returns-in-None-clause-least : goal.returns-in-None-clause-least
-returns-in-None-clause-least g c = inr
+pub returns-in-Ok-retire-clause-least : goal.returns-in-Ok-retire-clause-least
+returns-in-Ok-retire-clause-least g c = inr
     (subst (λ (n : Node). IfSome (fleet_of n) (λ (f : FleetState). IsNextNumber
     (max c.args.request.master c.args.request.used) f.picture c.in-Ok.found.config.master))
     (sym c.in-Down.is) c.in-Ok.ensures.least)
 
-pub returns-in-Some-retire-clause-least : goal.returns-in-Some-retire-clause-least
-returns-in-Some-retire-clause-least g c = inr
+pub returns-in-Err-retire-clause-least : goal.returns-in-Err-retire-clause-least
+returns-in-Err-retire-clause-least g c = inr
     (subst (λ (n : Node). IfSome (fleet_of n) (λ (f : FleetState). IsNextNumber
     (max c.args.request.master c.args.request.used) f.picture c.in-Ok.found.config.master))
     (sym c.in-Down.is) c.in-Ok.ensures.least)
@@ -158,8 +158,8 @@ returns-in-Err-clause-ends g c = inr (
   inl (c.in-Err.ensures.nothing, sym c.in-Down.is, refl, refl),
 )
 
-pub returns-in-Some-clause-ends : goal.returns-in-Some-clause-ends
-returns-in-Some-clause-ends g c =
+pub returns-in-Err-adopt-clause-ends : goal.returns-in-Err-adopt-clause-ends
+returns-in-Err-adopt-clause-ends g c =
     let f = fleet_state c.in-Down.fleet in
     let r = c.in-Ok.found.rebuilt in
     inr (
@@ -170,15 +170,15 @@ returns-in-Some-clause-ends g c =
         c.in-Ok.ensures.rebuilt,
         c.in-Ok.ensures.least,
         inl (
-          subst (λ (k : Config). IsDeclined f r k c.adopt.new.node c.in-Some.answer) c.in-Ok.ensures.found.configured
-              (c.in-Some.ensures c.in-Down.fleet refl),
+          subst (λ (k : Config). IsDeclined f r k c.adopt.new.node c.in-Err-adopt.answer) c.in-Ok.ensures.found.configured
+              (c.in-Err-adopt.ensures c.in-Down.fleet refl),
           refl,
         ),
       ),
     )
 
-pub returns-in-None-clause-ends : goal.returns-in-None-clause-ends
-returns-in-None-clause-ends g c =
+pub returns-in-Ok-retire-clause-ends : goal.returns-in-Ok-retire-clause-ends
+returns-in-Ok-retire-clause-ends g c =
     let f = fleet_state c.in-Down.fleet in
     let r = c.in-Ok.found.rebuilt in
     let a = c.in_default-adopt.ensures c.in-Down.fleet refl in
@@ -193,18 +193,18 @@ returns-in-None-clause-ends g c =
           subst (λ (k : Config). IsTakenOver f r k c.retire.new.node (answer.Recovered r))
               c.in-Ok.ensures.found.configured
               (taken_over f r c.in-Ok.found.config a.0 a.2 a.4 c.retire.new.node
-              (c.in-None.ensures.frees _ (ap world_of a.1))),
+              (c.in-Ok-retire.ensures.frees _ (ap world_of a.1))),
           refl,
         ),
       ),
     )
 
-pub returns-in-Some-retire-clause-ends : goal.returns-in-Some-retire-clause-ends
-returns-in-Some-retire-clause-ends g c =
+pub returns-in-Err-retire-clause-ends : goal.returns-in-Err-retire-clause-ends
+returns-in-Err-retire-clause-ends g c =
     let f = fleet_state c.in-Down.fleet in
     let r = c.in-Ok.found.rebuilt in
     let a = c.in_default-adopt.ensures c.in-Down.fleet refl in
-    let told = c.in-Some-retire.answer in
+    let told = c.in-Err-retire.answer in
     inr (
       f,
       down_on c.args.node.now c.in-Down.fleet c.in-Down.is,
@@ -215,7 +215,7 @@ returns-in-Some-retire-clause-ends g c =
         inr (
           subst (λ (k : Config). IsTakenOver f r k c.retire.new.node told) c.in-Ok.ensures.found.configured
               (cut_over f r c.in-Ok.found.config a.0 a.2 a.4 c.retire.new.node told
-              (c.in-Some-retire.ensures.frees _ (ap world_of a.1))),
+              (c.in-Err-retire.ensures.frees _ (ap world_of a.1))),
           refl,
         ),
       ),

@@ -1,5 +1,5 @@
 use Rattle.std.proofs.Common.{◌≡◌, refl, sym, ap, subst, ◌∙◌}
-use Rattle.std.specs.Prelude.{None, Some, Err}
+use Rattle.std.specs.Prelude.{None, Some, Ok, Err}
 use Rattle.replica.specs.declared.op.TakeFault.{TakeFault}
 use Rattle.std.proofs.lemmas.Option.{same_Some}
 use Rattle.backup.specs.State.{fleet_state}
@@ -64,7 +64,7 @@ pub returns-in-Ok-clause-frees : goal.returns-in-Ok-clause-frees
 returns-in-Ok-clause-frees c = λ w is.
     let m = c.retire.new.self in
     let was : world fleet_state c.in-Up.up ≡ w = same_Some _ w (sym (ap world_of c.in-Up.is) ∙ is) in
-    subst (λ (x : World). EndsFreeing x (Up m) None) was (
+    subst (λ (x : World). EndsFreeing x (Up m) (Ok tt)) was (
       world fleet_state m,
       record {
         knows = c.in-Ok.ensures.knows;
@@ -78,7 +78,7 @@ pub returns-in-Spent-clause-frees : goal.returns-in-Spent-clause-frees
 returns-in-Spent-clause-frees c = λ w is.
     let m = c.retire.new.self in
     let was : world fleet_state c.in-Up.up ≡ w = same_Some _ w (sym (ap world_of c.in-Up.is) ∙ is) in
-    subst (λ (x : World). EndsFreeing x c.refuse.new.self (Some c.refuse.result)) was
+    subst (λ (x : World). EndsFreeing x c.refuse.new.self (Err c.refuse.result)) was
     (cut_freeing (world fleet_state c.in-Up.up) m c.refuse.new.self c.refuse.result c.in-Err.fault
     (record { knows = c.in-Err.ensures.knows; valid = c.in-Err.ensures.valid; retires = c.in-Err.ensures.retires })
     c.in-Spent.is c.refuse.ensures)
@@ -87,7 +87,7 @@ pub returns-in_default-fault-clause-frees : goal.returns-in_default-fault-clause
 returns-in_default-fault-clause-frees c = λ w is.
     let m = c.retire.new.self in
     let was : world fleet_state c.in-Up.up ≡ w = same_Some _ w (sym (ap world_of c.in-Up.is) ∙ is) in
-    subst (λ (x : World). EndsFreeing x c.drop_master.new.self (Some (NotRetired c.in-Err.fault))) was (
+    subst (λ (x : World). EndsFreeing x c.drop_master.new.self (Err (NotRetired c.in-Err.fault))) was (
       c.in-Err.fault,
       world fleet_state m,
       record { knows = c.in-Err.ensures.knows; valid = c.in-Err.ensures.valid; retires = c.in-Err.ensures.retires },

@@ -7,9 +7,9 @@ use Rattle.next_master.proofs.of_node.Rolls.{no_room_told, rolling_told, room_to
 use Rattle.next_master.proofs.of_node.Tries.{not_rolled_makes, of_command, rolled_makes, rolling_makes}
 use Rattle.script.proofs.session.Session.run_after_roll.Goals as goal
 
-pub returns-in-Some : goal.returns-in-Some
-returns-in-Some c = (
-  c.in-Some.answer,
+pub returns-in-Err : goal.returns-in-Err
+returns-in-Err c = (
+  c.in-Err.answer,
   refl,
   record {
     number = refl;
@@ -17,8 +17,8 @@ returns-in-Some c = (
     used = refl;
     covers = λ all. all;
     answers = λ old config command asks waits. no_room_told old _ _ config
-        (shown_command c.args.line) command c.in-Some.answer asks waits (c.in-Some.ensures.told config);
-    makes = λ command asks. not_rolled_makes c.args.self.now.node _ command c.in-Some.answer c.in-Some.ensures.rolled;
+        (shown_command c.args.line) command c.in-Err.answer asks waits (c.in-Err.ensures.told config);
+    makes = λ command asks. not_rolled_makes c.args.self.now.node _ command c.in-Err.answer c.in-Err.ensures.rolled;
     will = refl;
     known = refl;
     later = refl;
