@@ -1,6 +1,6 @@
 //! What a cleaner begins.
 
-ghost use Rattle.std.specs.Prelude.{◌≡◌, None, true, IfOk, IfSome};
+ghost use Rattle.std.specs.Prelude.{◌≡◌, None, IfOk, IfSome};
 ghost use Rattle.driving.specs.master.master_space.Choosing.{next_step, pending_step};
 ghost use Rattle.tending.specs.Low.{MayRest};
 ghost use Rattle.tending.specs.Tends.{IsBegin};
@@ -8,8 +8,9 @@ ghost use Rattle.tending.specs.Tends.{IsBegin};
 use crate::policy::{Policy, product, room_of};
 use crate::weighing::{Weight, weigh_all};
 use driving::master::{Master, Step};
-use entry::NoMemory;
+use entry::{NoMemory, Row};
 use replica::Fleet;
+use std::alloc::Global;
 
 /// The segment whose compaction gives back most seglets for what it keeps, if one gives back any.
 fn best_of(policy: &Policy, weights: &[Weight]) -> Option<u64> {
@@ -18,7 +19,7 @@ fn best_of(policy: &Policy, weights: &[Weight]) -> Option<u64> {
     let mut best_cost: u64 = 1;
     for weight in weights {
         let gain = policy.gain(weight);
-        let cost = weight.live.saturating_add(weight.stones).saturating_add(1);
+        let cost = weight.kept().saturating_add(1);
         if product(gain, best_cost) > product(best_gain, cost) {
             best = Some(weight.id);
             best_gain = gain;
@@ -37,14 +38,12 @@ fn stones_of(weights: &[Weight]) -> u64 {
     stones
 }
 
-/// The bytes that the victims keep.
-fn kept_by(weights: &[Weight], victims: &[u64]) -> u64 {
+/// The bytes that these segments keep.
+fn kept_by(weights: &[Weight], ids: &[u64]) -> u64 {
     let mut kept: u64 = 0;
     for weight in weights {
-        if victims.contains(&weight.id) {
-            kept = kept
-                .saturating_add(weight.live)
-                .saturating_add(weight.stones);
+        if ids.contains(&weight.id) {
+            kept = kept.saturating_add(weight.kept());
         }
     }
     kept
@@ -63,18 +62,64 @@ fn wants_pass<F: Fleet>(master: &Master<F>, policy: &Policy, weights: &[Weight])
         || product(stones_of(weights), 100) >= product(policy.stones, unused)
 }
 
-/// Whether a pass over these victims would leave less than two whole segments free. No entry is longer than a quarter of
-/// a segment, so a survivor that is followed by another one is three quarters full.
-fn leaves_little<F: Fleet>(
+/// The first of the chosen segments, as many as fill the survivors that leave a put's roll its memory. It is at least
+/// one, if one is chosen.
+fn first_of(
+    policy: &Policy,
+    alloc: Global,
+    free: u64,
+    weights: &[Weight],
+    chosen: &[u64],
+) -> Result<Vec<u64>, NoMemory> {
+    let space = policy.space_of(policy.survivors_in(free));
+    let mut victims = Vec::with_capacity(alloc, chosen.len())?;
+    let mut kept: u64 = 0;
+    for id in chosen {
+        kept = kept.saturating_add(kept_by(weights, &[*id]));
+        if kept > space && !victims.is_empty() {
+            return Ok(victims);
+        }
+        victims.push(*id)?;
+    }
+    Ok(victims)
+}
+
+/// The step that compacts this segment, if there is one.
+fn compaction(id: Option<u64>) -> Option<Step>
+    ensures { IfSome result IsBegin }
+{
+    match id {
+        Some(id) => Some(Step::Compact(id)),
+        None => None,
+    }
+}
+
+/// A pass begins, or a segment is compacted if that gives back something and the pass would leave less than two whole
+/// segments free. The choice may begin as a pass. If the log has no places for a pass over its first segments, the pass
+/// takes the whole choice.
+fn begin_pass<F: Fleet>(
     master: &Master<F>,
     policy: &Policy,
     weights: &[Weight],
-    victims: &[u64],
-) -> bool {
-    let full = policy.segment.saturating_sub(policy.segment / 4).max(1);
-    let survivors = (kept_by(weights, victims) / full).saturating_add(1);
-    product(room_of(master).free, policy.seglet)
-        < product(survivors.saturating_add(2), policy.segment)
+    chosen: Vec<u64>,
+) -> Result<Step, NoMemory>
+    ensures { IfOk result IsBegin }
+{
+    let free = room_of(master).free;
+    let best = best_of(policy, weights);
+    let alloc = *chosen.allocator();
+    let victims = first_of(policy, alloc, free, weights, chosen.as_slice())?;
+    let survivors = policy.survivors_for(kept_by(weights, victims.as_slice()));
+    if policy.leaves_little(free, survivors) {
+        if let Some(id) = best {
+            return Ok(Step::Compact(id));
+        }
+    }
+    let left = (weights.len() as u64).saturating_sub(victims.len() as u64);
+    if policy.has_places(left.saturating_add(survivors)) {
+        return Ok(Step::BeginClean(Row::new(victims)));
+    }
+    Ok(Step::BeginClean(Row::new(chosen)))
 }
 
 /// What begins if nothing is under way. Nothing changes.
@@ -90,24 +135,12 @@ pub(crate) fn begin<F: Fleet>(master: &Master<F>, policy: &Policy) -> Result<Opt
     let weights = weigh_all(master, *chosen.allocator())?;
     let best = best_of(policy, weights.as_slice());
     if let Some(id) = best {
-        if !wants_pass(master, policy, weights.as_slice())
-            || leaves_little(master, policy, weights.as_slice(), chosen.as_slice())
-        {
+        if !wants_pass(master, policy, weights.as_slice()) {
             return Ok(Some(Step::Compact(id)));
         }
     }
     match master.next_step()? {
-        Some(step) => Ok(Some(step)),
+        Some(_) => Ok(Some(begin_pass(master, policy, weights.as_slice(), chosen)?)),
         None => Ok(compaction(best)),
-    }
-}
-
-/// The step that compacts this segment, if there is one.
-fn compaction(id: Option<u64>) -> Option<Step>
-    ensures { IfSome result IsBegin }
-{
-    match id {
-        Some(id) => Some(Step::Compact(id)),
-        None => None,
     }
 }

@@ -6,6 +6,7 @@ ghost use Rattle.tending.specs.Low.{is_low, usual_for};
 
 use crate::weighing::Weight;
 use driving::master::{Config, Look, Master, Shown};
+use entry::HEADER_LEN;
 use replica::Fleet;
 
 /// When a cleaner begins something, and whether it compacts a segment or begins a pass. These numbers decide what is
@@ -82,5 +83,47 @@ impl Policy {
         let before = self.seglets(weight.len);
         let after = self.seglets(weight.len.saturating_sub(weight.dead));
         before.saturating_sub(after)
+    }
+
+    /// How many survivors a pass may have if so many seglets are free: a put's roll finds two whole segments free then,
+    /// beside what the old head counts. It is at least one.
+    pub(crate) fn survivors_in(&self, free: u64) -> u64 {
+        let whole = self.segment / self.seglet.max(1);
+        (free / whole.max(1)).saturating_sub(3).max(1).min(4)
+    }
+
+    /// How many kept bytes fit so many survivors, whatever they are. No entry is longer than a quarter of a segment, so
+    /// a survivor with another one behind it is three quarters full.
+    pub(crate) fn space_of(&self, survivors: u64) -> u64 {
+        let last = self.segment.saturating_sub(HEADER_LEN as u64);
+        let others = survivors
+            .saturating_sub(1)
+            .saturating_mul(self.three_quarters());
+        last.saturating_add(others)
+    }
+
+    /// How many survivors so many kept bytes fill at most.
+    pub(crate) fn survivors_for(&self, kept: u64) -> u64 {
+        let last = self.segment.saturating_sub(HEADER_LEN as u64);
+        kept.saturating_sub(last)
+            .div_ceil(self.three_quarters().max(1))
+            .saturating_add(1)
+    }
+
+    /// The bytes of the fullest survivor that an entry may be too long for.
+    fn three_quarters(&self) -> u64 {
+        self.segment
+            .saturating_sub(HEADER_LEN as u64)
+            .saturating_sub(self.segment / 4)
+    }
+
+    /// Whether so many survivors would leave less than two whole segments free.
+    pub(crate) fn leaves_little(&self, free: u64, survivors: u64) -> bool {
+        product(free, self.seglet) < product(survivors.saturating_add(2), self.segment)
+    }
+
+    /// Whether a digest may list so many segments and two heads: the old one, and that of the commit.
+    pub(crate) fn has_places(&self, closed: u64) -> bool {
+        closed.saturating_add(2) <= self.segment / 32
     }
 }

@@ -20,6 +20,13 @@ pub(crate) struct Weight {
     pub stones: u64,
 }
 
+impl Weight {
+    /// The bytes of its kept objects and tombstones.
+    pub(crate) fn kept(&self) -> u64 {
+        self.live.saturating_add(self.stones)
+    }
+}
+
 /// Whether the master finds this version of the command's key. It counts as found if the master would refuse to say.
 fn finds<F: Fleet>(master: &Master<F>, command: &Command, version: u64) -> Result<bool, NoMemory> {
     match &master.would(0, command) {
