@@ -1,0 +1,3 @@
+pub mod Low
+pub mod Tends
+pub use Rattle.driving.specs as driving

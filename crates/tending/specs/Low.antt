@@ -1,0 +1,20 @@
+-- When few whole segments are free, and when a cleaner may rest.
+use Rattle.std.specs.Prelude.{◌≡◌, ◌*◌, Bool, true, None, nat_lt}
+use Rattle.driving.specs.master.master_space.Choosing.{next_step, pending_step}
+use Rattle.driving.specs.master.master_state.Budget.{free_seglets}
+use Rattle.driving.specs.master.master_state.Data.{MasterData}
+use Rattle.driving.specs.master.master_state.declared.config.Config.{Config}
+use Rattle.tending.specs.declared.policy.Policy.{Policy}
+
+-- Fewer whole segments are free than the policy spares. Both sides are in bytes.
+abbrev pub is_low : Policy → MasterData → Bool
+is_low policy d = nat_lt (free_seglets d * policy.seglet) (policy.spare * policy.segment)
+
+-- the usual policy for a configuration: four segments are spared
+abbrev pub usual_for : Config → Policy
+usual_for c = record { segment = c.segment; seglet = c.seglet; spare = 4; stored = 120; stones = 20 }
+
+-- A cleaner may rest: nothing is under way, and enough segments are free or no pass may begin.
+pub record MayRest (policy : Policy) (d : MasterData) : Type 0 where
+  pub idle : pending_step d ≡ None
+  pub able : is_low policy d ≡ true → next_step d ≡ None

@@ -1,0 +1,45 @@
+-- What a cleaner makes of a master and its fleet, a few steps at a time.
+use Rattle.std.specs.Prelude.{◌≡◌, ◌⊎◌, ℕ, zero, suc, ◌<◌, ◌≤◌, false, Option, Some, None}
+use Rattle.driving.specs.master.master_space.Choosing.{pending_step}
+use Rattle.driving.specs.master.master_state.declared.step.Refusal.{Refusal}
+use Rattle.driving.specs.master.master_state.declared.step.Refusal.TheVariants.{NoMemory}
+use Rattle.driving.specs.master.master_state.declared.step.Step.{Step}
+use Rattle.driving.specs.master.master_state.declared.step.Step.TheVariants.{Apply, Push, BeginRoll, Compact, BeginClean, Copy, Seal}
+use Rattle.driving.specs.master.master_state.declared.step.Step.TheVariants.{Free}
+use Rattle.driving.specs.master.master_state.Data.{MasterData}
+use Rattle.driving.specs.master.Steps.{Declines}
+use Rattle.driving.specs.master.World.{World}
+use Rattle.driving.specs.Rolls.{Advances, is_lost}
+
+-- a segment is compacted, or a pass begins
+abbrev pub IsBegin : Step → Type 0
+IsBegin (Apply seat command) = ⊥
+IsBegin Push = ⊥
+IsBegin BeginRoll = ⊥
+IsBegin (Compact id) = Unit {0}
+IsBegin (BeginClean ids) = Unit {0}
+IsBegin Copy = ⊥
+IsBegin Seal = ⊥
+IsBegin Free = ⊥
+
+-- The step is the one that is under way. Or nothing is, and it compacts a segment or begins a pass.
+abbrev pub IsTendStep : MasterData → Step → Type 0
+IsTendStep d step = (pending_step d ≡ Some step) ⊎ ((pending_step d ≡ None) × IsBegin step)
+
+-- so many such steps were made, one after another
+abbrev pub AreTended : ℕ → World → World → Type 0
+AreTended zero old new = new ≡ old
+AreTended (suc count) old new = (mid : World) × AreTended count old mid
+    × (step : Step) × IsTendStep mid.knows step × Advances step mid new
+
+-- So many steps were made, and no more than were asked for. It made fewer only if nothing is under way.
+pub record IsTended (most made : ℕ) (old new : World) : Type 0 where
+  pub few : made ≤ most
+  pub tended : AreTended made old new
+  pub idle : made < most → pending_step new.knows ≡ None
+
+-- Fewer steps were made, and then one was refused for good, or memory for a choice was.
+abbrev pub TendsUntil : ℕ → World → Refusal → World → Type 0
+TendsUntil most old r new = (count : ℕ) × (count < most) × (mid : World) × AreTended count old mid
+    × (((step : Step) × IsTendStep mid.knows step × Declines mid step r new × (is_lost r ≡ false))
+    ⊎ ((r ≡ NoMemory) × (new ≡ mid)))

@@ -1,0 +1,129 @@
+//! When a cleaner begins something, and what.
+
+ghost use Rattle.std.specs.Prelude.{◌≡◌, ◌*◌};
+ghost use Rattle.driving.specs.master.master_state.Budget.{free_seglets};
+ghost use Rattle.tending.specs.Low.{is_low, usual_for};
+
+use crate::weighing::Weight;
+use driving::master::{Config, Look, Master, Shown};
+use entry::HEADER_LEN;
+use replica::Fleet;
+
+/// When a cleaner begins something, and whether it compacts a segment or begins a pass. These numbers decide what is
+/// done, and never whether it is right.
+#[derive(Clone, Copy)]
+pub struct Policy {
+    /// The bytes of a segment, as in the master's configuration.
+    pub segment: u64,
+    /// The bytes of a seglet, as in the master's configuration.
+    pub seglet: u64,
+    /// A cleaner begins something while fewer whole segments than this are free.
+    pub spare: u64,
+    /// A pass comes first if the closed segments, each counted whole, are so many percent of memory or more.
+    pub stored: u64,
+    /// A pass comes first if the kept tombstones are so many percent or more of the memory that isn't live.
+    pub stones: u64,
+}
+
+/// The seglets of memory that a master counts, and those that are free.
+#[derive(Clone, Copy)]
+pub(crate) struct Room {
+    pub used: u64,
+    pub free: u64,
+}
+
+/// The room of a master. It takes no memory.
+pub(crate) fn room_of<F: Fleet>(master: &Master<F>) -> Room
+    ensures { result.free ≡ free_seglets master.now.knows }
+{
+    match &master.look(Look::Room) {
+        Ok(Shown::Room(used, free)) => Room {
+            used: *used,
+            free: *free,
+        },
+        _ => unreachable!(),
+    }
+}
+
+/// The product of two numbers.
+pub(crate) fn product(left: u64, right: u64) -> u128
+    ensures { result ≡ left * right }
+{
+    left as u128 * right as u128
+}
+
+impl Policy {
+    /// The usual policy for a master of this configuration.
+    pub fn of(config: &Config) -> Policy
+        ensures { result ≡ usual_for config.now }
+    {
+        Policy {
+            segment: config.segment,
+            seglet: config.seglet,
+            spare: 4,
+            stored: 120,
+            stones: 20,
+        }
+    }
+
+    /// Whether fewer whole segments are free than the policy spares.
+    pub(crate) fn is_low<F: Fleet>(&self, master: &Master<F>) -> bool
+        ensures { result ≡ is_low self.now master.now.knows }
+    {
+        product(room_of(master).free, self.seglet) < product(self.spare, self.segment)
+    }
+
+    /// The seglets of so many bytes.
+    fn seglets(&self, bytes: u64) -> u64 {
+        bytes.div_ceil(self.seglet.max(1))
+    }
+
+    /// How many seglets a compaction of the segment gives back.
+    pub(crate) fn gain(&self, weight: &Weight) -> u64 {
+        let before = self.seglets(weight.len);
+        let after = self.seglets(weight.len.saturating_sub(weight.dead));
+        before.saturating_sub(after)
+    }
+
+    /// How many survivors a pass may have if so many seglets are free: a put's roll finds two whole segments free then,
+    /// beside what the old head counts. It is at least one.
+    pub(crate) fn survivors_in(&self, free: u64) -> u64 {
+        let whole = self.segment / self.seglet.max(1);
+        (free / whole.max(1)).saturating_sub(3).max(1).min(4)
+    }
+
+    /// How many kept bytes fit so many survivors, whatever they are. No entry is longer than a quarter of a segment, so
+    /// a survivor with another one behind it is three quarters full.
+    pub(crate) fn space_of(&self, survivors: u64) -> u64 {
+        let last = self.segment.saturating_sub(HEADER_LEN as u64);
+        let others = survivors
+            .saturating_sub(1)
+            .saturating_mul(self.three_quarters());
+        last.saturating_add(others)
+    }
+
+    /// How many survivors so many kept bytes fill at most.
+    pub(crate) fn survivors_for(&self, kept: u64) -> u64 {
+        let last = self.segment.saturating_sub(HEADER_LEN as u64);
+        kept.saturating_sub(last)
+            .div_ceil(self.three_quarters().max(1))
+            .saturating_add(1)
+    }
+
+    /// The bytes of the fullest survivor that an entry may be too long for.
+    fn three_quarters(&self) -> u64 {
+        self.segment
+            .saturating_sub(HEADER_LEN as u64)
+            .saturating_sub(self.segment / 4)
+    }
+
+    /// Whether so many survivors would leave less than two whole segments free.
+    pub(crate) fn leaves_little(&self, free: u64, survivors: u64) -> bool {
+        product(free, self.seglet) < product(survivors.saturating_add(2), self.segment)
+    }
+
+    /// Whether a digest may list so many segments and two heads: the old one, and that of the commit.
+    pub(crate) fn has_places(&self, closed: u64) -> bool {
+        closed.saturating_add(2) <= self.segment / 32
+    }
+}

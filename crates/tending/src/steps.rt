@@ -1,0 +1,55 @@
+//! The steps of a cleaner.
+
+ghost use Rattle.std.specs.Prelude.{◌≡◌, ◌<◌, [], None, true, IfOk, IfErr, IfSome};
+ghost use Rattle.driving.specs.master.World.{world};
+ghost use Rattle.driving.specs.master.Keeps.{Keeps};
+ghost use Rattle.driving.specs.master.master_space.Choosing.{next_step, pending_step};
+ghost use Rattle.driving.specs.Served.{LivesOn};
+ghost use Rattle.tending.specs.Low.{is_low, MayRest};
+ghost use Rattle.tending.specs.Tends.{IsBegin, IsTendStep, IsTended, TendsUntil};
+
+use crate::choosing::begin;
+use crate::policy::Policy;
+use driving::master::{Master, Refusal, Step};
+use entry::NoMemory;
+use replica::Fleet;
+
+/// The next step of the cleaner, if there is one. Nothing changes.
+fn next<F: Fleet>(master: &Master<F>, policy: &Policy) -> Result<Option<Step>, NoMemory>
+    ensures some { IfOk result (λ step. IfSome step (IsTendStep master.now.knows)) }
+    ensures none { IfOk result (λ step. step ≡ None → MayRest policy.now master.now.knows) }
+{
+    match master.pending_step() {
+        Some(step) => Ok(Some(step)),
+        None => begin(master, policy),
+    }
+}
+
+/// Makes up to so many steps of the cleaner, and answers how many it made. What is under way goes on first. If nothing
+/// is, and fewer whole segments are free than the policy spares, a segment is compacted or a pass begins. A step in
+/// which a backup is lost counts as one. After another refusal, what was done stays done.
+///
+/// Cost: each step is one entry, one op of one backup, one segment that is compacted, or one pass that begins. Whatever
+/// begins is chosen by a walk over the log, which looks up each object.
+pub fn tend<F: Fleet>(master: &mut Master<F>, policy: &Policy, most: u64) -> Result<u64, Refusal>
+    ensures tended { IfOk result (λ made.
+        IsTended most made (world F.state master.old) (world F.state master.new)) }
+    ensures refused { IfErr result (λ r. TendsUntil most (world F.state master.old) r (world F.state master.new)) }
+    ensures goes_on { LivesOn master.old.knows master.new.knows [] }
+    ensures keeps { Keeps most (world F.state master.old) (world F.state master.new) }
+    ensures able { IfOk result (λ made.
+        made < most → is_low policy.now master.new.knows ≡ true → next_step master.new.knows ≡ None) }
+{
+    for made in 0..most {
+        let Some(step) = next(master, policy)? else {
+            return Ok(made);
+        };
+        if let Err(refusal) = master.step(step) {
+            match refusal {
+                Refusal::Lost(_) => {}
+                _ => return Err(refusal),
+            }
+        }
+    }
+    Ok(most)
+}

@@ -1,0 +1,7 @@
+//! The tests of a cleaner that makes a few steps at a time.
+#![tactic(auto)]
+
+#[cfg(test)]
+mod commands;
+#[cfg(test)]
+mod masters;
