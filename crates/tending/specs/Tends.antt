@@ -1,5 +1,5 @@
 -- What a cleaner makes of a master and its fleet, a few steps at a time.
-use Rattle.std.specs.Prelude.{◌≡◌, ◌⊎◌, ℕ, zero, suc, ◌<◌, ◌≤◌, false, Option, Some, None}
+use Rattle.std.specs.Prelude.{◌≡◌, ◌⊎◌, ℕ, zero, suc, ◌<◌, ◌≤◌, false, Some, None}
 use Rattle.driving.specs.master.master_space.Choosing.{pending_step}
 use Rattle.driving.specs.master.master_state.declared.step.Refusal.{Refusal}
 use Rattle.driving.specs.master.master_state.declared.step.Refusal.TheVariants.{NoMemory}

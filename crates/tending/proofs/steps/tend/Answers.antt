@@ -1,4 +1,4 @@
-use Rattle.std.proofs.Common.{◌≡◌, ℕ, ◌+◌, inl, sym}
+use Rattle.std.proofs.Common.{◌≡◌, ◌+◌, inl}
 use Rattle.std.proofs.Common.{subst}
 use Rattle.std.specs.Prelude.{Option, IfSome, Ok}
 use Rattle.driving.specs.master.World.{world}
