@@ -6,8 +6,8 @@ use Rattle.driving.specs.master.Steps.{Steps}
 use Rattle.driving.specs.master.World.{World}
 use Rattle.driving.specs.master.master_state.declared.step.Refusal.{Refusal}
 use Rattle.driving.specs.master.master_state.declared.step.Step.{Step}
-use Rattle.driving.specs.master.master_state.declared.step.Step.TheVariants.{Apply, Push, BeginRoll, Compact, BeginClean, Copy, Seal}
-use Rattle.driving.specs.master.master_state.declared.step.Step.TheVariants.{Free}
+use Rattle.driving.specs.master.master_state.declared.step.Step.TheVariants.{Apply, Push, BeginRoll, Compact}
+use Rattle.driving.specs.master.master_state.declared.step.Step.TheVariants.{BeginClean, Copy, Seal, Free}
 use Rattle.driving.specs.master.master_state.declared.step.StepAnswer.{StepAnswer}
 use Rattle.driving.specs.master.master_state.Data.{MasterData}
 use Rattle.driving.proofs.of_master.Keeping.{keeps_same, keeps_on}

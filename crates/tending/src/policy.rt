@@ -10,14 +10,14 @@ use entry::{HEADER_LEN, NoMemory};
 use replica::Fleet;
 
 /// When a cleaner begins something, and whether it compacts a segment or begins a pass. These numbers decide what is
-/// done, and never whether it is right.
+/// done, and never whether it is right. Contracts say when something has to begin, and not which of the two it is.
 #[derive(Clone, Copy)]
 pub struct Policy {
     /// The bytes of a segment, as in the master's configuration.
     pub segment: u64,
     /// The bytes of a seglet, as in the master's configuration.
     pub seglet: u64,
-    /// A cleaner begins something while fewer whole segments than this are free, or while the digest has room for fewer.
+    /// A cleaner begins something while fewer whole segments than this are free, or the digest has room for fewer.
     pub spare: u64,
     /// A pass comes first if the closed segments, each counted whole, are so many percent of memory or more.
     pub stored: u64,
@@ -131,7 +131,7 @@ impl Policy {
             .saturating_add(1)
     }
 
-    /// The bytes of the fullest survivor that an entry may be too long for.
+    /// How full a survivor is at least if an entry didn't fit it any more, in bytes.
     fn three_quarters(&self) -> u64 {
         self.segment
             .saturating_sub(HEADER_LEN as u64)
