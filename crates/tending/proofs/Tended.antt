@@ -1,14 +1,13 @@
 -- Steps of a cleaner, one after another.
-use Rattle.std.proofs.Common.{◌≡◌, ℕ, suc, ◌+◌, ◌-◌, ◌<◌, ◌≤◌, true, false, [], refl, sym, subst, ◌∙◌, inl, inr, arith}
+use Rattle.std.proofs.Common.{◌≡◌, ℕ, suc, ◌+◌, ◌-◌, ◌<◌, ◌≤◌, true, [], refl, subst, inl, inr, arith}
 use Rattle.std.specs.Prelude.{Result}
 use Rattle.driving.specs.master.Keeps.{Keeps}
-use Rattle.driving.specs.master.Steps.{Declines, Steps}
+use Rattle.driving.specs.master.Steps.{Steps}
 use Rattle.driving.specs.master.World.{World}
-use Rattle.driving.specs.master.master_space.Choosing.{pending_step}
 use Rattle.driving.specs.master.master_state.declared.step.Refusal.{Refusal}
 use Rattle.driving.specs.master.master_state.declared.step.Step.{Step}
-use Rattle.driving.specs.master.master_state.declared.step.Step.TheVariants.{Apply, Push, BeginRoll, Compact, BeginClean, Copy, Seal}
-use Rattle.driving.specs.master.master_state.declared.step.Step.TheVariants.{Free}
+use Rattle.driving.specs.master.master_state.declared.step.Step.TheVariants.{Apply, Push, BeginRoll, Compact}
+use Rattle.driving.specs.master.master_state.declared.step.Step.TheVariants.{BeginClean, Copy, Seal, Free}
 use Rattle.driving.specs.master.master_state.declared.step.StepAnswer.{StepAnswer}
 use Rattle.driving.specs.master.master_state.Data.{MasterData}
 use Rattle.driving.proofs.of_master.Keeping.{keeps_same, keeps_on}
@@ -17,7 +16,7 @@ use Rattle.driving.specs.Rolls.{Advances}
 use Rattle.driving.specs.Served.{LivesOn}
 use Rattle.driving.proofs.AnyStep.{makes_no_record, step_goes_on}
 use Rattle.driving.proofs.Turns.{IsTurn, next_turn}
-use Rattle.tending.specs.Tends.{IsBegin, IsTendStep, AreTended, IsTended}
+use Rattle.tending.specs.Tends.{IsBegin, IsTendStep, AreTended}
 
 by_turn : (s : Step) → IsTurn s → makes_no_record s ≡ true
 by_turn (Apply seat command) is = absurd is

@@ -1,5 +1,6 @@
--- When few whole segments are free, and when a cleaner may rest.
-use Rattle.std.specs.Prelude.{◌≡◌, ◌*◌, Bool, true, None, nat_lt}
+-- When a cleaner has to begin something, and when it may rest.
+use Rattle.std.specs.Prelude.{◌≡◌, ◌+◌, ◌*◌, ◌/◌, ◌||◌, Bool, true, None, length, nat_lt}
+use Rattle.driving.specs.master.log_head.Head.{digest_of}
 use Rattle.driving.specs.master.master_space.Choosing.{next_step, pending_step}
 use Rattle.driving.specs.master.master_state.Budget.{free_seglets}
 use Rattle.driving.specs.master.master_state.Data.{MasterData}
@@ -7,14 +8,23 @@ use Rattle.driving.specs.master.master_state.declared.config.Config.{Config}
 use Rattle.tending.specs.declared.policy.Policy.{Policy}
 
 -- Fewer whole segments are free than the policy spares. Both sides are in bytes.
+abbrev pub is_short : Policy → MasterData → Bool
+is_short policy d = nat_lt (free_seglets d * policy.seglet) (policy.spare * policy.segment)
+
+-- The digest in force has room for fewer ids than the policy spares. A digest may list one id for each 32 bytes of a
+-- segment.
+abbrev pub is_crowded : Policy → MasterData → Bool
+is_crowded policy d = nat_lt (policy.segment / 32) (length (digest_of d.head.image) + policy.spare)
+
+-- a cleaner has to begin something: memory is short, or the digest is crowded
 abbrev pub is_low : Policy → MasterData → Bool
-is_low policy d = nat_lt (free_seglets d * policy.seglet) (policy.spare * policy.segment)
+is_low policy d = is_short policy d || is_crowded policy d
 
 -- the usual policy for a configuration: four segments are spared
 abbrev pub usual_for : Config → Policy
 usual_for c = record { segment = c.segment; seglet = c.seglet; spare = 4; stored = 120; stones = 20 }
 
--- A cleaner may rest: nothing is under way, and enough segments are free or no pass may begin.
+-- A cleaner may rest: nothing is under way, and it has to begin nothing or no pass may begin.
 pub record MayRest (policy : Policy) (d : MasterData) : Type 0 where
   pub idle : pending_step d ≡ None
   pub able : is_low policy d ≡ true → next_step d ≡ None

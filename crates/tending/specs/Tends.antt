@@ -1,11 +1,11 @@
 -- What a cleaner makes of a master and its fleet, a few steps at a time.
-use Rattle.std.specs.Prelude.{◌≡◌, ◌⊎◌, ℕ, zero, suc, ◌<◌, ◌≤◌, false, Option, Some, None}
+use Rattle.std.specs.Prelude.{◌≡◌, ◌⊎◌, ℕ, zero, suc, ◌<◌, ◌≤◌, false, Some, None}
 use Rattle.driving.specs.master.master_space.Choosing.{pending_step}
 use Rattle.driving.specs.master.master_state.declared.step.Refusal.{Refusal}
 use Rattle.driving.specs.master.master_state.declared.step.Refusal.TheVariants.{NoMemory}
 use Rattle.driving.specs.master.master_state.declared.step.Step.{Step}
-use Rattle.driving.specs.master.master_state.declared.step.Step.TheVariants.{Apply, Push, BeginRoll, Compact, BeginClean, Copy, Seal}
-use Rattle.driving.specs.master.master_state.declared.step.Step.TheVariants.{Free}
+use Rattle.driving.specs.master.master_state.declared.step.Step.TheVariants.{Apply, Push, BeginRoll, Compact}
+use Rattle.driving.specs.master.master_state.declared.step.Step.TheVariants.{BeginClean, Copy, Seal, Free}
 use Rattle.driving.specs.master.master_state.Data.{MasterData}
 use Rattle.driving.specs.master.Steps.{Declines}
 use Rattle.driving.specs.master.World.{World}

@@ -49,7 +49,8 @@ fn kept_by(weights: &[Weight], ids: &[u64]) -> u64 {
     kept
 }
 
-/// Whether a pass comes before a compaction: the log has many segments for its memory, or many tombstones.
+/// Whether a pass comes before a compaction: the log has many segments for its memory or for its digest, or many
+/// tombstones.
 fn wants_pass<F: Fleet>(master: &Master<F>, policy: &Policy, weights: &[Weight]) -> bool {
     let room = room_of(master);
     let memory = room
@@ -58,7 +59,8 @@ fn wants_pass<F: Fleet>(master: &Master<F>, policy: &Policy, weights: &[Weight])
         .saturating_mul(policy.seglet);
     let stored = (weights.len() as u64).saturating_mul(policy.segment);
     let unused = memory.saturating_sub(master.live());
-    product(stored, 100) >= product(policy.stored, memory)
+    policy.is_crowded_by(weights.len().saturating_add(1))
+        || product(stored, 100) >= product(policy.stored, memory)
         || product(stones_of(weights), 100) >= product(policy.stones, unused)
 }
 
@@ -128,7 +130,7 @@ pub(crate) fn begin<F: Fleet>(master: &Master<F>, policy: &Policy) -> Result<Opt
     ensures some { IfOk result (λ step. IfSome step IsBegin) }
     ensures none { IfOk result (λ step. step ≡ None → MayRest policy.now master.now.knows) }
 {
-    if !policy.is_low(master) {
+    if !policy.is_low(master)? {
         return Ok(None);
     }
     let chosen = master.choose()?;

@@ -1,23 +1,23 @@
 //! When a cleaner begins something, and what.
 
-ghost use Rattle.std.specs.Prelude.{◌≡◌, ◌*◌};
+ghost use Rattle.std.specs.Prelude.{◌≡◌, ◌+◌, ◌*◌, ◌/◌, nat_lt, IfOk};
 ghost use Rattle.driving.specs.master.master_state.Budget.{free_seglets};
-ghost use Rattle.tending.specs.Low.{is_low, usual_for};
+ghost use Rattle.tending.specs.Low.{is_low, is_short, usual_for};
 
 use crate::weighing::Weight;
 use driving::master::{Config, Look, Master, Shown};
-use entry::HEADER_LEN;
+use entry::{HEADER_LEN, NoMemory};
 use replica::Fleet;
 
 /// When a cleaner begins something, and whether it compacts a segment or begins a pass. These numbers decide what is
-/// done, and never whether it is right.
+/// done, and never whether it is right. Contracts say when something has to begin, and not which of the two it is.
 #[derive(Clone, Copy)]
 pub struct Policy {
     /// The bytes of a segment, as in the master's configuration.
     pub segment: u64,
     /// The bytes of a seglet, as in the master's configuration.
     pub seglet: u64,
-    /// A cleaner begins something while fewer whole segments than this are free.
+    /// A cleaner begins something while fewer whole segments than this are free, or the digest has room for fewer.
     pub spare: u64,
     /// A pass comes first if the closed segments, each counted whole, are so many percent of memory or more.
     pub stored: u64,
@@ -66,11 +66,32 @@ impl Policy {
         }
     }
 
-    /// Whether fewer whole segments are free than the policy spares.
-    pub(crate) fn is_low<F: Fleet>(&self, master: &Master<F>) -> bool
-        ensures { result ≡ is_low self.now master.now.knows }
+    /// Whether fewer whole segments are free than the policy spares. It takes no memory.
+    fn is_short<F: Fleet>(&self, master: &Master<F>) -> bool
+        ensures { result ≡ is_short self.now master.now.knows }
     {
         product(room_of(master).free, self.seglet) < product(self.spare, self.segment)
+    }
+
+    /// Whether a digest that lists so many segments has room for fewer than the policy spares.
+    pub(crate) fn is_crowded_by(&self, listed: usize) -> bool
+        ensures { result ≡ nat_lt (self.now.segment / 32) (listed + self.now.spare) }
+    {
+        ((self.segment / 32) as u128) < listed as u128 + self.spare as u128
+    }
+
+    /// Whether something has to begin: few whole segments are free, or the digest has little room.
+    pub(crate) fn is_low<F: Fleet>(&self, master: &Master<F>) -> Result<bool, NoMemory>
+        ensures { IfOk result (λ low. low ≡ is_low self.now master.now.knows) }
+    {
+        if self.is_short(master) {
+            return Ok(true);
+        }
+        match &master.look(Look::Digest) {
+            Ok(Shown::Digest(ids)) => Ok(self.is_crowded_by(ids.as_slice().len())),
+            Ok(_) => unreachable!(),
+            Err(fault) => Err(*fault),
+        }
     }
 
     /// The seglets of so many bytes.
@@ -110,7 +131,7 @@ impl Policy {
             .saturating_add(1)
     }
 
-    /// The bytes of the fullest survivor that an entry may be too long for.
+    /// How full a survivor is at least if an entry didn't fit it any more, in bytes.
     fn three_quarters(&self) -> u64 {
         self.segment
             .saturating_sub(HEADER_LEN as u64)

@@ -26,10 +26,12 @@ fn next<F: Fleet>(master: &Master<F>, policy: &Policy) -> Result<Option<Step>, N
 }
 
 /// Makes up to so many steps of the cleaner, and answers how many it made. What is under way goes on first. If nothing
-/// is, and fewer whole segments are free than the policy spares, a segment is compacted or a pass begins. A step in
-/// which a backup is lost counts as one. After another refusal, what was done stays done.
+/// is, and memory is short or the digest crowded (`is_low`), a segment is compacted or a pass begins. The answer is
+/// below `most` only if nothing is under way, and either nothing has to begin or no pass may begin. So passes follow
+/// one another while memory is short, even if they give back nothing. A step in which a backup is lost counts as one.
+/// After any other refusal, what was done stays done.
 ///
-/// Cost: each step is one entry, one op of one backup, one segment that is compacted, or one pass that begins. Whatever
+/// Cost: a step is one entry, one op of one backup, one segment that is compacted, or one pass that begins. Whatever
 /// begins is chosen by a walk over the log, which looks up each object.
 pub fn tend<F: Fleet>(master: &mut Master<F>, policy: &Policy, most: u64) -> Result<u64, Refusal>
     ensures tended { IfOk result (λ made.

@@ -50,9 +50,9 @@ fn serve(alloc: Global, master: &mut Master<MemoryFleet>, ask: &Ask) -> Result<(
     Ok(())
 }
 
-/// What is asked in turn, how many commands come, how many steps the cleaner may make after each of them, and the
-/// refusal that stops it all, if one does.
-type Row = (&'static [Ask], usize, u64, Option<Refusal>);
+/// What is asked in turn, how many commands come, how many steps the cleaner may make after each of them, which take of
+/// the fleet ends in a fault (0: none does), and the refusal that stops it all, if one does.
+type Row = (&'static [Ask], usize, u64, u64, Option<Refusal>);
 
 /// Gives a master the commands of a row. The first refusal, of a command or of the cleaner.
 fn stopped(
@@ -61,7 +61,8 @@ fn stopped(
     policy: &Policy,
     row: &Row,
 ) -> Option<Refusal> {
-    let (asks, count, most, _) = row;
+    let (asks, count, most, fault, _) = row;
+    master.fault_at(*fault, true);
     for place in 0..*count {
         let Some(ask) = asks.get(place % asks.len().max(1)) else {
             return None;
@@ -83,7 +84,7 @@ fn is_so(alloc: Global, row: &Row) -> bool {
     };
     let policy = Policy::of(&config);
     match master_of(alloc, config) {
-        Some(mut master) => stopped(alloc, &mut master, &policy, row) == row.3,
+        Some(mut master) => stopped(alloc, &mut master, &policy, row) == row.4,
         None => false,
     }
 }
@@ -95,10 +96,15 @@ const OVERWRITES: &[Ask] = &[Put(b"a"), Put(b"b"), Put(b"c"), Put(b"d")];
 const TURNS: &[Ask] = &[Put(b"a"), Delete(b"a")];
 
 const ROWS: &[Row] = &[
-    (OVERWRITES, 400, 0, Some(Refusal::Full)),
-    (OVERWRITES, 400, 16, None),
-    (TURNS, 1000, 0, Some(Refusal::Full)),
-    (TURNS, 1000, 16, None),
+    (OVERWRITES, 400, 0, 0, Some(Refusal::Full)),
+    (OVERWRITES, 400, 16, 0, None),
+    (TURNS, 1000, 0, 0, Some(Refusal::Full)),
+    (TURNS, 1000, 16, 0, None),
+    // A backup fails in one of four takes that follow one another.
+    (OVERWRITES, 400, 16, 97, None),
+    (OVERWRITES, 400, 16, 98, None),
+    (OVERWRITES, 400, 16, 99, None),
+    (OVERWRITES, 400, 16, 100, None),
 ];
 
 #[test]

@@ -1,4 +1,4 @@
-//! A master with the default options.
+//! A master with the default options, whose backups may fail.
 
 ghost use Rattle.std.specs.Prelude.{◌≡◌, ◌≤◌, ℕ, None, IfSome};
 ghost use Rattle.backup.specs.State.{fleet_state};
@@ -16,7 +16,7 @@ const TABLETS: &[Tablet] = &[Tablet {
     last: u64::MAX,
 }];
 
-/// The default configuration of master 1: eight segments of memory, each of 512 bytes.
+/// The default configuration of master 1, but for the format, which is 2. Memory has eight segments, each of 512 bytes.
 pub fn config_of(alloc: Global) -> Option<Config>
     ensures { IfSome result (λ config. config_fault config ≡ None) }
 {
@@ -34,7 +34,7 @@ pub fn config_of(alloc: Global) -> Option<Config>
         tablets: Tablets::new(tablets),
         history: 1_048_576,
         hasher: KeyHasher::new(),
-        format: 1,
+        format: 2,
         largest: u64::MAX,
         most_live: u64::MAX,
     };

@@ -1,4 +1,4 @@
-use Rattle.std.proofs.Common.{◌≡◌, ℕ, ◌+◌, inl, sym}
+use Rattle.std.proofs.Common.{◌≡◌, ◌+◌, inl}
 use Rattle.std.proofs.Common.{subst}
 use Rattle.std.specs.Prelude.{Option, IfSome, Ok}
 use Rattle.driving.specs.master.World.{world}
@@ -8,7 +8,8 @@ use Rattle.driving.proofs.Losses.{goes_lost, goes_ok, unlost}
 use Rattle.tending.specs.Tends.{IsTendStep}
 use Rattle.tending.proofs.Tended.{IsSoFar, so_far_more, lives_then, keeps_one_more}
 use Rattle.tending.proofs.steps.tend.Goals.{in-Err+in-Lost, in_default-step+in-Ok+in-Applied+in-Found-1}
-use Rattle.tending.proofs.steps.tend.Goals.{in_default-step+in-Ok+in-Applied+in-None-1, in_default-step+in-Ok+in-Extended-1}
+use Rattle.tending.proofs.steps.tend.Goals.{in_default-step+in-Ok+in-Applied+in-None-1}
+use Rattle.tending.proofs.steps.tend.Goals.{in_default-step+in-Ok+in-Extended-1}
 use Rattle.tending.proofs.steps.tend.Goals.{in_default-step+in-Err-1}
 use Rattle.tending.proofs.steps.tend.Goals as goal
 
