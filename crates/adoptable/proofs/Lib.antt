@@ -7,6 +7,7 @@ pub mod Applying
 pub mod Ordered
 pub mod Starting
 pub mod Stepping
+pub mod Numbering
 pub mod Faulting
 pub mod Refusing
 pub mod Living

@@ -28,7 +28,7 @@ use Rattle.replay.proofs.LoadSteps.{one_keeps, room_keeps}
 use Rattle.replay.proofs.of_driving.MasterSteps.{push_tested}
 use Rattle.adoptable.specs.Laws.{RecoveredFits, WithinIsAdopted, IsNotForTable}
 use Rattle.adoptable.specs.Limit.{IsAllowed, put_of}
-use Rattle.adoptable.proofs.Faulting.{halts_for_fault}
+use Rattle.adoptable.proofs.Faulting.{halts_for_fault, spends_for_fault}
 use Rattle.adoptable.proofs.Fitting.{neither_of, within_fits}
 use Rattle.adoptable.proofs.Ordered.{ordered_once}
 use Rattle.adoptable.proofs.Sums.{AreAllowed}
@@ -159,5 +159,5 @@ within_is_adopted c r old new why limit within declines =
     go refusal.Halted may declines = halts_for_fault c r old new declines
     go refusal.Spent may declines = declined_spent c r old new declines
     go refusal.NoMemory may declines = tt
-    go refusal.SegmentsSpent may declines = tt
+    go refusal.SegmentsSpent may declines = spends_for_fault c r old new limit.valid declines
     go why may declines = absurd (cc)

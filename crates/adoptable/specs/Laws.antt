@@ -55,15 +55,15 @@ abbrev pub RecoveredFits : Type 0
 RecoveredFits = (c : Config) (d : FailData) (r : Rebuilt) → HasLimit c → IsAdmitted c d → IsRecovered d r
     → IsWithin c r.objects × HasRoomFor c r.objects
 
--- An adoption was refused so, and turned the old fleet into the new one, but the table wasn't the cause. Full, Halted:
--- a take of it ended in a fault, which may halt the master or cost it memory. Spent: the fleet takes no more. NoMemory:
--- memory of the process ran out. SegmentsSpent: no number was left for a segment.
+-- An adoption was refused so, and turned the old fleet into the new one, but the table wasn't the cause. Full, Halted,
+-- SegmentsSpent: a take of it ended in a fault, which may halt the master or cost it memory or ids of segments. Spent:
+-- the fleet takes no more. NoMemory: memory of the process ran out.
 abbrev pub IsNotForTable : FleetState → Refusal → FleetState → Type 0
 IsNotForTable old refusal.Full new = old.faults < new.faults
 IsNotForTable old refusal.Halted new = old.faults < new.faults
+IsNotForTable old refusal.SegmentsSpent new = old.faults < new.faults
 IsNotForTable old refusal.Spent new = new.takes ≡ new.end
 IsNotForTable old refusal.NoMemory new = Unit {0}
-IsNotForTable old refusal.SegmentsSpent new = Unit {0}
 IsNotForTable old _ new = ⊥
 
 -- An adoption of a table within the limit is never refused for the table.
@@ -80,7 +80,8 @@ LivesKeepLimit = (start last : World) (courses : List Course) (lived : List Live
     → AreLived start courses lived last → KeepsLimit start.knows → KeepsLimit last.knows
 
 -- Say lives are lived from such a start, whatever their steps, the backups that are kept, and the wills and orders of
--- their recoveries. Then no adoption is refused for the table: none as Full, unless a take of it ended in a fault.
+-- their recoveries. Then no adoption is refused for the table: none as Full, Halted or SegmentsSpent, unless a take of
+-- it ended in a fault.
 abbrev pub RecoveriesFit : Type 0
 RecoveriesFit = (start last : World) (courses : List Course) (lived : List Lived) (course : Course)
     (answers : List (Result StepAnswer Refusal)) (r : Rebuilt) (left new : FleetState) (why : Refusal)

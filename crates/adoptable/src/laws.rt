@@ -16,9 +16,8 @@ pub fn limits_are_kept()
 {}
 
 /// From a start that keeps its limit, whatever lives are lived, the master that goes on keeps the limit, and no
-/// adoption is refused for the table. It is refused as Full or as Halted only if a take of it ended in a fault, as
-/// Spent only by a spent fleet, as NoMemory if memory of the process ran out, and as SegmentsSpent if no number was
-/// left.
+/// adoption is refused for the table. It is refused as Full, Halted or SegmentsSpent only if a take of it ended in a
+/// fault, as Spent only by a spent fleet, and as NoMemory if memory of the process ran out.
 pub fn recoveries_fit()
     ensures more { MoreAdmits }
     ensures recovered { RecoveredFits }
