@@ -6,7 +6,7 @@ ghost use Rattle.driving.specs.master.Keeps.{Keeps};
 ghost use Rattle.driving.specs.master.master_space.Choosing.{next_step, pending_step};
 ghost use Rattle.driving.specs.Served.{LivesOn};
 ghost use Rattle.tending.specs.Low.{is_low, MayRest};
-ghost use Rattle.tending.specs.Tends.{IsBegin, IsTendStep, IsTended, TendsUntil};
+ghost use Rattle.tending.specs.Tends.{IsTendStep, IsTended, TendsUntil};
 
 use crate::choosing::begin;
 use crate::policy::Policy;
