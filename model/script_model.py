@@ -214,11 +214,13 @@ LINES = {
     "holdings": (),
     "format": (format_word,),
     "seglets": (number_word,),
+    "tend": (number_word,),
 }
 
 # The least and the most of the first numbers of a line.
 RANGES = {
     "clients": ((1, 63), (1, 1000000)), "recover threads": ((1, 64),), "fault": ((1, 2**64 - 1),), "seglets": ((1, 2**32),),
+    "tend": ((1, 65536),),
 }
 # The lines that give masters that start later another option, which has the line's name.
 LATER = ("format", "seglets")
@@ -593,6 +595,92 @@ class Pass:
         return replace(self, filling=filling, survivors=(*self.survivors[:filling], grown, *self.survivors[filling + 1:]))
 
 
+@dataclass(frozen=True)
+class Weight:
+    """What a closed segment has: the bytes of its image, and those of its kept objects and tombstones."""
+
+    id: int
+    length: int
+    live: int
+    stones: int
+
+    @staticmethod
+    def of(master, segment):
+        kept = [entry for _, entry in master.kept_of((segment.id,))]
+        live, stones = (sum(len(it.spelled()) for it in kept if isinstance(it, kind)) for kind in (Object, Tombstone))
+        return Weight(segment.id, len(segment.text), live, stones)
+
+    def kept(self):
+        return self.live + self.stones
+
+
+class Policy:
+    """When a cleaner begins something, and what."""
+
+    SPARE, STORED, STONES = 4, 120, 20
+
+    def __init__(self, master, options):
+        self.master, self.options, self.segment = master, options, options.segment
+        self.used = master.used(options)
+        self.free = options.seglets - self.used
+        self.ids = len(master.log())
+
+    def is_low(self):
+        return self.free * self.options.seglet < self.SPARE * self.segment or self.is_crowded(self.ids)
+
+    def is_crowded(self, listed):
+        return self.segment // 32 < listed + self.SPARE
+
+    def gain(self, weight, listed):
+        after = weight.kept() + 32 + 16 * listed
+        return max(0, -(-weight.length // self.options.seglet) - -(-after // self.options.seglet))
+
+    def best(self, weights):
+        """The segment whose compaction gives back most seglets for what it keeps; None if none gives one back."""
+        best, gained, cost = None, 0, 1
+        for weight in weights:
+            gain = self.gain(weight, len(weights))
+            if gain * cost > gained * (weight.kept() + 1):
+                best, gained, cost = weight.id, gain, weight.kept() + 1
+        return best
+
+    def wants_pass(self, weights):
+        memory = self.options.seglets * self.options.seglet
+        unused = max(0, memory - self.master.live_bytes())
+        return (self.is_crowded(len(weights) + 1) or len(weights) * self.segment * 100 >= self.STORED * memory
+                or sum(it.stones for it in weights) * 100 >= self.STONES * unused)
+
+    def three_quarters(self):
+        return self.segment - 18 - self.segment // 4
+
+    def victims(self, weights, chosen):
+        """The first of the chosen ones, and how many survivors they fill at most."""
+        kept = {it.id: it.kept() for it in weights}
+        survivors = min(4, max(1, self.free // whole_seglets(self.options) - 3))
+        space, victims, all_kept = self.segment - 18 + (survivors - 1) * self.three_quarters(), (), 0
+        for id_ in chosen:
+            all_kept += kept[id_]
+            if all_kept > space and victims:
+                break
+            victims += (id_,)
+        all_kept = sum(kept[id_] for id_ in victims)
+        return victims, 1 + -(-max(0, all_kept - self.segment + 18) // self.three_quarters())
+
+    def begin(self):
+        """The step that a cleaner begins: a segment that is compacted, or the victims of a pass; or None."""
+        if not self.is_low():
+            return None
+        chosen, weights = self.master.choice(self.options)[0], self.master.weights()
+        best = self.best(weights)
+        if best and not self.wants_pass(weights) or not self.master.chosen(self.options):
+            return ("compact", best) if best else None
+        victims, survivors = self.victims(weights, chosen)
+        if best and self.free * self.options.seglet < (survivors + 2) * self.segment:
+            return "compact", best
+        has_places = len(weights) - len(victims) + survivors + 2 <= self.segment // 32
+        return "begin", victims if has_places else chosen
+
+
 def survivors_for(lengths, most):
     """How many segments of so many bytes these entries fill, in their order. Each has a header of 18 bytes."""
     count, level = 1, 18
@@ -817,8 +905,8 @@ class Master:
         """How many survivors what is kept of these segments fills now."""
         return survivors_for((len(entry.spelled()) for _, entry in self.kept_of(ids)), options.segment)
 
-    def chosen(self, options):
-        """The victims that a cleaner chooses by itself; none if a pass over them has no place in the digest."""
+    def choice(self, options):
+        """The segments that keep the fewest bytes, as many as a pass may have, and how many survivors they fill."""
         closed = [it.id for it in self.log()[:-1]]
         kept = {id_: sum(len(entry.spelled()) for _, entry in self.kept_of((id_,))) for id_ in closed}
         free, whole = options.seglets - self.used(options), whole_seglets(options)
@@ -828,7 +916,16 @@ class Master:
             if more > 4 or free < (more + 1) * whole:
                 break
             victims, coming = (*victims, id_), more
+        return victims, coming
+
+    def chosen(self, options):
+        """The victims that a cleaner chooses by itself; none if a pass over them has no place in the digest."""
+        victims, coming = self.choice(options)
         return victims if len(self.segments) - len(victims) + coming + 1 <= most_ids(options) else ()
+
+    def weights(self):
+        """What the closed segments of the digest in force keep."""
+        return [Weight.of(self, it) for it in self.log()[:-1]]
 
     def cleaned(self, ids, options):
         """The master after the begin of a pass."""
@@ -1229,7 +1326,49 @@ class Store:
         if store:
             yield f"cleaned{ids_text((*survivors, store.master.segments[-1]))}\n", 0, store
 
+    def line_tend(self, most):
+        store = self
+        for made in range(most):
+            # A halted master may have a replica to free that a backup freed as it failed.
+            store = store if store.master.is_halted else store.waited()
+            step = store.pending()
+            if not step:
+                yield REFUSED, 1, store
+                step = Policy(store.master, store.options).begin()
+            if not step:
+                yield f"tended {made}\n", 0, store
+                return
+            if store.master.is_halted:
+                yield "refused Halted\n", 0, store
+                return
+            store = yield from store.tended(*step)
+            if not store:
+                return
+        yield f"tended {most}\n", 0, store
+
+    def pending(self):
+        """The step of what is under way, or None."""
+        if self.master.failover or self.master.cleaning:
+            return ("pass",)
+        if self.master.is_rolling:
+            return ("push",)
+        return ("free",) if self.master.waiting else None
+
     # The parts of a line. Each yields the answers that end the line, and returns the store if the line goes on.
+
+    def tended(self, step, segment=None):
+        """Makes one step of the cleaner."""
+        if step == "pass":
+            return (yield from self.next_of_pass())
+        if step == "push":
+            return (yield from self.one_push())
+        if step == "free":
+            return (yield from self.one_free())
+        if step == "begin":
+            return (yield from self.pass_begun(segment))
+        yield REFUSED, 1, self
+        image = next(it for it in self.master.log() if it.id == segment)
+        return replace(self, master=self.master.compacted(image))
 
     def pass_begun(self, ids):
         refusal = self.master.pass_refusal(ids, self.options)

@@ -8,7 +8,7 @@ use Rattle.versioned_map.specs.declared.command.Command.{Command}
 use Rattle.versioned_map.specs.declared.command.Record.{Record}
 use Rattle.versioned_map.specs.Command.{command_key}
 use Rattle.versioned_map.specs.Versioned.{is_spent}
-use Rattle.replay.specs.master.failover_model.Data.{FailData, state_of}
+use Rattle.replay.specs.master.log_laws.Data.{FailData, state_of}
 use Rattle.replay.specs.master.master_state.declared.config.Config.{Config}
 use Rattle.replay.specs.master.master_state.declared.step.Refusal.{Refusal}
 use Rattle.replay.specs.master.master_state.declared.step.Refusal.TheVariants as refusal

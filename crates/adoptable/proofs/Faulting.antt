@@ -10,9 +10,9 @@ use Rattle.replica.specs.Take.{effect, taken, with_effect}
 use Rattle.claims.specs.declared.rebuilt.Rebuilt.{Rebuilt}
 use Rattle.replay.specs.Adopting.{HasRoomMade, HasLoaded, DeclinesOne, IsStuck, Stops, DeclinesList}
 use Rattle.replay.specs.driving.Rolls.{Advances, ArePushed, PushesUntil, GoesRolling}
-use Rattle.replay.specs.master.failover_model.Shown.{Op, On, Raise}
-use Rattle.replay.specs.master.failover_bytes.Ops.{RefusesOp, TakesOp, log_op_for}
-use Rattle.replay.specs.master.log_model.Ops.{op_of}
+use Rattle.replay.specs.master.log_laws.Shown.{Op, On, Raise}
+use Rattle.replay.specs.master.log_bytes.Ops.{RefusesOp, TakesOp, log_op_for}
+use Rattle.replay.specs.master.log_laws.Ops.{op_of}
 use Rattle.replay.specs.master.master_state.declared.config.Config.{Config}
 use Rattle.replay.specs.master.master_state.declared.failover.Failover.{Failover}
 use Rattle.replay.specs.master.master_state.declared.step.Refusal.{Refusal}

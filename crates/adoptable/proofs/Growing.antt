@@ -12,7 +12,7 @@ use Rattle.versioned_map.specs.Versioned.{State, after}
 use Rattle.replay.specs.master.master_state.declared.config.Config.{Config}
 use Rattle.replay.specs.master.master_state.Live.{live_after}
 use Rattle.replay.specs.master.master_state.Sizes.{AreOnce}
-use Rattle.replay.proofs.of_driving.of_master.log_model.Fronts.{state_front, state_next}
+use Rattle.replay.proofs.of_driving.of_master.log_laws.Fronts.{state_front, state_next}
 use Rattle.adoptable.specs.Limit.{IsSum, IsAllowed, IsWithin}
 use Rattle.adoptable.proofs.Sums.{IsCounted, command_counted}
 

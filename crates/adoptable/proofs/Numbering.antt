@@ -14,7 +14,7 @@ use Rattle.replay.specs.master.log_head.declared.next.Next.{Next}
 use Rattle.replay.specs.master.log_head.declared.next.Next.TheVariants as next
 use Rattle.replay.specs.master.log_head.Head.{HeadValue, digest_of}
 use Rattle.replay.specs.master.log_head.Steps.{in_force, lone_start, with_closed_replica, with_new_replica}
-use Rattle.replay.specs.master.log_model.Data.{Start, ids_of, start_entries}
+use Rattle.replay.specs.master.log_laws.Heads.{Start, ids_of, start_entries}
 use Rattle.replay.specs.master.master_rolls.Ends.{pass_left}
 use Rattle.replay.specs.master.master_state.declared.config.Config.{Config}
 use Rattle.replay.specs.master.master_state.declared.step.StepAnswer.{StepAnswer}
@@ -27,7 +27,7 @@ use Rattle.replay.proofs.LoadTests.{rolls_tell}
 use Rattle.replay.proofs.of_driving.Digests.{ids_next, start_digest}
 use Rattle.replay.proofs.of_driving.Heads.{no_roll, works_parts}
 use Rattle.replay.proofs.of_driving.Outlines.{Outline, outline, push_outline, pushed_outline}
-use Rattle.replay.proofs.of_driving.of_master.log_model.Lengths.{ids_listed}
+use Rattle.replay.proofs.of_driving.of_master.log_laws.ListedIds.{ids_listed}
 use Rattle.replay.proofs.of_driving.of_master.master_state.Refusals.{sizes_of as config_sizes}
 
 module _ (c : Config) where

@@ -4,7 +4,7 @@ use Rattle.std.specs.Prelude.{Option, Some, None, Result, Ok, Err}
 use Rattle.std.specs.Option.{option_map_or}
 use Rattle.versioned_map.specs.declared.command.Command.{Command}
 use Rattle.versioned_map.specs.declared.command.Record.{Record}
-use Rattle.replay.specs.master.failover_model.Shown.{Op}
+use Rattle.replay.specs.master.log_laws.Shown.{Op}
 use Rattle.replay.specs.master.master_state.declared.config.Config.{Config}
 use Rattle.replay.specs.master.master_state.declared.step.Refusal.{Refusal}
 use Rattle.replay.specs.master.master_state.declared.step.Step.{Step}
@@ -18,8 +18,8 @@ use Rattle.replay.specs.master.master_state.Log.{home}
 use Rattle.replay.specs.master.master_state.Steps.{Applies, pushed_data, sealed_data}
 use Rattle.replay.specs.master.master_state.Waits.{next_seal}
 use Rattle.replay.specs.master.log_head.declared.next.Next.{Next}
-use Rattle.replay.specs.master.master_mending.declared.mending.Mend.{Mend}
-use Rattle.replay.specs.master.master_mending.Mending.{mended_data, turned_data}
+use Rattle.replay.specs.master.master_failover.declared.mending.Mend.{Mend}
+use Rattle.replay.specs.master.master_failover.Mending.{mended_data, turned_data}
 use Rattle.replay.specs.master.Passes.{IsSealOp, IsFreeOp}
 use Rattle.replay.specs.master.Steps.{Steps, FailsTake, IsPushOp}
 use Rattle.replay.specs.master.World.{World}

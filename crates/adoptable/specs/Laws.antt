@@ -3,7 +3,7 @@ use Rattle.std.specs.Prelude.{◌≡◌, ◌<◌, ◌≤◌, List, ◌∷◌, Re
 use Rattle.claims.specs.declared.rebuilt.Rebuilt.{Rebuilt}
 use Rattle.replica.specs.Picture.{FleetState}
 use Rattle.replay.specs.Adopting.{IsAdopted, DeclinesList}
-use Rattle.replay.specs.master.failover_model.Data.{FailData}
+use Rattle.replay.specs.master.log_laws.Data.{FailData}
 use Rattle.replay.specs.master.master_state.declared.config.Config.{Config}
 use Rattle.replay.specs.master.master_state.declared.step.Refusal.{Refusal}
 use Rattle.replay.specs.master.master_state.declared.step.Refusal.TheVariants as refusal

@@ -10,7 +10,7 @@ use Rattle.versioned_map.specs.declared.command.Command.{Command}
 use Rattle.versioned_map.specs.declared.command.Command.TheVariants.{Put}
 use Rattle.versioned_map.specs.declared.command.If.TheVariants.{Any}
 use Rattle.versioned_map.specs.Command.{command_key}
-use Rattle.replay.specs.master.failover_model.Data.{FailData, state_after}
+use Rattle.replay.specs.master.log_laws.Data.{FailData, state_after}
 use Rattle.replay.specs.master.master_state.declared.config.Config.{Config}
 use Rattle.replay.specs.master.master_state.Causes.{is_too_big, is_longer}
 use Rattle.replay.specs.master.master_state.Config.{config_fault, sizes_of}

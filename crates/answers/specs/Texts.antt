@@ -154,6 +154,7 @@ answer_text answer.Dropped = codes "dropped" ++ 10 ∷ []
 answer_text (answer.Sealed backup) = codes "sealed " ++ decimal backup ++ 10 ∷ []
 answer_text (answer.Freed segment backup) = op_text (codes "freed ") segment backup
 answer_text (answer.Cleaned survivors head) = cleaned_text survivors head
+answer_text (answer.Tended made) = codes "tended " ++ decimal made ++ 10 ∷ []
 answer_text (answer.Counted clients rounds calls) = codes "clients " ++ decimal clients ++ 32 ∷ op_text [] rounds calls
 answer_text (answer.Log ids) = log_text ids
 answer_text (answer.Room used free) = room_text used free

@@ -89,6 +89,8 @@ pub enum Answer {
     Freed(u64, u64),
     /// The survivors of the cleaning that was made, and the head that it ended with.
     Cleaned(Survivors, u64),
+    /// How many steps the cleaner made.
+    Tended(u64),
     /// How many clients made how many rounds each, and how many calls were accepted.
     Counted(u64, u64, u64),
     /// The ids of the digest in force.
@@ -158,6 +160,7 @@ pub fn write_answer<W: Write>(writer: &mut W, answer: &Answer) -> Result<(), Wri
         Answer::Sealed(backup) => write_number(writer, b"sealed ", *backup, b'\n'),
         Answer::Freed(segment, backup) => write_op(writer, b"freed ", *segment, *backup),
         Answer::Cleaned(survivors, head) => write_cleaned(writer, *survivors, *head),
+        Answer::Tended(made) => write_number(writer, b"tended ", *made, b'\n'),
         Answer::Counted(clients, rounds, calls) => {
             write_counted(writer, *clients, *rounds, *calls)
         }

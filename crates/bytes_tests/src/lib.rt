@@ -1,5 +1,5 @@
-//! The tests of the lower crates: vectors of entries and of segments, images in memory, compaction, a pass, heads,
-//! packed histories, wills, and the lines of scripts.
+//! The tests of the lower crates: vectors of entries and of segments, images in memory, compaction, counted bytes, a
+//! pass, heads, packed histories, wills, and the lines of scripts.
 //!
 //! What a test does is data: a table of calls, each with its answer, or of inputs, each with what comes of it. A
 //! function owns one thing at most and lends it to the next, and a test asserts that no row is answered otherwise. So a
@@ -24,6 +24,8 @@ mod passes;
 mod seglets;
 #[cfg(test)]
 mod segments;
+#[cfg(test)]
+mod tallies;
 #[cfg(test)]
 mod vectors;
 #[cfg(test)]

@@ -25,6 +25,8 @@ pub(crate) const AFTER_HELP: &str = "Lines of a script:
   copy         Copies or drops one entry of these segments: 'moved', 'carried' or 'dropped'
   seal         Hands one replica of a new segment to a backup: 'sealed B'
   free         Frees one replica of a segment that was cleaned: 'freed ID B'
+  tend N       Makes up to N steps of the cleaner (1 to 65536), by itself: what is under way first; if memory is short, a
+               compaction or a pass: 'tended K', the steps that were made
   clients C N P  Runs C clients (1 to 63) in threads of their own, beside a cleaner that makes P passes. Each has a key
                of its own in table 1, and makes N rounds (1 to 1000000) of a put and a get: 'clients C N CALLS', the
                calls that were accepted

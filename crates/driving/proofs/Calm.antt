@@ -11,7 +11,7 @@ use Rattle.master.specs.log_head.declared.next.Next.{Next}
 use Rattle.master.specs.log_head.declared.next.Next.TheVariants as next
 use Rattle.master.specs.log_head.Head.{HeadValue, digest_of, is_open}
 use Rattle.master.specs.log_head.Steps.{fresh_roll, in_force, with_closed_replica, with_new_replica}
-use Rattle.master.specs.log_model.Ids.{all_inserted, without}
+use Rattle.master.specs.log_laws.Ids.{all_inserted, without}
 use Rattle.versioned_map.specs.declared.command.Record.{Record}
 use Rattle.master.specs.master_rolls.Ends.{pass_left}
 use Rattle.master.specs.master_state.declared.config.Config.{Config}

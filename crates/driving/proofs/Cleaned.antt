@@ -14,9 +14,9 @@ use Rattle.master.specs.log_head.declared.head.Roll.{Roll}
 use Rattle.master.specs.log_head.Head.{digest_of}
 use Rattle.master.specs.log_head.Log.{head_of, start_in, start_of}
 use Rattle.master.proofs.log_head.RollLog.{digest_is}
-use Rattle.master.specs.log_model.Data.{ids_of}
-use Rattle.master.specs.log_model.Ids.{has}
-use Rattle.master.proofs.log_model.Lengths.{ids_listed}
+use Rattle.master.specs.log_laws.Heads.{ids_of}
+use Rattle.master.specs.log_laws.Ids.{has}
+use Rattle.master.proofs.log_laws.ListedIds.{ids_listed}
 use Rattle.master.specs.master_state.declared.step.Refusal.{Refusal}
 use Rattle.master.specs.master_state.declared.step.Refusal.TheVariants as refusal
 use Rattle.master.specs.master_state.declared.step.Step.TheVariants.{BeginClean}

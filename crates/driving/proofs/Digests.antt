@@ -18,13 +18,13 @@ use Rattle.master.specs.log_head.Steps.{fresh_roll, in_force, lost, start_after,
 use Rattle.master.specs.log_head.Steps.{with_all_taken, with_opened_replica, with_whole_replica}
 use Rattle.master.proofs.log_head.Digests.{without_none}
 use Rattle.master.proofs.log_head.Rolls.{zeros_length}
-use Rattle.master.specs.log_model.Data.{ids_of}
-use Rattle.master.specs.log_model.Ids.{all_inserted, without}
-use Rattle.master.proofs.log_model.Lengths.{ids_listed}
-use Rattle.master.specs.master_mending.declared.mending.Mend.{Mend}
-use Rattle.master.specs.master_mending.declared.mending.Mend.TheVariants as mend
-use Rattle.master.specs.master_mending.Mending.{IsInPart, IsNextMend, closed_more, mended_data, opening, turn_roll}
-use Rattle.master.specs.master_mending.Mending.{was_headless}
+use Rattle.master.specs.log_laws.Heads.{ids_of}
+use Rattle.master.specs.log_laws.Ids.{all_inserted, without}
+use Rattle.master.proofs.log_laws.ListedIds.{ids_listed}
+use Rattle.master.specs.master_failover.declared.mending.Mend.{Mend}
+use Rattle.master.specs.master_failover.declared.mending.Mend.TheVariants as mend
+use Rattle.master.specs.master_failover.Mending.{IsInPart, IsNextMend, closed_more, mended_data, opening, turn_roll}
+use Rattle.master.specs.master_failover.Mending.{was_headless}
 use Rattle.master.specs.master_rolls.Ends.{pass_left}
 use Rattle.master.specs.master_state.declared.failover.Failover.{Failover}
 use Rattle.master.specs.master_state.declared.failover.Part.{Part}

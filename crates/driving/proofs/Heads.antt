@@ -11,11 +11,11 @@ use Rattle.master.specs.log_head.declared.next.Next.{Next}
 use Rattle.master.specs.log_head.declared.next.Next.TheVariants as next
 use Rattle.master.specs.log_head.Head.{HeadValue, is_open}
 use Rattle.master.specs.log_head.Steps.{fresh_roll, in_force, with_closed_replica, with_new_replica, with_opened_replica}
-use Rattle.master.specs.log_model.Data.{Start}
-use Rattle.master.specs.master_mending.declared.mending.Mend.{Mend}
-use Rattle.master.specs.master_mending.declared.mending.Mend.TheVariants as mend
-use Rattle.master.specs.master_mending.Mending.{IsInPart, IsNextMend, closed_more, mended_data, turn_roll}
-use Rattle.master.specs.master_mending.Mending.{was_headless}
+use Rattle.master.specs.log_laws.Heads.{Start}
+use Rattle.master.specs.master_failover.declared.mending.Mend.{Mend}
+use Rattle.master.specs.master_failover.declared.mending.Mend.TheVariants as mend
+use Rattle.master.specs.master_failover.Mending.{IsInPart, IsNextMend, closed_more, mended_data, turn_roll}
+use Rattle.master.specs.master_failover.Mending.{was_headless}
 use Rattle.versioned_map.specs.declared.command.Record.{Record}
 use Rattle.master.specs.master_state.declared.config.Config.{Config}
 use Rattle.master.specs.master_state.declared.failover.Failover.{Failover}

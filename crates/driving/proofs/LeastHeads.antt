@@ -5,8 +5,8 @@ use Rattle.master.specs.cleaner.declared.survivors.Survivors.{Survivors}
 use Rattle.versioned_map.specs.declared.command.Command.{Command}
 use Rattle.versioned_map.specs.declared.command.Record.{Record}
 use Rattle.versioned_map.specs.declared.command.Reply.{Reply}
-use Rattle.master.specs.failover_model.Shown.{Op}
-use Rattle.master.specs.failover_bytes.Ops.{TakesOp}
+use Rattle.master.specs.log_laws.Shown.{Op}
+use Rattle.master.specs.log_bytes.Ops.{TakesOp}
 use Rattle.replica.specs.Picture.{FleetState}
 use Rattle.master.specs.master_state.declared.config.Config.{Config}
 use Rattle.master.specs.master_state.declared.step.Refusal.{Refusal}

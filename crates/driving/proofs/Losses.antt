@@ -4,7 +4,7 @@ use Rattle.std.proofs.Common.{subst, inl, inr, arith}
 use Rattle.std.proofs.lemmas.Bool.{and_parts, ltb-true}
 use Rattle.std.specs.Prelude.{Option, Some, None, Result, Ok, is_none, is_some, ◌==◌, ◌&&◌, nat_lt}
 use Rattle.std.specs.Prelude.{if◌then◌else◌, ◌⊎◌}
-use Rattle.master.specs.failover_model.Shown.{Op}
+use Rattle.master.specs.log_laws.Shown.{Op}
 use Rattle.versioned_map.specs.declared.command.Record.{Record}
 use Rattle.master.specs.master_state.declared.config.Config.{Config}
 use Rattle.master.specs.master_state.declared.step.Refusal.{Refusal}

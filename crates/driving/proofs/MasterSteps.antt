@@ -11,8 +11,8 @@ use Rattle.versioned_map.specs.declared.command.Command.{Command}
 use Rattle.versioned_map.specs.declared.command.Record.{Record}
 use Rattle.versioned_map.specs.declared.command.Reply.{Reply}
 use Rattle.master.specs.log_head.Head.{is_open}
-use Rattle.master.specs.failover_model.Data.{FailData, durable_of}
-use Rattle.master.specs.failover_model.Shown.{Op}
+use Rattle.master.specs.log_laws.Data.{FailData, durable_of}
+use Rattle.master.specs.log_laws.Shown.{Op}
 use Rattle.master.specs.master_state.declared.config.Config.{Config}
 use Rattle.master.specs.master_state.declared.step.Refusal.{Refusal}
 use Rattle.master.specs.master_state.declared.step.Refusal.TheVariants as refusal

@@ -7,9 +7,9 @@ use Rattle.replica.specs.Op.{OpValue}
 use Rattle.replica.specs.Picture.{Replica, FleetState}
 use Rattle.replica.specs.Registry.{RefusesRaise}
 use Rattle.replica.specs.Take.{Refuses, effect, taken, with_effect}
-use Rattle.master.specs.log_model.Ops.{op_of}
-use Rattle.master.specs.failover_model.Shown.{Op, On, Raise}
-use Rattle.master.specs.failover_bytes.Ops.{RefusesOp, TakesOp, log_op_for}
+use Rattle.master.specs.log_laws.Ops.{op_of}
+use Rattle.master.specs.log_laws.Shown.{Op, On, Raise}
+use Rattle.master.specs.log_bytes.Ops.{RefusesOp, TakesOp, log_op_for}
 
 -- what an op leaves of the counts
 pub record IsCounted (old new : FleetState) : Type 0 where

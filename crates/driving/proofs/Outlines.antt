@@ -14,10 +14,11 @@ use Rattle.master.specs.log_head.Steps.{fresh_head, lone_start}
 use Rattle.master.specs.log_head.Steps.{old_image, with_all_taken, with_closed_replica, with_new_replica, with_opened_replica}
 use Rattle.master.specs.log_head.Steps.{with_whole_replica}
 use Rattle.versioned_map.specs.declared.command.Record.{Record}
-use Rattle.master.specs.master_mending.declared.mending.Mend.{Mend}
-use Rattle.master.specs.master_mending.declared.mending.Mend.TheVariants as mend
-use Rattle.master.specs.master_mending.Mending.{closed_more, first_lost, mended_data, opening, raised_data, repaired_data}
-use Rattle.master.specs.master_mending.Mending.{sealed_anew, turn_roll, turned_data, was_headless, with_part}
+use Rattle.master.specs.master_failover.declared.mending.Mend.{Mend}
+use Rattle.master.specs.master_failover.declared.mending.Mend.TheVariants as mend
+use Rattle.master.specs.master_failover.Mending.{closed_more, first_lost, mended_data, opening, raised_data}
+use Rattle.master.specs.master_failover.Mending.{repaired_data}
+use Rattle.master.specs.master_failover.Mending.{sealed_anew, turn_roll, turned_data, was_headless, with_part}
 use Rattle.master.specs.master_state.declared.config.Config.{Config}
 use Rattle.master.specs.master_state.declared.failover.Failover.{Failover}
 use Rattle.master.specs.master_state.declared.failover.Part.TheVariants as part

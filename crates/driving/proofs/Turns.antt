@@ -15,9 +15,9 @@ use Rattle.master.specs.log_head.declared.head.Roll.{Roll}
 use Rattle.master.specs.log_head.declared.next.Next.{Next}
 use Rattle.master.specs.log_head.declared.next.Next.TheVariants as next
 use Rattle.master.specs.log_head.Head.{HeadValue, is_open}
-use Rattle.master.specs.master_mending.declared.mending.Mend.{Mend}
-use Rattle.master.specs.master_mending.declared.mending.Mend.TheVariants as mend
-use Rattle.master.specs.master_mending.Mending.{closed_more, mended_data, was_headless}
+use Rattle.master.specs.master_failover.declared.mending.Mend.{Mend}
+use Rattle.master.specs.master_failover.declared.mending.Mend.TheVariants as mend
+use Rattle.master.specs.master_failover.Mending.{closed_more, mended_data, was_headless}
 use Rattle.master.specs.master_space.Choosing.{pass_step, pending_step, pending_without}
 use Rattle.master.specs.master_rolls.Ends.{pass_left}
 use Rattle.versioned_map.specs.declared.command.Record.{Record}

@@ -4,7 +4,7 @@ use Rattle.std.specs.Prelude.{Some, None, IsSome}
 use Rattle.master.specs.cleaner.declared.survivors.Survivors.{Survivors}
 use Rattle.master.specs.cleaner.Passes.{survivor_ids}
 use Rattle.master.specs.log_head.Head.{digest_of}
-use Rattle.master.specs.log_model.Ids.{all_inserted, without}
+use Rattle.master.specs.log_laws.Ids.{all_inserted, without}
 use Rattle.master.specs.master_space.Choosing.{pending_step}
 use Rattle.master.specs.master_state.Budget.{newest_digest}
 use Rattle.master.specs.master_state.declared.step.Refusal.{Refusal}

@@ -2,7 +2,7 @@
 use Rattle.std.specs.Prelude.{◌≡◌, ◌⊎◌, ◌<◌, ◌≤◌, ℕ, zero, suc, false, Result, Ok, Err}
 use Rattle.versioned_map.specs.declared.command.Command.{Command}
 use Rattle.versioned_map.specs.declared.command.Reply.{Reply}
-use Rattle.master.specs.failover_model.Data.{durable_of}
+use Rattle.master.specs.log_laws.Data.{durable_of}
 use Rattle.master.specs.master_state.declared.step.Refusal.{Refusal}
 use Rattle.master.specs.master_state.declared.step.Refusal.TheVariants.{Rolling}
 use Rattle.master.specs.master_state.declared.step.Step.TheVariants.{Apply, Push}

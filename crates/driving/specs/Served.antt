@@ -4,7 +4,7 @@ use Rattle.replica.specs.Picture.{FleetState}
 use Rattle.versioned_map.specs.declared.command.Command.{Command}
 use Rattle.versioned_map.specs.declared.command.Record.{Record}
 use Rattle.versioned_map.specs.declared.command.Reply.{Reply}
-use Rattle.master.specs.failover_model.Data.{durable_of}
+use Rattle.master.specs.log_laws.Data.{durable_of}
 use Rattle.master.specs.master_state.declared.step.Refusal.{Refusal}
 use Rattle.master.specs.master_state.declared.step.Refusal.TheVariants as refusal
 use Rattle.master.specs.master_state.declared.step.Refusal.TheVariants.{NoMemory}

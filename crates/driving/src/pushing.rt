@@ -1,7 +1,7 @@
 //! Pushes, and the roll that they end.
 
 ghost use Rattle.std.specs.Prelude.{◌≡◌, ◌<◌, [], length, true, IfOk, IfErr};
-ghost use Rattle.master.specs.failover_model.Data.{durable_of};
+ghost use Rattle.master.specs.log_laws.Data.{durable_of};
 ghost use Rattle.master.specs.master_state.Budget.{is_working};
 ghost use Rattle.master.specs.master_state.Log.{log_of};
 ghost use Rattle.master.specs.World.{world};

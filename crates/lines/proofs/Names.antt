@@ -6,7 +6,7 @@ use Rattle.std.specs.Fmt.{decimal}
 use Rattle.lines.specs.Grammar.{LineValue, words_of}
 use Rattle.lines.specs.Grammar.{Idle, Put, New, Cas, Get, Del, Compact, Roll, BeginRoll, Push, Log, Room, LiveBytes, Needs}
 use Rattle.lines.specs.Grammar.{Hex, Stop, Fault, Format, Seglets, Crash, Lose, Will, Recover, Holdings}
-use Rattle.lines.specs.Grammar.{Clean, Begin, Copy, Seal, Free, Clients}
+use Rattle.lines.specs.Grammar.{Clean, Begin, Copy, Seal, Free, Clients, Tend}
 use Rattle.lines.specs.declared.line.ReplayOrder.{ReplayOrder}
 use Rattle.lines.specs.declared.line.ReplayOrder.TheVariants.{Forward, Reverse, Threads}
 use Rattle.lines.specs.Words.{AreWordsOf, ReadsWords}
@@ -69,8 +69,9 @@ line_of ws =
     (cond (are_named (codes "copy") ws) Copy
     (cond (are_named (codes "seal") ws) Seal
     (cond (are_named (codes "free") ws) Free
+    (cond (are_named (codes "tend") ws) (Tend (number_at 1 ws))
     (cond (are_named (codes "clients") ws) (Clients (number_at 1 ws) (number_at 2 ws) (number_at 3 ws))
-    Idle))))))))))))))))))))))))))))
+    Idle)))))))))))))))))))))))))))))
 
 pub line_is : (words : List (List ℕ)) (line : LineValue) → AreWordsOf words line → line_of words ≡ line
 line_is words Idle are = absurd are
@@ -111,6 +112,7 @@ line_is words (Begin ns) are = ap line_of are.spelled ∙ ap Begin (values ns ar
 line_is words Copy are = ap line_of are.spelled
 line_is words Seal are = ap line_of are.spelled
 line_is words Free are = ap line_of are.spelled
+line_is words (Tend n) are = ap line_of are.spelled ∙ ap Tend (value n (omega (arith, are.limits.1)))
 line_is words (Clients c n p) are =
     let rounds = digits_value 10 (decimal n) in
     let passes = digits_value 10 (decimal p) in

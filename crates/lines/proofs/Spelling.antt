@@ -8,7 +8,7 @@ use Rattle.std.proofs.lemmas.List.Elements.{All-push, All-nil, All-cons}
 use Rattle.std.proofs.lemmas.List.Splits.{slice_split_at, slice_split_none, join_with_byte-slice_split}
 use Rattle.std.proofs.lemmas.Fmt.{decimal_by_steps}
 use Rattle.lines.specs.Keys.{IsKeyWord, IsWord}
-use Rattle.lines.specs.Grammar.{IsIdle, LineValue, Says, Idle, Del, Lose, Seglets, shown_line}
+use Rattle.lines.specs.Grammar.{IsIdle, LineValue, Says, Idle, Del, Lose, Seglets, Tend, shown_line}
 use Rattle.lines.specs.Cutting.{is_space}
 use Rattle.lines.specs.Words.{AreNumber, AreWordsOf, ReadsWords}
 use Rattle.lines.specs.declared.line.Line.{Line}
@@ -43,6 +43,9 @@ is_lose = record { some = search (arith); visible = λ k d below. search (arith)
 is_seglets : IsWord (codes "seglets")
 is_seglets = record { some = search (arith); visible = λ k d below. search (arith) }
 
+is_tend : IsWord (codes "tend")
+is_tend = record { some = search (arith); visible = λ k d below. search (arith) }
+
 -- what is behind `del`
 pub del_words : (words : List (List ℕ)) (table : ℕ) (key : List ℕ) (behind : List (List ℕ))
     → words ≡ decimal table ∷ behind
@@ -71,6 +74,16 @@ pub seglets_words : (words behind : List (List ℕ)) (n : ℕ) → (words ≡ de
 seglets_words words behind n read end = record {
   spelled = ap (λ ws. codes "seglets" ∷ ws) (read.0 ∙ ap (λ ws. decimal n ∷ ws) end);
   each = All-cons IsWord (codes "seglets") (decimal n ∷ []) is_seglets
+      (All-cons IsWord (decimal n) [] (decimal_is_word n (omega (arith, read.2))) (All-nil IsWord));
+  limits = (read.1, read.2);
+}
+
+-- what is behind `tend`
+pub tend_words : (words behind : List (List ℕ)) (n : ℕ) → (words ≡ decimal n ∷ behind) × (1 ≤ n) × (n ≤ 65536)
+    → behind ≡ [] → AreWordsOf (codes "tend" ∷ words) (Tend n)
+tend_words words behind n read end = record {
+  spelled = ap (λ ws. codes "tend" ∷ ws) (read.0 ∙ ap (λ ws. decimal n ∷ ws) end);
+  each = All-cons IsWord (codes "tend") (decimal n ∷ []) is_tend
       (All-cons IsWord (decimal n) [] (decimal_is_word n (omega (arith, read.2))) (All-nil IsWord));
   limits = (read.1, read.2);
 }

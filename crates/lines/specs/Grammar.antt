@@ -45,6 +45,7 @@ pub data LineValue : Type 0 where
   Copy : LineValue
   Seal : LineValue
   Free : LineValue
+  Tend : (steps : ℕ) → LineValue
   Clients : (clients rounds passes : ℕ) → LineValue
 
 -- the value of a command's line of the program
@@ -82,6 +83,7 @@ shown_line (line.Begin segments) = Begin (numbers_of segments)
 shown_line line.Copy = Copy
 shown_line line.Seal = Seal
 shown_line line.Free = Free
+shown_line (line.Tend steps) = Tend steps
 shown_line (line.Clients clients rounds passes) = Clients clients rounds passes
 
 -- ---- how a line is written
@@ -128,6 +130,7 @@ words_of (Begin segments) = codes "begin" ∷ map decimal segments
 words_of Copy = codes "copy" ∷ []
 words_of Seal = codes "seal" ∷ []
 words_of Free = codes "free" ∷ []
+words_of (Tend steps) = codes "tend" ∷ decimal steps ∷ []
 words_of (Clients clients rounds passes) = codes "clients" ∷ decimal clients ∷ decimal rounds ∷ decimal passes ∷ []
 
 -- the number is one from `least` to `most`
@@ -141,8 +144,8 @@ IsOrder Reverse = Unit {0}
 IsOrder (Threads workers) = IsWithin 1 64 workers
 
 -- The numbers of the line have 64 bits, its key is a word of at most 1,024 bytes, and a list of segments names one or
--- more. There are 1 to 63 clients, 1 to 1,000,000 rounds, and 1 to 4,294,967,296 seglets. The takes to a fault count
--- from 1.
+-- more. There are 1 to 63 clients, 1 to 1,000,000 rounds, 1 to 4,294,967,296 seglets, and 1 to 65,536 steps. The takes
+-- to a fault count from 1.
 abbrev pub IsLine : LineValue → Type 0
 IsLine Idle = Unit {0}
 IsLine (Put table key value) = (table < 2 ^ 64) × IsKeyWord key
@@ -173,6 +176,7 @@ IsLine (Begin segments) = (0 < length segments) × All (λ n. n < 2 ^ 64) segmen
 IsLine Copy = Unit {0}
 IsLine Seal = Unit {0}
 IsLine Free = Unit {0}
+IsLine (Tend steps) = IsWithin 1 65536 steps
 IsLine (Clients clients rounds passes) = IsWithin 1 63 clients × IsWithin 1 1000000 rounds × (passes < 2 ^ 64)
 
 -- the text is empty or begins with `#`

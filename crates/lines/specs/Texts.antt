@@ -26,6 +26,7 @@ shape_text shape.Alone = codes " has nothing behind it"
 shape_text shape.Clients = codes " has a number of clients (1 to 63), of rounds (1 to 1000000) and of passes"
 shape_text shape.Format = codes " has the word 2"
 shape_text shape.Seglets = codes " has a number of seglets (1 to 4294967296)"
+shape_text shape.Steps = codes " has a number of steps (1 to 65536)"
 
 abbrev pub reason_text : Reason → List ℕ
 reason_text reason.CarriageReturn = codes "a carriage return ends the line"

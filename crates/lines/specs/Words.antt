@@ -47,6 +47,7 @@ pub record IsNoLongName (word : List ℕ) : Type 0 where
   pub clients : word ≢ codes "clients"
   pub format : word ≢ codes "format"
   pub seglets : word ≢ codes "seglets"
+  pub tend : word ≢ codes "tend"
 
 -- the words spell the line
 pub record Spell (words : List (List ℕ)) (line : LineValue) : Type 0 where

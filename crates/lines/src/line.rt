@@ -86,6 +86,10 @@ pub enum Line<'a> {
     Seal,
     /// Free one replica of a segment that was cleaned.
     Free,
+    /// Make this many steps of the cleaner, or fewer if nothing is left to do: 1 to 65,536.
+    Tend {
+        steps: u64,
+    },
     /// Run this many clients at one time, beside a cleaner. Each client makes these rounds of a put and a get, and the
     /// cleaner makes these passes.
     Clients {

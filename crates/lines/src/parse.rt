@@ -24,6 +24,9 @@ const MAX_WORKERS: u64 = 64;
 /// The most seglets of a master.
 const MAX_SEGLETS: u64 = 4_294_967_296;
 
+/// The most steps of a cleaner.
+const MAX_STEPS: u64 = 65_536;
+
 /// Parses the text of a line, without its line feed. With Err the line is bad for this reason.
 ///
 /// It takes no memory: a key and a value are parts of the text. It doesn't look at the length of the text, which
@@ -71,6 +74,7 @@ fn parse_words(mut words: Words<'_>) -> Option<Line<'_>>
         name if is(name, "clients") => clients(words),
         name if is(name, "format") => format(words),
         name if is(name, "seglets") => seglets(words),
+        name if is(name, "tend") => tend(words),
         name => only_name(name, words),
     }
 }
@@ -312,6 +316,16 @@ fn seglets(mut words: Words<'_>) -> Option<Line<'_>>
     let seglets = words.count(MAX_SEGLETS)?;
     words.end()?;
     Some(Line::Seglets { seglets })
+}
+
+/// The word behind `tend` as how many steps there are.
+#[inline(never)]
+fn tend(mut words: Words<'_>) -> Option<Line<'_>>
+    ensures { ReadsWords (codes "tend" ∷ words.entry) result }
+{
+    let steps = words.count(MAX_STEPS)?;
+    words.end()?;
+    Some(Line::Tend { steps })
 }
 
 /// The words as one number.

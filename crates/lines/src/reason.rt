@@ -50,6 +50,7 @@ pub enum Shape {
     Clients,
     Format,
     Seglets,
+    Steps,
 }
 
 impl Shape {
@@ -75,6 +76,7 @@ impl Shape {
             }
             Shape::Format => " has the word 2",
             Shape::Seglets => " has a number of seglets (1 to 4294967296)",
+            Shape::Steps => " has a number of steps (1 to 65536)",
         }
     }
 }

@@ -37,6 +37,7 @@ const COMMANDS: &[(&str, Shape)] = &[
     ("copy", Shape::Alone),
     ("seal", Shape::Alone),
     ("free", Shape::Alone),
+    ("tend", Shape::Steps),
     ("clients", Shape::Clients),
 ];
 
@@ -120,7 +121,7 @@ fn wrong_word(rest: Option<&[u8]>, shape: Shape) -> Option<Reason>
             ],
         ),
         Shape::Key => wrong_of(rest, &[WordKind::Number, WordKind::Key]),
-        Shape::Segment | Shape::Ops | Shape::Backup | Shape::Seglets => {
+        Shape::Segment | Shape::Ops | Shape::Backup | Shape::Seglets | Shape::Steps => {
             wrong_of(rest, &[WordKind::Number])
         }
         Shape::Fault => wrong_of(rest, &[WordKind::Number, WordKind::Any]),

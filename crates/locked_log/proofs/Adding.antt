@@ -3,7 +3,7 @@ use Rattle.std.proofs.Common.{◌≡◌, ℕ, [], ◌∷◌, ◌++◌, length, s
 use Rattle.versioned_map.specs.declared.command.Command.{Command}
 use Rattle.versioned_map.specs.declared.command.Reply.{Reply}
 use Rattle.versioned_map.specs.declared.command.Reply.TheVariants as reply
-use Rattle.store_step.specs.master.failover_model.Data.{FailData}
+use Rattle.store_step.specs.master.log_laws.Data.{FailData}
 use Rattle.store_step.specs.master.master_state.declared.step.Step.TheVariants.{Apply}
 use Rattle.store_step.specs.master.master_state.declared.step.StepAnswer.{StepAnswer}
 use Rattle.store_step.specs.master.master_state.declared.step.StepAnswer.TheVariants.{Applied}

@@ -7,12 +7,12 @@ use Rattle.versioned_map.specs.declared.command.Command.{Command}
 use Rattle.versioned_map.specs.declared.command.Record.{Record}
 use Rattle.versioned_map.specs.declared.command.Reply.{Reply}
 use Rattle.history_row.specs.Rows.{IsRowOf}
-use Rattle.store_step.specs.master.failover_model.Data.{durable_of}
+use Rattle.store_step.specs.master.log_laws.Data.{durable_of}
 use Rattle.store_step.specs.master.master_state.declared.step.Refusal.{Refusal}
 use Rattle.store_step.specs.master.master_state.declared.step.Step.TheVariants.{Apply}
 use Rattle.store_step.specs.master.master_state.declared.step.StepAnswer.TheVariants.{Applied}
-use Rattle.store_step.proofs.of_master.failover_model.DurableSteps.{durable_is_within}
-use Rattle.store_step.specs.master.failover_clean.Fleet.{read_of}
+use Rattle.store_step.proofs.of_master.log_laws.DurableSteps.{durable_is_within}
+use Rattle.store_step.specs.master.log_memory.Fleet.{read_of}
 use Rattle.store_step.specs.master.master_state.Log.{log_of}
 use Rattle.store_step.specs.master.Invariant.{IsWellKept}
 use Rattle.store_step.specs.master.Keeps.{Keeps}

@@ -8,7 +8,7 @@ use Rattle.store_step.specs.master.cleaner.declared.fault.PassFault.{PassFault}
 use Rattle.store_step.specs.master.cleaner.declared.pass.Pass.{Pass as OpenPass}
 use Rattle.store_step.specs.master.cleaner.Passes.{is_at_end, next_seal}
 use Rattle.store_step.specs.master.log_head.Head.{is_open}
-use Rattle.store_step.specs.master.log_model.Data.{fewest}
+use Rattle.store_step.specs.master.log_laws.Heads.{fewest}
 use Rattle.store_step.specs.master.master_state.declared.failover.Failover.{Failover}
 use Rattle.store_step.specs.master.master_state.declared.step.Refusal.{Refusal}
 use Rattle.store_step.specs.master.master_state.declared.step.Refusal.TheVariants.{Halted, Rolling, Nothing, Full, SegmentsSpent, Pass}

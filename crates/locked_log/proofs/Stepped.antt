@@ -8,7 +8,7 @@ use Rattle.replica.specs.Picture.{FleetState}
 use Rattle.store_step.specs.master.cleaner.declared.pass.Pass.{Pass}
 use Rattle.store_step.specs.master.cleaner.Passes.{is_at_end, next_seal}
 use Rattle.store_step.specs.master.log_head.Head.{is_open}
-use Rattle.store_step.specs.master.failover_model.Shown.{Op}
+use Rattle.store_step.specs.master.log_laws.Shown.{Op}
 use Rattle.store_step.specs.master.master_state.declared.step.Refusal.{Refusal}
 use Rattle.store_step.specs.master.master_state.declared.step.Refusal.TheVariants as refusal
 use Rattle.store_step.specs.master.master_state.declared.step.Step.{Step}

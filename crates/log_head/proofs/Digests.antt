@@ -14,7 +14,7 @@ use Rattle.entry.specs.declared.digest.Digest.TheVariants as digest
 use Rattle.entry.specs.Bag.{IsAmong}
 use Rattle.entry.specs.Text.{Opening}
 use Rattle.entry.proofs.LengthLemmas.{rises_behind}
-use Rattle.log_model.specs.Ids.{has, inserted, all_inserted, without}
+use Rattle.log_laws.specs.Ids.{has, inserted, all_inserted, without}
 use Rattle.log_head.specs.Head.{digest_of}
 use Rattle.log_head.specs.Laws.{OrdinaryKeeps}
 

@@ -15,11 +15,11 @@ use Rattle.entry.specs.Text.{IsSegment}
 use Rattle.entry.proofs.TextLemmas.{entries_in-text}
 use Rattle.entry.proofs.ListLemmas.{all_split}
 use Rattle.segment.proofs.RowLemmas.{text_of-append}
-use Rattle.log_model.specs.Data.{Start, LogUnit, Head, listed_with, own_listed, digest_with, digest_for}
-use Rattle.log_model.specs.Data.{start_entries, entries_of, head_entries}
-use Rattle.log_model.specs.Steps.{units_between}
-use Rattle.log_model.proofs.Lengths.{ids_listed}
-use Rattle.log_model.proofs.Segments.{data_split, data_alone, start_order}
+use Rattle.log_laws.specs.Heads.{Start, LogUnit, Head, listed_with, own_listed, digest_with, digest_for}
+use Rattle.log_laws.specs.Heads.{start_entries, entries_of, head_entries}
+use Rattle.log_laws.specs.HeadSteps.{units_between}
+use Rattle.log_laws.proofs.ListedIds.{ids_listed}
+use Rattle.log_laws.proofs.Segments.{data_split, data_alone, start_order}
 use Rattle.log_head.specs.declared.head.UnitEnd.{UnitEnd}
 use Rattle.log_head.specs.Head.{HeadValue, end_of}
 use Rattle.log_head.specs.Steps.{fresh_head, with_unit_end, counts_without, lost}

@@ -15,8 +15,8 @@ use Rattle.entry.specs.declared.entry.Entry.{Entry}
 use Rattle.entry.specs.Text.{text_of}
 use Rattle.segment.proofs.RowLemmas.{text_of-append}
 use Rattle.log_head.specs.declared.head.UnitEnd.{UnitEnd}
-use Rattle.log_model.specs.Data.{fewest}
-use Rattle.log_model.proofs.Counts.{fewest_below}
+use Rattle.log_laws.specs.Heads.{fewest}
+use Rattle.log_laws.proofs.Counts.{fewest_below}
 use Rattle.log_head.specs.Head.{HeadValue, end_of, EndAt, IsLagging, everywhere, is_up_to, lacks_to, record_at}
 
 pub EndAt_le : (us : List UnitEnd) (from len : ℕ) → EndAt from us len → from ≤ len

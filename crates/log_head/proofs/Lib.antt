@@ -9,4 +9,4 @@ pub mod SettledLog
 pub mod Losses
 pub mod NextOps
 pub mod Listing
-pub use Rattle.log_model.proofs as log_model
+pub use Rattle.log_laws.proofs as log_laws

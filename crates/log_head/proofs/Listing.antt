@@ -19,9 +19,9 @@ use Rattle.entry.specs.Text.{text_of, is_whole, lists_lengths, len_in, listed_le
 use Rattle.entry.proofs.LengthLemmas.{length-ids_in, len_in-place}
 use Rattle.entry.proofs.ListLemmas.{all_push}
 use Rattle.entry.proofs.SpellingLemmas.{length-header}
-use Rattle.log_model.specs.Data.{listed_with, own_listed, digest_with, len_next, lens_next}
-use Rattle.log_model.specs.Ids.{has, all_inserted, without}
-use Rattle.log_model.proofs.Lengths.{ids_push}
+use Rattle.log_laws.specs.Heads.{listed_with, own_listed, digest_with, len_next, lens_next}
+use Rattle.log_laws.specs.Ids.{has, all_inserted, without}
+use Rattle.log_laws.proofs.ListedIds.{ids_push}
 use Rattle.log_head.specs.Head.{digest_in}
 use Rattle.log_head.specs.Steps.{len_after, IsLen, AreListedBy}
 use Rattle.log_head.proofs.Digests.{IsPushed, pushed_victim, pushed_other}

@@ -8,7 +8,7 @@ use Rattle.std.proofs.lemmas.Bool.Decides.{nat_tests}
 use Rattle.entry.specs.Bag.{IsAmong}
 use Rattle.entry.specs.Limits.{ids_in}
 use Rattle.entry.proofs.LengthLemmas.{length-ids_in, rises_behind}
-use Rattle.log_model.specs.Ids.{has, inserted, all_inserted, without}
+use Rattle.log_laws.specs.Ids.{has, inserted, all_inserted, without}
 use Rattle.log_head.specs.Head.{digest_of}
 use Rattle.log_head.specs.Laws.{DigestRises, DigestIsFew}
 use Rattle.log_head.proofs.Digests.{above_first, all_out, length_with}

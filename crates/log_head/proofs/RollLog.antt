@@ -6,10 +6,10 @@ use Rattle.entry.specs.declared.digest.Listed.{Listed}
 use Rattle.entry.specs.declared.entry.Entry.{Entry}
 use Rattle.entry.specs.Limits.{ids_in}
 use Rattle.entry.specs.Text.{Opening, text_of, opening_of, lists_lengths, IsSegment}
-use Rattle.log_model.specs.Data.{Start, Head, ids_of, start_entries}
-use Rattle.log_model.specs.Ids.{all_inserted, without}
-use Rattle.log_model.specs.Steps.{new_head}
-use Rattle.log_model.proofs.Lengths.{ids_listed}
+use Rattle.log_laws.specs.Heads.{Start, Head, ids_of, start_entries}
+use Rattle.log_laws.specs.Ids.{all_inserted, without}
+use Rattle.log_laws.specs.HeadSteps.{new_head}
+use Rattle.log_laws.proofs.ListedIds.{ids_listed}
 use Rattle.log_head.specs.declared.head.Roll.{Roll}
 use Rattle.log_head.specs.Head.{HeadValue, digest_in, digest_of}
 use Rattle.log_head.specs.Log.{start_in, start_of, HasLens, head_of, IsImageOf, IsNewImage}

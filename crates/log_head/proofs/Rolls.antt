@@ -4,7 +4,7 @@ use Rattle.std.specs.Prelude.{Some, IfSome, ◌==◌, replicate}
 use Rattle.std.specs.List.{AllByRecursion}
 use Rattle.std.proofs.lemmas.Bool.Decides.{nat_tests}
 use Rattle.entry.specs.Text.{ends_with}
-use Rattle.log_model.specs.Steps.{no_units}
+use Rattle.log_laws.specs.HeadSteps.{no_units}
 use Rattle.log_head.specs.declared.head.Roll.{Roll}
 use Rattle.log_head.specs.Head.{HeadValue, IsHeadValue, IsRollValue}
 use Rattle.log_head.specs.Steps.{in_force, with_closed_replica, old_image}

@@ -4,8 +4,8 @@ use Rattle.std.specs.Prelude.{IfSome}
 use Rattle.std.proofs.lemmas.List.{append-nil}
 use Rattle.entry.specs.declared.entry.Entry.{Entry}
 use Rattle.entry.specs.Text.{text_of, IsSegment}
-use Rattle.log_model.specs.Data.{Head, start_entries, front_entries, head_entries}
-use Rattle.log_model.specs.Steps.{no_units}
+use Rattle.log_laws.specs.Heads.{Head, start_entries, front_entries, head_entries}
+use Rattle.log_laws.specs.HeadSteps.{no_units}
 use Rattle.log_head.specs.Head.{HeadValue, IsHeadValue, IsRollValue}
 use Rattle.log_head.specs.Steps.{settled}
 use Rattle.log_head.specs.Log.{head_of, settled_head, IsImageOf}

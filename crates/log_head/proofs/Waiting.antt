@@ -7,7 +7,7 @@ use Rattle.entry.specs.declared.digest.Listed.{Listed}
 use Rattle.entry.specs.Bag.{IsAmong}
 use Rattle.entry.specs.Limits.{ids_in}
 use Rattle.entry.proofs.LengthLemmas.{rises_behind}
-use Rattle.log_model.specs.Ids.{all_inserted}
+use Rattle.log_laws.specs.Ids.{all_inserted}
 use Rattle.log_head.specs.Steps.{AreListedBy}
 use Rattle.log_head.proofs.Digests.{above_first, first_waits, none_waits}
 

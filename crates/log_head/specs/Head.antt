@@ -7,7 +7,7 @@ use Rattle.entry.specs.declared.entry.Entry.{Entry}
 use Rattle.entry.specs.Text.{Opening, text_of, opening_of, IsSegment, listed_ids}
 use Rattle.std.specs.List.{AllByRecursion}
 use Rattle.std.specs.Option.{option_map, option_map_or}
-use Rattle.log_model.specs.Data.{fewest}
+use Rattle.log_laws.specs.Heads.{fewest}
 use Rattle.log_head.specs.declared.head.Roll.{Roll}
 use Rattle.log_head.specs.declared.head.UnitEnd.{UnitEnd}
 

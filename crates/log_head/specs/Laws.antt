@@ -6,8 +6,8 @@ use Rattle.entry.specs.declared.digest.Listed.{Listed}
 use Rattle.entry.specs.declared.entry.Entry.{Entry}
 use Rattle.entry.specs.Limits.{ids_in}
 use Rattle.entry.specs.Text.{text_of, IsSegment}
-use Rattle.log_model.specs.Data.{Start, Head, entries_of, head_entries}
-use Rattle.log_model.specs.Steps.{units_between, new_head}
+use Rattle.log_laws.specs.Heads.{Start, Head, entries_of, head_entries}
+use Rattle.log_laws.specs.HeadSteps.{units_between, new_head}
 use Rattle.log_head.specs.declared.head.Roll.{Roll}
 use Rattle.log_head.specs.declared.rolling.Leaving.{Leaving}
 use Rattle.log_head.specs.Head.{HeadValue, digest_of, end_of}

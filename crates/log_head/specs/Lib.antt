@@ -3,4 +3,4 @@ pub mod Steps
 pub mod Next
 pub mod Log
 pub mod Laws
-pub use Rattle.log_model.specs as log_model
+pub use Rattle.log_laws.specs as log_laws

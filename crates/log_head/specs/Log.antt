@@ -6,8 +6,8 @@ use Rattle.entry.specs.declared.digest.Digest.{Digest}
 use Rattle.entry.specs.declared.digest.Digest.TheVariants as digest
 use Rattle.entry.specs.declared.entry.Entry.{Entry}
 use Rattle.entry.specs.Text.{text_of, entries_in, data_in, Opening, opening_of, listed_ids}
-use Rattle.log_model.specs.Data.{Start, LogUnit, Head, start_entries, front_entries, head_entries}
-use Rattle.log_model.specs.Steps.{no_units}
+use Rattle.log_laws.specs.Heads.{Start, LogUnit, Head, start_entries, front_entries, head_entries}
+use Rattle.log_laws.specs.HeadSteps.{no_units}
 use Rattle.log_head.specs.declared.head.Roll.{Roll}
 use Rattle.log_head.specs.declared.head.UnitEnd.{UnitEnd}
 use Rattle.log_head.specs.Head.{HeadValue}

@@ -9,9 +9,9 @@ use Rattle.entry.specs.Text.{text_of, len_in}
 use Rattle.log_head.specs.declared.head.Roll.{Roll}
 use Rattle.log_head.specs.declared.rolling.Leaving.{Leaving}
 use Rattle.log_head.specs.Head.{HeadValue, digest_in, digest_of}
-use Rattle.log_model.specs.Data.{Start, len_next, lens_next, start_entries}
-use Rattle.log_model.specs.Ids.{all_inserted, without}
-use Rattle.log_model.specs.Steps.{no_lens, no_units}
+use Rattle.log_laws.specs.Heads.{Start, len_next, lens_next, start_entries}
+use Rattle.log_laws.specs.Ids.{all_inserted, without}
+use Rattle.log_laws.specs.HeadSteps.{no_lens, no_units}
 
 -- the start of a head with this id, in this format, that is the log's only segment: its digest lists it alone
 abbrev pub lone_start : ℕ → ℕ → ℕ → Start

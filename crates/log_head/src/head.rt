@@ -87,7 +87,7 @@ impl Head {
     ghost use Rattle.log_head.specs.Steps.{lone_start, fresh_head, with_unit_end, with_opened_replica, with_all_taken};
     ghost use Rattle.log_head.specs.Steps.{with_whole_replica, lost, settled};
     ghost use Rattle.log_head.specs.Next.{bytes_between};
-    ghost use Rattle.log_model.specs.Data.{Start};
+    ghost use Rattle.log_laws.specs.Heads.{Start};
 
     /// Makes a head with this id of a log without other segments, in this format. The image holds the opening alone,
     /// and has memory for `room` bytes in all. No replica is open yet.
@@ -345,8 +345,8 @@ impl Head {
 
 ghost use Rattle.log_head.specs.Head.{IsLagging};
 ghost use Rattle.log_head.specs.Steps.{lone_start};
-ghost use Rattle.log_model.specs.Data.{digest_with, start_entries};
-ghost use Rattle.log_model.specs.Steps.{no_lens};
+ghost use Rattle.log_laws.specs.Heads.{digest_with, start_entries};
+ghost use Rattle.log_laws.specs.HeadSteps.{no_lens};
 
 /// Makes the image of a head whose digest lists the head alone: its opening.
 fn first_image(

@@ -3,7 +3,7 @@
 //! A head appends a unit whole or not at all. It tells which replica lags most and which bytes that replica lacks, and
 //! it counts the units that replicas took. It calls no backup: the layer above hands the bytes to backups.
 //! `specs/Head.antt` says what a head is, and `specs/Steps.antt` how each call changes it. The image is a
-//! `segment::Segment`. `specs/Log.antt` says which head of a log, in the words of `log_model`, an image holds.
+//! `segment::Segment`. `specs/Log.antt` says which head of a log, in the words of `log_laws`, an image holds.
 #![tactic(auto)]
 
 mod head;

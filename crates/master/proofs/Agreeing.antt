@@ -9,14 +9,14 @@ use Rattle.entry.specs.Bag.{IsAmong}
 use Rattle.entry.specs.Meaning.{Versioned, object_at}
 use Rattle.entry.specs.Text.{is_data}
 use Rattle.replica.specs.Picture.{FleetState}
-use Rattle.master_core.specs.clean_model.Memory.{Place, StandsAt}
-use Rattle.master_core.specs.failover_model.Data.{FailData}
-use Rattle.master_core.specs.failover_clean.Covered.{map_of}
-use Rattle.master_core.specs.failover_clean.Fleet.{read_of, HoldsAll}
-use Rattle.master_core.specs.failover_clean.Intact.{IsIntact}
-use Rattle.master_core.specs.failover_clean.Memory.{Spot, FailMemory}
-use Rattle.master_core.specs.failover_clean.Same.{IsFoundInBoth}
-use Rattle.master_core.proofs.failover_clean.FleetSteps.{same_holds_all}
+use Rattle.master_core.specs.log_laws.Memory.{Place, StandsAt}
+use Rattle.master_core.specs.log_laws.Data.{FailData}
+use Rattle.master_core.specs.log_memory.Covered.{map_of}
+use Rattle.master_core.specs.log_memory.Fleet.{read_of, HoldsAll}
+use Rattle.master_core.specs.log_memory.Intact.{IsIntact}
+use Rattle.master_core.specs.log_memory.Memory.{Spot, FailMemory}
+use Rattle.master_core.specs.log_memory.Same.{IsFoundInBoth}
+use Rattle.master_core.proofs.log_memory.FleetSteps.{same_holds_all}
 
 pub record Agree (d : FailData) (m n : FailMemory) : Type 0 where
   pub pass : n.pass ≡ m.pass

@@ -16,15 +16,15 @@ use Rattle.versioned_map.specs.declared.command.Command.{Command}
 use Rattle.versioned_map.specs.declared.command.Record.{Record}
 use Rattle.versioned_map.specs.Command.{command_key}
 use Rattle.log_head.specs.Head.{HeadValue}
-use Rattle.master_core.specs.clean_model.Memory.{Place as EntryPlace, Index, Images, grown}
-use Rattle.master_core.specs.clean_model.Steps.{next_place, index_after, images_with, index_with}
-use Rattle.master_core.specs.failover_model.Data.{Head as FailHead, front, FailData}
-use Rattle.master_core.specs.failover_model.Steps.{unit_now as log_unit, applied}
-use Rattle.master_core.specs.failover_bytes.Text.{IsWholeText}
-use Rattle.master_core.specs.failover_clean.Fleet.{HoldsAll}
-use Rattle.master_core.specs.failover_clean.Memory.{FailMemory}
-use Rattle.master_core.specs.failover_clean.Steps.{recorded, IsNamed}
-use Rattle.master_core.proofs.failover_clean.FleetSteps.{apply_holds_all}
+use Rattle.master_core.specs.log_laws.Memory.{Place as EntryPlace, Index, Images, grown}
+use Rattle.master_core.specs.log_laws.ImageSteps.{next_place, index_after, images_with, index_with}
+use Rattle.master_core.specs.log_laws.Data.{Head as FailHead, front, FailData}
+use Rattle.master_core.specs.log_laws.Steps.{unit_now as log_unit, applied}
+use Rattle.master_core.specs.log_bytes.Text.{IsWholeText}
+use Rattle.master_core.specs.log_memory.Fleet.{HoldsAll}
+use Rattle.master_core.specs.log_memory.Memory.{FailMemory}
+use Rattle.master_core.specs.log_memory.Steps.{recorded, IsNamed}
+use Rattle.master_core.proofs.log_memory.FleetSteps.{apply_holds_all}
 use Rattle.places.specs.declared.place.Place.{Place}
 use Rattle.master_core.specs.master_state.declared.step.StepAnswer.{StepAnswer}
 use Rattle.master_core.specs.master_state.Budget.{victims_of, survivors_of, is_committing}

@@ -25,18 +25,18 @@ use Rattle.images.specs.Sorted.{segment_of}
 use Rattle.log_head.specs.declared.head.Roll.{Roll}
 use Rattle.log_head.specs.Log.{head_of}
 use Rattle.replica.specs.Picture.{FleetState}
-use Rattle.log_head.specs.log_model.Ids.{has, all_inserted}
-use Rattle.master_core.specs.clean_model.Compaction.{places}
-use Rattle.master_core.specs.clean_model.Intact.{survivor_entries}
-use Rattle.master_core.specs.clean_model.Memory.{Place as EntryPlace, Index, Pass, StandsAt, IsAt}
-use Rattle.master_core.specs.clean_model.Steps.{survivors_begun}
-use Rattle.master_core.proofs.clean_model.KeptEntries.{has_is, is_has}
-use Rattle.master_core.specs.failover_model.Data.{FailData}
-use Rattle.master_core.specs.failover_clean.Fleet.{HoldsAll}
-use Rattle.master_core.specs.failover_clean.Memory.{Spot, FailMemory}
-use Rattle.master_core.specs.failover_clean.Steps.{ids_taken, pass_begun, MayBeginClean}
-use Rattle.master_core.proofs.failover_clean.BegunSurvivors.{begun_survivors}
-use Rattle.master_core.proofs.failover_clean.FleetSteps.{begin_holds_all}
+use Rattle.log_head.specs.log_laws.Ids.{has, all_inserted}
+use Rattle.master_core.specs.log_laws.Compaction.{places}
+use Rattle.master_core.specs.log_laws.Intact.{survivor_entries}
+use Rattle.master_core.specs.log_laws.Memory.{Place as EntryPlace, Index, Pass, StandsAt, IsAt}
+use Rattle.master_core.specs.log_laws.ImageSteps.{survivors_begun}
+use Rattle.master_core.proofs.log_laws.KeptEntries.{has_is, is_has}
+use Rattle.master_core.specs.log_laws.Data.{FailData}
+use Rattle.master_core.specs.log_memory.Fleet.{HoldsAll}
+use Rattle.master_core.specs.log_memory.Memory.{Spot, FailMemory}
+use Rattle.master_core.specs.log_memory.Steps.{ids_taken, pass_begun, MayBeginClean}
+use Rattle.master_core.proofs.log_memory.BegunSurvivors.{begun_survivors}
+use Rattle.master_core.proofs.log_memory.FleetSteps.{begin_holds_all}
 use Rattle.master_core.specs.master_state.declared.step.Refusal.{Refusal}
 use Rattle.master_core.specs.master_state.declared.step.Refusal.TheVariants.{Pass as PassRefused}
 use Rattle.master_core.specs.master_state.declared.step.StepAnswer.{StepAnswer}

@@ -9,14 +9,14 @@ use Rattle.entry.specs.declared.entry.Entry.{Entry}
 use Rattle.entry.specs.Bag.{IsAmong}
 use Rattle.replica.specs.Picture.{FleetState}
 use Rattle.images.specs.Steps.{replaced_by}
-use Rattle.master_core.specs.clean_model.Compaction.{moved_place, kept_before}
-use Rattle.master_core.specs.clean_model.Memory.{Place as EntryPlace}
-use Rattle.master_core.proofs.clean_model.KeptEntries.{has_is}
-use Rattle.master_core.specs.failover_model.Data.{FailData}
-use Rattle.master_core.specs.failover_clean.Fleet.{HoldsAll}
-use Rattle.master_core.specs.failover_clean.Memory.{FailMemory, log_ids}
-use Rattle.master_core.specs.failover_clean.Steps.{compacted, MayCompact}
-use Rattle.master_core.proofs.failover_clean.FleetSteps.{compact_holds_all}
+use Rattle.master_core.specs.log_laws.Compaction.{moved_place, kept_before}
+use Rattle.master_core.specs.log_laws.Memory.{Place as EntryPlace}
+use Rattle.master_core.proofs.log_laws.KeptEntries.{has_is}
+use Rattle.master_core.specs.log_laws.Data.{FailData}
+use Rattle.master_core.specs.log_memory.Fleet.{HoldsAll}
+use Rattle.master_core.specs.log_memory.Memory.{FailMemory, log_ids}
+use Rattle.master_core.specs.log_memory.Steps.{compacted, MayCompact}
+use Rattle.master_core.proofs.log_memory.FleetSteps.{compact_holds_all}
 use Rattle.places.specs.declared.place.Place.{Place}
 use Rattle.master_core.specs.compactor.Kept.{kept_of}
 use Rattle.master_core.specs.compactor.Laws.{compacted_images, CompactionFollows}

@@ -29,13 +29,13 @@ use Rattle.images.specs.Sorted.{changed}
 use Rattle.images.specs.Steps.{with_unit}
 use Rattle.replica.specs.Picture.{FleetState}
 use Rattle.versioned_map.proofs.Keys.{key_eq-tells}
-use Rattle.master_core.specs.clean_model.Compaction.{kept as entry_kept}
-use Rattle.master_core.specs.clean_model.Memory.{Place as EntryPlace, Pass as PassIds, grown}
-use Rattle.master_core.specs.clean_model.Steps.{next_place, is_copied}
-use Rattle.master_core.specs.failover_clean.Fleet.{HoldsAll}
-use Rattle.master_core.specs.failover_clean.Memory.{log_ids}
-use Rattle.master_core.specs.failover_clean.Steps.{index_moved, with_copy, MayCopy}
-use Rattle.master_core.proofs.failover_clean.FleetSteps.{copy_holds_all}
+use Rattle.master_core.specs.log_laws.Compaction.{kept as entry_kept}
+use Rattle.master_core.specs.log_laws.Memory.{Place as EntryPlace, Pass as PassIds, grown}
+use Rattle.master_core.specs.log_laws.ImageSteps.{next_place, is_copied}
+use Rattle.master_core.specs.log_memory.Fleet.{HoldsAll}
+use Rattle.master_core.specs.log_memory.Memory.{log_ids}
+use Rattle.master_core.specs.log_memory.Steps.{index_moved, with_copy, MayCopy}
+use Rattle.master_core.proofs.log_memory.FleetSteps.{copy_holds_all}
 use Rattle.master_core.specs.master_state.declared.step.StepAnswer.{StepAnswer}
 use Rattle.master_core.specs.master_state.Budget.{victims_of, survivors_of}
 use Rattle.master_core.specs.master_state.Causes.{step_refusal}

@@ -12,12 +12,12 @@ use Rattle.replica.specs.Picture.{FleetState}
 use Rattle.log_head.specs.Head.{is_open, everywhere}
 use Rattle.log_head.specs.Log.{head_of}
 use Rattle.log_head.proofs.HeadLog.{count_is}
-use Rattle.log_head.specs.log_model.Data.{Start, LogUnit, fewest, records_before}
-use Rattle.log_head.specs.log_model.Ids.{has, without}
-use Rattle.master_core.specs.failover_model.Data.{Head, HasTaken, homes, new_of, is_settled, durable_of, taken_records}
-use Rattle.master_core.specs.failover_model.Log.{Texts, IsLogHeld}
-use Rattle.master_core.specs.failover_model.Shown.{Shown}
-use Rattle.master_core.specs.failover_clean.Fleet.{read_of, KeepsAll, HoldsLoading}
+use Rattle.log_head.specs.log_laws.Heads.{Start, LogUnit, fewest, records_before}
+use Rattle.log_head.specs.log_laws.Ids.{has, without}
+use Rattle.master_core.specs.log_laws.Data.{Head, HasTaken, homes, new_of, is_settled, durable_of, taken_records}
+use Rattle.master_core.specs.log_laws.Log.{Texts, IsLogHeld}
+use Rattle.master_core.specs.log_laws.Shown.{Shown}
+use Rattle.master_core.specs.log_memory.Fleet.{read_of, KeepsAll, HoldsLoading}
 use Rattle.master_core.specs.master_state.declared.config.Config.{Config}
 use Rattle.master_core.specs.master_state.declared.failover.Failover.{Failover}
 use Rattle.master_core.specs.master_state.Causes.{is_pushed, is_done}

@@ -17,12 +17,12 @@ use Rattle.places.specs.Map.{found}
 use Rattle.master_core.specs.compactor.Places.{keys_in}
 use Rattle.log_head.specs.declared.head.Roll.{Roll}
 use Rattle.log_head.specs.Steps.{in_force}
-use Rattle.log_head.specs.log_model.Ids.{has, without}
-use Rattle.master_core.specs.clean_model.Memory.{Place as EntryPlace}
-use Rattle.master_core.proofs.clean_model.KeptEntries.{is_has}
-use Rattle.master_core.specs.failover_model.Data.{FailData, homes}
-use Rattle.master_core.specs.failover_clean.Memory.{Spot}
-use Rattle.master_core.specs.failover_clean.Steps.{spots_of, finished}
+use Rattle.log_head.specs.log_laws.Ids.{has, without}
+use Rattle.master_core.specs.log_laws.Memory.{Place as EntryPlace}
+use Rattle.master_core.proofs.log_laws.KeptEntries.{is_has}
+use Rattle.master_core.specs.log_laws.Data.{FailData, homes}
+use Rattle.master_core.specs.log_memory.Memory.{Spot}
+use Rattle.master_core.specs.log_memory.Steps.{spots_of, finished}
 use Rattle.master_core.specs.master_state.declared.config.Config.{Config}
 use Rattle.master_core.specs.master_state.declared.ledger.Posting.{Posting}
 use Rattle.master_core.specs.master_state.declared.waiting.Waiting.{Waiting}

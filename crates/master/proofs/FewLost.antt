@@ -30,23 +30,23 @@ use Rattle.master_core.proofs.cleaner.Lacking.{none_is_lacking}
 use Rattle.log_head.specs.declared.head.Roll.{Roll}
 use Rattle.log_head.specs.Head.{IsRollValue}
 use Rattle.log_head.specs.Log.{head_of, start_of}
-use Rattle.log_head.specs.log_model.Data.{Start, LogUnit, ids_of, records_before}
-use Rattle.log_head.specs.log_model.Durable.{AreNumbered, with_first}
-use Rattle.log_head.specs.log_model.Ids.{has, without}
-use Rattle.log_head.proofs.log_model.Lengths.{ids_listed}
-use Rattle.master_core.specs.failover_model.Text.{Text, Replica as ModelReplica}
-use Rattle.master_core.specs.failover_model.Data.{Head, IsHome, IsNew, opening_for, front_entries, new_of}
-use Rattle.master_core.specs.failover_model.Data.{state_after}
-use Rattle.master_core.specs.failover_model.Durable.{TakenHead, heads_of, units_in}
-use Rattle.master_core.specs.failover_model.Log.{Texts, IsBase, IsReplica, IsLogHeld}
-use Rattle.master_core.specs.failover_bytes.Choice.{IsOpenedHead, IsNewestOpenedOrNone, is_opened as is_counted, greater}
-use Rattle.master_core.specs.failover_bytes.Choice.{greatest_opened, newest_opened}
-use Rattle.master_core.specs.failover_bytes.Spelled.{read_replica}
-use Rattle.master_core.proofs.failover_bytes.NewestHomes.{taker}
-use Rattle.master_core.specs.failover_clean.Fleet.{read_of, shown_for}
-use Rattle.master_core.proofs.clean_model.CommitDigest.{all_out, without_from}
-use Rattle.master_core.proofs.failover_clean.Appending.{unit_none}
-use Rattle.master_core.proofs.failover_clean.KeptFleets.{kept_is_sound}
+use Rattle.log_head.specs.log_laws.Heads.{Start, LogUnit, ids_of, records_before}
+use Rattle.log_head.specs.log_laws.Numbered.{AreNumbered, with_first}
+use Rattle.log_head.specs.log_laws.Ids.{has, without}
+use Rattle.log_head.proofs.log_laws.ListedIds.{ids_listed}
+use Rattle.master_core.specs.log_laws.Text.{Text, Replica as ModelReplica}
+use Rattle.master_core.specs.log_laws.Data.{Head, IsHome, IsNew, opening_for, front_entries, new_of}
+use Rattle.master_core.specs.log_laws.Data.{state_after}
+use Rattle.master_core.specs.log_laws.Durable.{TakenHead, heads_of, units_in}
+use Rattle.master_core.specs.log_laws.Log.{Texts, IsBase, IsReplica, IsLogHeld}
+use Rattle.master_core.specs.log_bytes.Choice.{IsOpenedHead, IsNewestOpenedOrNone, is_opened as is_counted, greater}
+use Rattle.master_core.specs.log_bytes.Choice.{greatest_opened, newest_opened}
+use Rattle.master_core.specs.log_bytes.Spelled.{read_replica}
+use Rattle.master_core.proofs.log_bytes.NewestHomes.{taker}
+use Rattle.master_core.specs.log_memory.Fleet.{read_of, shown_for}
+use Rattle.master_core.proofs.log_laws.CommitDigest.{all_out, without_from}
+use Rattle.master_core.proofs.log_memory.Appending.{unit_none}
+use Rattle.master_core.proofs.log_memory.KeptFleets.{kept_is_sound}
 use Rattle.master_core.specs.master_state.Budget.{victims_of, survivors_of, is_committing}
 use Rattle.master_core.specs.master_state.Data.{MasterData}
 use Rattle.master_core.specs.master_state.Invariant.{AreApart, IsCore, IsRollOf, listed_now, listed_with}

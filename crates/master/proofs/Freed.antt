@@ -13,16 +13,16 @@ use Rattle.replica.specs.Picture.{FleetState}
 use Rattle.replica.specs.Take.{Takes, Refuses}
 use Rattle.replica.specs.declared.op.TakeFault.{TakeFault}
 use Rattle.replica.specs.declared.op.TakeFault.TheVariants as take_fault
-use Rattle.log_head.specs.log_model.Ids.{has}
-use Rattle.log_head.specs.log_model.Ops.{op_of}
-use Rattle.master_core.proofs.clean_model.KeptEntries.{has_is}
-use Rattle.master_core.specs.failover_model.Shown.{Free as FreeAct}
-use Rattle.master_core.specs.failover_bytes.Ops.{log_op_for}
-use Rattle.master_core.specs.failover_clean.Fleet.{HoldsAll}
-use Rattle.master_core.specs.failover_clean.Memory.{Spot, FailMemory}
-use Rattle.master_core.specs.failover_clean.Ops.{IsOp}
-use Rattle.master_core.specs.failover_clean.Steps.{MayFree, free_op, freed, is_spot}
-use Rattle.master_core.proofs.failover_clean.FleetAnswers.{ok_holds_all}
+use Rattle.log_head.specs.log_laws.Ids.{has}
+use Rattle.log_head.specs.log_laws.Ops.{op_of}
+use Rattle.master_core.proofs.log_laws.KeptEntries.{has_is}
+use Rattle.master_core.specs.log_laws.Shown.{Free as FreeAct}
+use Rattle.master_core.specs.log_bytes.Ops.{log_op_for}
+use Rattle.master_core.specs.log_memory.Fleet.{HoldsAll}
+use Rattle.master_core.specs.log_memory.Memory.{Spot, FailMemory}
+use Rattle.master_core.specs.log_memory.Ops.{IsOp}
+use Rattle.master_core.specs.log_memory.Steps.{MayFree, free_op, freed, is_spot}
+use Rattle.master_core.proofs.log_memory.FleetAnswers.{ok_holds_all}
 use Rattle.master_core.specs.master_state.declared.config.Config.{Config}
 use Rattle.master_core.specs.master_state.declared.step.Step.TheVariants.{Free}
 use Rattle.master_core.specs.master_state.declared.step.StepAnswer.TheVariants.{Freed as StepFreed}

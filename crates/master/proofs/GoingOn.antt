@@ -9,7 +9,7 @@ use Rattle.log_head.specs.declared.head.Roll.{Roll}
 use Rattle.log_head.specs.declared.next.Next.{Next}
 use Rattle.log_head.specs.declared.next.Next.TheVariants as next
 use Rattle.log_head.specs.Steps.{with_new_replica, with_closed_replica, old_image}
-use Rattle.master_core.specs.failover_model.Shown.{Op}
+use Rattle.master_core.specs.log_laws.Shown.{Op}
 use Rattle.versioned_map.specs.declared.command.Command.{Command}
 use Rattle.images.specs.Sorted.{changed}
 use Rattle.images.specs.Steps.{more_replicas}
@@ -32,8 +32,8 @@ use Rattle.master_core.specs.master_state.Steps.{sealed_data, taken_data, Applie
 use Rattle.master_core.specs.master_state.Waits.{next_seal}
 use Rattle.master_core.proofs.master_state.Refusals.{may_begin, unit_working, working_parts}
 use Rattle.master_core.proofs.master_state.Calm.{calm_parts, passes_first}
-use Rattle.master_core.specs.master_mending.Left.{left_in, left_now}
-use Rattle.master_core.proofs.master_mending.LeftSteps.{mend_lowers, turn_lowers}
+use Rattle.master_core.specs.master_failover.Left.{left_in, left_now}
+use Rattle.master_core.proofs.master_failover.LeftSteps.{mend_lowers, turn_lowers}
 use Rattle.master.specs.Invariant.{IsWellKept}
 use Rattle.master.specs.Left.{GoesOn}
 use Rattle.master.specs.Mends.{MendsOn}

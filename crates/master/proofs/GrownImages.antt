@@ -5,7 +5,7 @@ use Rattle.std.specs.Option.{option_map}
 use Rattle.entry.specs.declared.key.Key.{Key}
 use Rattle.entry.specs.declared.entry.Entry.{Entry}
 use Rattle.entry.specs.Meaning.{Versioned, object_at}
-use Rattle.master_core.specs.clean_model.Memory.{Place as EntryPlace}
+use Rattle.master_core.specs.log_laws.Memory.{Place as EntryPlace}
 use Rattle.places.specs.declared.place.Place.{Place}
 use Rattle.places.specs.Relocation.{names}
 use Rattle.places.proofs.Words.{named_found, found_named}

@@ -9,17 +9,17 @@ use Rattle.replica.specs.Registry.{Raises, RefusesRaise}
 use Rattle.replica.specs.Take.{Refuses, taken, with_effect, effect}
 use Rattle.replica.specs.declared.op.TakeFault.{TakeFault}
 use Rattle.replica.specs.declared.op.TakeFault.TheVariants as take_fault
-use Rattle.log_head.specs.log_model.Ids.{has}
-use Rattle.log_head.specs.log_model.Ops.{op_of}
-use Rattle.master_core.specs.failover_model.Data.{FailData}
-use Rattle.master_core.specs.failover_model.Shown.{Act, Op, On, Raise}
-use Rattle.master_core.specs.failover_bytes.Ops.{log_op_for, RefusesOp}
-use Rattle.master_core.specs.failover_clean.Fleet.{HoldsAll, KeepsAll}
-use Rattle.master_core.specs.failover_clean.Loading.{IsLoadingOp}
-use Rattle.master_core.specs.failover_clean.Memory.{FailMemory}
-use Rattle.master_core.specs.failover_clean.Ops.{IsOp}
-use Rattle.master_core.proofs.failover_clean.FleetAnswers.{fault_keeps_all, op_is_never_wrong}
-use Rattle.master_core.proofs.failover_clean.LoadingFleets.{loading_is_never_wrong, repair_is_never_wrong}
+use Rattle.log_head.specs.log_laws.Ids.{has}
+use Rattle.log_head.specs.log_laws.Ops.{op_of}
+use Rattle.master_core.specs.log_laws.Data.{FailData}
+use Rattle.master_core.specs.log_laws.Shown.{Act, Op, On, Raise}
+use Rattle.master_core.specs.log_bytes.Ops.{log_op_for, RefusesOp}
+use Rattle.master_core.specs.log_memory.Fleet.{HoldsAll, KeepsAll}
+use Rattle.master_core.specs.log_memory.Loading.{IsLoadingOp}
+use Rattle.master_core.specs.log_memory.Memory.{FailMemory}
+use Rattle.master_core.specs.log_memory.Ops.{IsOp}
+use Rattle.master_core.proofs.log_memory.FleetAnswers.{fault_keeps_all, op_is_never_wrong}
+use Rattle.master_core.proofs.log_memory.LoadingFleets.{loading_is_never_wrong, repair_is_never_wrong}
 use Rattle.master_core.specs.master_state.declared.config.Config.{Config}
 use Rattle.master_core.specs.master_state.declared.failover.Failover.{Failover}
 use Rattle.master_core.specs.master_state.declared.step.Refusal.{Refusal}

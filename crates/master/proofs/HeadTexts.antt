@@ -12,10 +12,10 @@ use Rattle.entry.specs.Limits.{IsListed}
 use Rattle.entry.specs.Text.{text_of, IsSegment}
 use Rattle.segment.proofs.UnitLemmas.{head_few}
 use Rattle.log_head.specs.Log.{head_of}
-use Rattle.log_head.specs.log_model.Data.{Start, digest_for, start_entries, head_entries}
-use Rattle.master_core.specs.failover_model.Data.{Head, front, bare}
-use Rattle.master_core.specs.failover_model.Steps.{no_head}
-use Rattle.master_core.specs.failover_bytes.Text.{IsWholeText}
+use Rattle.log_head.specs.log_laws.Heads.{Start, digest_for, start_entries, head_entries}
+use Rattle.master_core.specs.log_laws.Data.{Head, front, bare}
+use Rattle.master_core.specs.log_laws.Steps.{no_head}
+use Rattle.master_core.specs.log_bytes.Text.{IsWholeText}
 use Rattle.master_core.specs.master_state.Data.{MasterData}
 use Rattle.master_core.specs.master_state.Invariant.{IsCore}
 use Rattle.master_core.specs.master_state.Log.{log_of}

@@ -9,10 +9,10 @@ use Rattle.entry.specs.Text.{Opening, opening_of}
 use Rattle.log_head.specs.declared.head.Roll.{Roll}
 use Rattle.log_head.specs.Head.{HeadValue, IsRollValue}
 use Rattle.log_head.specs.Log.{head_of, start_in, start_of}
-use Rattle.log_head.specs.log_model.Data.{ids_of}
-use Rattle.master_core.specs.failover_model.Data.{Head, Mode, Calm, Rolls, new_of, is_failing, is_settled}
-use Rattle.master_core.specs.failover_model.Steps.{no_head, ids_now}
-use Rattle.master_core.proofs.failover_clean.Ids.{now_is}
+use Rattle.log_head.specs.log_laws.Heads.{ids_of}
+use Rattle.master_core.specs.log_laws.Data.{Head, Mode, Calm, Rolls, new_of, is_failing, is_settled}
+use Rattle.master_core.specs.log_laws.Steps.{no_head, ids_now}
+use Rattle.master_core.proofs.log_memory.Ids.{now_is}
 use Rattle.master_core.specs.master_state.declared.failover.Failover.{Failover}
 use Rattle.master_core.specs.master_state.declared.failover.Part.{Part}
 use Rattle.master_core.specs.master_state.declared.failover.Part.TheVariants as part

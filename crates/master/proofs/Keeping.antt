@@ -18,21 +18,21 @@ use Rattle.replica.specs.Registry.{Raises, RefusesRaise}
 use Rattle.replica.specs.Take.{Refuses, taken, with_effect, effect, unanswered}
 use Rattle.replica.specs.declared.op.TakeFault.TheVariants as take_fault
 use Rattle.versioned_map.specs.declared.command.Command.{Command}
-use Rattle.log_head.specs.log_model.Data.{Start, ids_of}
-use Rattle.log_head.specs.log_model.Ops.{op_of}
-use Rattle.log_head.proofs.log_model.Pictures.{place_tells}
-use Rattle.master_core.specs.failover_model.Data.{Calm, Mode, FailData, new_of, is_failing, taken_records, durable_of}
-use Rattle.master_core.specs.failover_model.Runs.{IsThere, World as ModelWorld, Applies as AppliesThere, Takes as TakesThere}
-use Rattle.master_core.specs.failover_model.Shown.{Op, On, Raise, Shown as ModelShown}
-use Rattle.master_core.specs.failover_model.Steps.{with_taken, applied as log_applied, ended, MayApply, Extends, OpensNew}
-use Rattle.master_core.specs.failover_model.Steps.{ClosesOld}
-use Rattle.master_core.specs.failover_model.Text.{Replica as ModelReplica}
-use Rattle.master_core.proofs.failover_model.DurableSteps.{durable_stays, durable_is_within}
-use Rattle.master_core.specs.failover_bytes.Ops.{log_op_for, TakesOp, RefusesOp}
-use Rattle.master_core.specs.failover_clean.Fleet.{read_of}
-use Rattle.master_core.specs.failover_clean.Intact.{IsIntact, Knows}
-use Rattle.master_core.specs.failover_clean.Memory.{FailMemory}
-use Rattle.master_core.proofs.failover_clean.OpsKeep.{op_fits}
+use Rattle.log_head.specs.log_laws.Heads.{Start, ids_of}
+use Rattle.log_head.specs.log_laws.Ops.{op_of}
+use Rattle.log_head.proofs.log_laws.PicturePlaces.{place_tells}
+use Rattle.master_core.specs.log_laws.Data.{Calm, Mode, FailData, new_of, is_failing, taken_records, durable_of}
+use Rattle.master_core.specs.log_laws.Runs.{IsThere, World as ModelWorld, Applies as AppliesThere, Takes as TakesThere}
+use Rattle.master_core.specs.log_laws.Shown.{Op, On, Raise, Shown as ModelShown}
+use Rattle.master_core.specs.log_laws.Steps.{with_taken, applied as log_applied, ended, MayApply, Extends, OpensNew}
+use Rattle.master_core.specs.log_laws.Steps.{ClosesOld}
+use Rattle.master_core.specs.log_laws.Text.{Replica as ModelReplica}
+use Rattle.master_core.proofs.log_laws.DurableSteps.{durable_stays, durable_is_within}
+use Rattle.master_core.specs.log_bytes.Ops.{log_op_for, TakesOp, RefusesOp}
+use Rattle.master_core.specs.log_memory.Fleet.{read_of}
+use Rattle.master_core.specs.log_memory.Intact.{IsIntact, Knows}
+use Rattle.master_core.specs.log_memory.Memory.{FailMemory}
+use Rattle.master_core.proofs.log_memory.OpsKeep.{op_fits}
 use Rattle.master_core.specs.master_state.declared.step.Refusal.{Refusal}
 use Rattle.master_core.specs.master_state.declared.step.Refusal.TheVariants as refusal
 use Rattle.master_core.specs.master_state.declared.step.Step.{Step}

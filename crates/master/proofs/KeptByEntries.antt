@@ -16,9 +16,9 @@ use Rattle.entry.specs.Text.{text_of, entries_in}
 use Rattle.entry.proofs.ListLemmas.{all_split}
 use Rattle.entry.proofs.TextLemmas.{entries_in-text}
 use Rattle.segment.proofs.RowLemmas.{text_of-append}
-use Rattle.log_head.specs.log_model.Ids.{has}
-use Rattle.master_core.specs.clean_model.Compaction.{is_place, kept as entry_kept, kept_from as entries_kept}
-use Rattle.master_core.specs.clean_model.Memory.{IsAt, Index as EntryIndex}
+use Rattle.log_head.specs.log_laws.Ids.{has}
+use Rattle.master_core.specs.log_laws.Compaction.{is_place, kept as entry_kept, kept_from as entries_kept}
+use Rattle.master_core.specs.log_laws.Memory.{IsAt, Index as EntryIndex}
 use Rattle.places.specs.declared.place.Place.{Place}
 use Rattle.places.specs.Relocation.{names}
 use Rattle.places.proofs.Words.{named_found, found_named}

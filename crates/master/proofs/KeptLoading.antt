@@ -6,7 +6,7 @@ use Rattle.master_core.specs.master_state.declared.step.Refusal.{Refusal}
 use Rattle.master_core.specs.master_state.declared.step.Refusal.TheVariants as refusal
 use Rattle.master_core.specs.master_state.declared.step.Step.TheVariants.{Push}
 use Rattle.master_core.specs.master_state.declared.step.StepAnswer.{StepAnswer}
-use Rattle.master_core.specs.master_mending.Mending.{mended_data}
+use Rattle.master_core.specs.master_failover.Mending.{mended_data}
 use Rattle.master_core.specs.master_state.Data.{MasterData}
 use Rattle.master_core.specs.master_state.Steps.{BeginsRoll, pushed_data}
 use Rattle.master.specs.Loading.{KeepsLoading}

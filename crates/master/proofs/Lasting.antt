@@ -4,25 +4,25 @@ use Rattle.replica.specs.Picture.{FleetState}
 use Rattle.replica.specs.declared.op.TakeFault.TheVariants as take_fault
 use Rattle.versioned_map.specs.declared.command.Record.{Record}
 use Rattle.versioned_map.specs.Versioned.{State}
-use Rattle.master_core.specs.clean_model.Tracked.{IsTracked}
-use Rattle.log_head.specs.log_model.Data.{Start}
-use Rattle.master_core.specs.failover_model.Data.{bare, Mode, FailData, state_of}
-use Rattle.master_core.specs.failover_model.Log.{Texts, IsLogHeld}
-use Rattle.master_core.specs.failover_model.Runs.{IsThere}
-use Rattle.master_core.specs.failover_model.Shown.{Op}
-use Rattle.master_core.specs.failover_model.Steps.{rolling, next_start, MayTurn, ended, EndsRoll}
-use Rattle.master_core.specs.failover_bytes.Ops.{IsOnFleet, TakesOp, RefusesOp}
-use Rattle.master_core.specs.failover_bytes.Text.{IsWholeText}
-use Rattle.master_core.specs.failover_clean.Covered.{map_of}
-use Rattle.master_core.specs.failover_clean.Fleet.{read_of, HoldsAll, HoldsLoading}
-use Rattle.master_core.specs.failover_clean.Memory.{FailMemory, log_set_of}
-use Rattle.master_core.specs.failover_clean.Ops.{IsHeadOp}
-use Rattle.master_core.specs.failover_clean.Same.{IsSameMemory}
-use Rattle.master_core.specs.failover_clean.Steps.{rolled}
-use Rattle.master_core.proofs.failover_clean.FleetAnswers.{ok_holds_all, op_is_never_wrong}
-use Rattle.master_core.proofs.failover_clean.FleetSteps.{same_holds_all, roll_holds_all, end_holds_all}
-use Rattle.master_core.proofs.failover_clean.LoadingFleets.{ok_holds_loading, loading_is_never_wrong, roll_holds_loading}
-use Rattle.master_core.proofs.failover_clean.LoadingFleets.{end_holds_loading, same_holds_loading}
+use Rattle.master_core.specs.log_laws.Tracked.{IsTracked}
+use Rattle.log_head.specs.log_laws.Heads.{Start}
+use Rattle.master_core.specs.log_laws.Data.{bare, Mode, FailData, state_of}
+use Rattle.master_core.specs.log_laws.Log.{Texts, IsLogHeld}
+use Rattle.master_core.specs.log_laws.Runs.{IsThere}
+use Rattle.master_core.specs.log_laws.Shown.{Op}
+use Rattle.master_core.specs.log_laws.Steps.{rolling, next_start, MayTurn, ended, EndsRoll}
+use Rattle.master_core.specs.log_bytes.Ops.{IsOnFleet, TakesOp, RefusesOp}
+use Rattle.master_core.specs.log_bytes.Text.{IsWholeText}
+use Rattle.master_core.specs.log_memory.Covered.{map_of}
+use Rattle.master_core.specs.log_memory.Fleet.{read_of, HoldsAll, HoldsLoading}
+use Rattle.master_core.specs.log_memory.Memory.{FailMemory, log_set_of}
+use Rattle.master_core.specs.log_memory.Ops.{IsHeadOp}
+use Rattle.master_core.specs.log_memory.Same.{IsSameMemory}
+use Rattle.master_core.specs.log_memory.Steps.{rolled}
+use Rattle.master_core.proofs.log_memory.FleetAnswers.{ok_holds_all, op_is_never_wrong}
+use Rattle.master_core.proofs.log_memory.FleetSteps.{same_holds_all, roll_holds_all, end_holds_all}
+use Rattle.master_core.proofs.log_memory.LoadingFleets.{ok_holds_loading, loading_is_never_wrong, roll_holds_loading}
+use Rattle.master_core.proofs.log_memory.LoadingFleets.{end_holds_loading, same_holds_loading}
 use Rattle.std.specs.Prelude.{map}
 use Rattle.master_core.specs.master_state.declared.config.Config.{Config}
 use Rattle.master_core.specs.master_state.declared.waiting.Waiting.{Waiting}

@@ -61,7 +61,6 @@ pub mod MendKeeps
 pub mod MendServed
 pub mod MendFirsts
 pub mod StuckPushes
-pub use Rattle.log_head.proofs.log_model
-pub use Rattle.master_core.proofs.failover_model
+pub use Rattle.log_head.proofs.log_laws
 pub use Rattle.log_head.proofs as log_head
 pub use Rattle.master_core.proofs.master_state

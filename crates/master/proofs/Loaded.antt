@@ -14,16 +14,16 @@ use Rattle.entry.specs.Bag.{IsAmong}
 use Rattle.replica.specs.Picture.{FleetState}
 use Rattle.log_head.specs.Head.{HeadValue}
 use Rattle.log_head.specs.Steps.{with_unit_end}
-use Rattle.log_head.specs.log_model.Data.{fewest}
-use Rattle.log_head.specs.log_model.Ids.{has}
-use Rattle.master_core.specs.failover_model.Data.{Head as FailHead, front, FailData, HasTaken}
-use Rattle.master_core.specs.failover_model.Steps.{restored, adopted}
-use Rattle.master_core.specs.failover_bytes.Text.{IsWholeText}
-use Rattle.master_core.specs.failover_clean.Fleet.{HoldsAll, HoldsLoading}
-use Rattle.master_core.specs.failover_clean.Loading.{with_object, object_loaded}
-use Rattle.master_core.specs.failover_clean.Memory.{FailMemory}
-use Rattle.master_core.specs.failover_clean.Steps.{first_memory}
-use Rattle.master_core.proofs.failover_clean.LoadingFleets.{restored_holds_loading, load_holds_loading, finished_holds_all}
+use Rattle.log_head.specs.log_laws.Heads.{fewest}
+use Rattle.log_head.specs.log_laws.Ids.{has}
+use Rattle.master_core.specs.log_laws.Data.{Head as FailHead, front, FailData, HasTaken}
+use Rattle.master_core.specs.log_laws.Steps.{restored, adopted}
+use Rattle.master_core.specs.log_bytes.Text.{IsWholeText}
+use Rattle.master_core.specs.log_memory.Fleet.{HoldsAll, HoldsLoading}
+use Rattle.master_core.specs.log_memory.Loading.{with_object, object_loaded}
+use Rattle.master_core.specs.log_memory.Memory.{FailMemory}
+use Rattle.master_core.specs.log_memory.Steps.{first_memory}
+use Rattle.master_core.proofs.log_memory.LoadingFleets.{restored_holds_loading, load_holds_loading, finished_holds_all}
 use Rattle.master_core.specs.master_state.declared.config.Config.{Config}
 use Rattle.master_core.specs.master_state.Budget.{victims_of, is_committing}
 use Rattle.master_core.specs.master_state.declared.waiting.Waiting.{Waiting}

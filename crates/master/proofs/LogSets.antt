@@ -15,15 +15,15 @@ use Rattle.master_core.specs.compactor.Kept.{has_id}
 use Rattle.master_core.specs.compactor.Places.{IsAtPlace}
 use Rattle.log_head.specs.declared.head.Roll.{Roll}
 use Rattle.log_head.specs.Log.{head_of, start_of}
-use Rattle.log_head.specs.log_model.Data.{Start, ids_of}
-use Rattle.log_head.specs.log_model.Ids.{has}
-use Rattle.master_core.specs.clean_model.Memory.{new_ids}
-use Rattle.master_core.proofs.clean_model.CommitDigest.{all_in, all_out}
-use Rattle.master_core.proofs.clean_model.KeptEntries.{has_is, is_has}
-use Rattle.master_core.specs.failover_model.Data.{Head as FailHead, Mode, Mends, new_of, is_failing}
-use Rattle.master_core.specs.failover_model.Steps.{ids_now}
-use Rattle.master_core.specs.failover_clean.Memory.{log_ids}
-use Rattle.master_core.proofs.failover_clean.Ids.{now_none, ids_out, in_digest, in_survivors, new_in, new_one}
+use Rattle.log_head.specs.log_laws.Heads.{Start, ids_of}
+use Rattle.log_head.specs.log_laws.Ids.{has}
+use Rattle.master_core.specs.log_laws.Memory.{new_ids}
+use Rattle.master_core.proofs.log_laws.CommitDigest.{all_in, all_out}
+use Rattle.master_core.proofs.log_laws.KeptEntries.{has_is, is_has}
+use Rattle.master_core.specs.log_laws.Data.{Head as FailHead, Mode, Mends, new_of, is_failing}
+use Rattle.master_core.specs.log_laws.Steps.{ids_now}
+use Rattle.master_core.specs.log_memory.Memory.{log_ids}
+use Rattle.master_core.proofs.log_memory.Ids.{now_none, ids_out, in_digest, in_survivors, new_in, new_one}
 use Rattle.places.specs.declared.place.Place.{Place}
 use Rattle.master_core.specs.master_state.Budget.{survivors_of}
 use Rattle.master_core.specs.master_state.declared.failover.Failover.{Failover}

@@ -3,19 +3,19 @@ use Rattle.std.proofs.Common.{◌≡◌, ℕ, ◌<◌, true, false, refl, sym, s
 use Rattle.replica.specs.Picture.{FleetState}
 use Rattle.replica.specs.Take.{Refuses}
 use Rattle.replica.specs.declared.op.TakeFault.TheVariants as take_fault
-use Rattle.log_head.specs.log_model.Ids.{has}
-use Rattle.log_head.specs.log_model.Ops.{op_of}
-use Rattle.master_core.specs.failover_model.Data.{FailData}
-use Rattle.master_core.specs.failover_model.Shown.{Act, On}
-use Rattle.master_core.specs.failover_model.Steps.{failing}
-use Rattle.master_core.specs.failover_bytes.Ops.{log_op_for}
-use Rattle.master_core.specs.failover_clean.Fleet.{HoldsAll, HoldsLoading}
-use Rattle.master_core.specs.failover_clean.Loading.{IsLoadingOp}
-use Rattle.master_core.specs.failover_clean.Memory.{FailMemory}
-use Rattle.master_core.specs.failover_clean.Ops.{IsOp}
-use Rattle.master_core.specs.failover_clean.Steps.{stopped}
-use Rattle.master_core.proofs.failover_clean.FleetAnswers.{fault_fails_over}
-use Rattle.master_core.proofs.failover_clean.LoadingFleets.{fault_fails_loading}
+use Rattle.log_head.specs.log_laws.Ids.{has}
+use Rattle.log_head.specs.log_laws.Ops.{op_of}
+use Rattle.master_core.specs.log_laws.Data.{FailData}
+use Rattle.master_core.specs.log_laws.Shown.{Act, On}
+use Rattle.master_core.specs.log_laws.Steps.{failing}
+use Rattle.master_core.specs.log_bytes.Ops.{log_op_for}
+use Rattle.master_core.specs.log_memory.Fleet.{HoldsAll, HoldsLoading}
+use Rattle.master_core.specs.log_memory.Loading.{IsLoadingOp}
+use Rattle.master_core.specs.log_memory.Memory.{FailMemory}
+use Rattle.master_core.specs.log_memory.Ops.{IsOp}
+use Rattle.master_core.specs.log_memory.Steps.{stopped}
+use Rattle.master_core.proofs.log_memory.FleetAnswers.{fault_fails_over}
+use Rattle.master_core.proofs.log_memory.LoadingFleets.{fault_fails_loading}
 use Rattle.master_core.specs.master_state.Data.{MasterData}
 use Rattle.master_core.specs.master_state.Log.{log_of, memory_of}
 use Rattle.master_core.specs.master_state.Steps.{lost_data, may_lose}

@@ -4,8 +4,8 @@ use Rattle.std.specs.Prelude.{Option, Some, None, not, if◌then◌else◌}
 use Rattle.std.specs.Option.{option_map_or}
 use Rattle.log_head.specs.declared.head.Roll.{Roll}
 use Rattle.log_head.specs.Log.{start_of}
-use Rattle.master_core.specs.failover_model.Data.{Calm, Rolls, Mends, durable_of}
-use Rattle.master_core.specs.failover_model.Steps.{failing, MayFail, new_heads}
+use Rattle.master_core.specs.log_laws.Data.{Calm, Rolls, Mends, durable_of}
+use Rattle.master_core.specs.log_laws.Steps.{failing, MayFail, new_heads}
 use Rattle.master_core.specs.master_state.declared.failover.Failover.{Failover}
 use Rattle.master_core.specs.master_state.Data.{MasterData}
 use Rattle.master_core.specs.master_state.Ledger.{took_in, counts_in, shut_in}

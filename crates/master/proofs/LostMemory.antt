@@ -15,10 +15,10 @@ use Rattle.entry.specs.Bag.{IsAmong}
 use Rattle.entry.proofs.BagLemmas.{among_left, among_right, among_either}
 use Rattle.places.specs.declared.place.Place.{Place}
 use Rattle.log_head.specs.declared.head.Roll.{Roll}
-use Rattle.log_head.specs.log_model.Ids.{has}
-use Rattle.master_core.specs.clean_model.Memory.{Place as EntryPlace, Pass}
-use Rattle.master_core.specs.failover_clean.Memory.{FailMemory, Spot}
-use Rattle.master_core.specs.failover_clean.Steps.{stopped}
+use Rattle.log_head.specs.log_laws.Ids.{has}
+use Rattle.master_core.specs.log_laws.Memory.{Place as EntryPlace, Pass}
+use Rattle.master_core.specs.log_memory.Memory.{FailMemory, Spot}
+use Rattle.master_core.specs.log_memory.Steps.{stopped}
 use Rattle.master_core.specs.master_state.declared.config.Config.{Config}
 use Rattle.master_core.specs.master_state.declared.waiting.Waiting.{Waiting}
 use Rattle.master_core.specs.master_state.Budget.{victims_of, survivors_of, is_committing}

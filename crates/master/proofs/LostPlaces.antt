@@ -13,7 +13,7 @@ use Rattle.images.specs.Image.{Image}
 use Rattle.log_head.specs.declared.head.Roll.{Roll}
 use Rattle.log_head.specs.Head.{IsRollValue}
 use Rattle.log_head.specs.Steps.{counts_without}
-use Rattle.log_head.specs.log_model.Ids.{has, without}
+use Rattle.log_head.specs.log_laws.Ids.{has, without}
 use Rattle.master_core.specs.master_state.declared.config.Config.{Config}
 use Rattle.master_core.specs.master_state.declared.failover.Failover.{Failover}
 use Rattle.master_core.specs.master_state.declared.waiting.Waiting.{Waiting}

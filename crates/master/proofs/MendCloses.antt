@@ -12,13 +12,13 @@ use Rattle.log_head.specs.Log.{start_of}
 use Rattle.log_head.specs.Steps.{in_force}
 use Rattle.log_head.proofs.RollLog.{head_in_force}
 use Rattle.log_head.proofs.Rolls.{rolls, zeros_length}
-use Rattle.log_head.specs.log_model.Data.{Head as LogHead, Start}
-use Rattle.log_head.specs.log_model.Ids.{has, without}
-use Rattle.log_head.specs.log_model.Steps.{no_units}
-use Rattle.master_core.specs.failover_model.Data.{Calm, Rolls, Repairs, FailData}
-use Rattle.master_core.specs.failover_model.Steps.{ended, mended, EndsRoll}
-use Rattle.master_core.specs.master_mending.declared.mending.Mend.TheVariants as mend
-use Rattle.master_core.specs.master_mending.Mending.{mended_data, first_lost, repaired_data, with_part}
+use Rattle.log_head.specs.log_laws.Heads.{Head as LogHead, Start}
+use Rattle.log_head.specs.log_laws.Ids.{has, without}
+use Rattle.log_head.specs.log_laws.HeadSteps.{no_units}
+use Rattle.master_core.specs.log_laws.Data.{Calm, Rolls, Repairs, FailData}
+use Rattle.master_core.specs.log_laws.Steps.{ended, mended, EndsRoll}
+use Rattle.master_core.specs.master_failover.declared.mending.Mend.TheVariants as mend
+use Rattle.master_core.specs.master_failover.Mending.{mended_data, first_lost, repaired_data, with_part}
 use Rattle.master_core.proofs.master_rolls.RollEnds.{closed_images}
 use Rattle.master_core.specs.master_state.declared.failover.Failover.{Failover}
 use Rattle.master_core.specs.master_state.declared.failover.Part.TheVariants as part

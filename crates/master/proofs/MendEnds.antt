@@ -4,16 +4,16 @@ use Rattle.std.specs.Prelude.{ℕ, ◌≤◌, length, Some}
 use Rattle.master_core.specs.cleaner.declared.pass.Pass.{Pass as OpenPass}
 use Rattle.entry.specs.Bag.{IsAmong}
 use Rattle.entry.specs.Text.{text_of}
-use Rattle.log_head.specs.log_model.Data.{Start}
-use Rattle.master_core.specs.failover_model.Data.{Repairs, FailData}
-use Rattle.master_core.specs.failover_model.Steps.{ended, EndsRoll}
-use Rattle.master_core.specs.failover_bytes.Text.{entries_for}
-use Rattle.master_core.specs.failover_clean.Loading.{IsLoadingOp}
-use Rattle.master_core.specs.failover_clean.Memory.{Spot, text_in}
-use Rattle.master_core.specs.failover_clean.Steps.{finished}
-use Rattle.master_core.specs.master_mending.declared.mending.Mend.{Mend}
-use Rattle.master_core.specs.master_mending.declared.mending.Mend.TheVariants as mend
-use Rattle.master_core.specs.master_mending.Mending.{mended_data, IsNextMend}
+use Rattle.log_head.specs.log_laws.Heads.{Start}
+use Rattle.master_core.specs.log_laws.Data.{Repairs, FailData}
+use Rattle.master_core.specs.log_laws.Steps.{ended, EndsRoll}
+use Rattle.master_core.specs.log_bytes.Text.{entries_for}
+use Rattle.master_core.specs.log_memory.Loading.{IsLoadingOp}
+use Rattle.master_core.specs.log_memory.Memory.{Spot, text_in}
+use Rattle.master_core.specs.log_memory.Steps.{finished}
+use Rattle.master_core.specs.master_failover.declared.mending.Mend.{Mend}
+use Rattle.master_core.specs.master_failover.declared.mending.Mend.TheVariants as mend
+use Rattle.master_core.specs.master_failover.Mending.{mended_data, IsNextMend}
 use Rattle.master_core.specs.master_state.Budget.{victims_of, is_committing}
 use Rattle.master_core.specs.master_state.Data.{MasterData}
 use Rattle.master_core.specs.master_state.Invariant.{AreApart, IsCore}

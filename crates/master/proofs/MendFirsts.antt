@@ -16,22 +16,23 @@ use Rattle.replica.specs.declared.op.TakeFault.TheVariants as take_fault
 use Rattle.log_head.specs.declared.head.Roll.{Roll}
 use Rattle.log_head.specs.Head.{HeadValue, IsHeadValue}
 use Rattle.log_head.specs.Steps.{lone_start, fresh_head, start_after}
-use Rattle.log_head.specs.log_model.Data.{Start}
-use Rattle.master_core.specs.failover_model.Data.{bare, Opens, FailData}
-use Rattle.master_core.specs.failover_model.Steps.{rolling, next_start, OpensNew}
-use Rattle.master_core.specs.failover_bytes.Ops.{TakesOp, RefusesOp}
-use Rattle.master_core.specs.failover_bytes.Text.{IsWholeText}
-use Rattle.master_core.specs.failover_clean.Memory.{FailMemory}
-use Rattle.master_core.specs.failover_clean.Steps.{MayCommit, commit_start, rolled}
-use Rattle.master_core.specs.clean_model.Intact.{IsCommit}
-use Rattle.master_core.proofs.failover_clean.FleetSteps.{commit_holds_all}
-use Rattle.master_core.specs.master_mending.declared.mending.Mend.TheVariants as mend
-use Rattle.master_core.specs.master_mending.declared.turning.NewHead.{NewHead}
-use Rattle.master_core.specs.master_mending.declared.turning.NewHead.TheVariants as new_head
-use Rattle.master_core.specs.master_mending.Mending.{IsNextMend, IsNewHead, MayPut, put_data, turned_data, turn_roll, mended_data}
-use Rattle.master_core.specs.master_mending.Mending.{new_id, was_headless, backup_for, segment_for, op_now}
-use Rattle.master_core.specs.master_mending.Mending.{opening}
-use Rattle.master_core.proofs.master_mending.TurnedCore.{turned_core, turned_next, turned_is}
+use Rattle.log_head.specs.log_laws.Heads.{Start}
+use Rattle.master_core.specs.log_laws.Data.{bare, Opens, FailData}
+use Rattle.master_core.specs.log_laws.Steps.{rolling, next_start, OpensNew}
+use Rattle.master_core.specs.log_bytes.Ops.{TakesOp, RefusesOp}
+use Rattle.master_core.specs.log_bytes.Text.{IsWholeText}
+use Rattle.master_core.specs.log_memory.Memory.{FailMemory}
+use Rattle.master_core.specs.log_memory.Steps.{MayCommit, commit_start, rolled}
+use Rattle.master_core.specs.log_laws.Intact.{IsCommit}
+use Rattle.master_core.proofs.log_memory.FleetSteps.{commit_holds_all}
+use Rattle.master_core.specs.master_failover.declared.mending.Mend.TheVariants as mend
+use Rattle.master_core.specs.master_failover.declared.turning.NewHead.{NewHead}
+use Rattle.master_core.specs.master_failover.declared.turning.NewHead.TheVariants as new_head
+use Rattle.master_core.specs.master_failover.Mending.{IsNextMend, IsNewHead, MayPut, put_data, turned_data, turn_roll}
+use Rattle.master_core.specs.master_failover.Mending.{mended_data}
+use Rattle.master_core.specs.master_failover.Mending.{new_id, was_headless, backup_for, segment_for, op_now}
+use Rattle.master_core.specs.master_failover.Mending.{opening}
+use Rattle.master_core.proofs.master_failover.TurnedCore.{turned_core, turned_next, turned_is}
 use Rattle.master_core.specs.master_state.declared.ledger.Posting.TheVariants as posting
 use Rattle.master_core.specs.master_state.declared.step.Refusal.{Refusal}
 use Rattle.master_core.specs.master_state.declared.step.Refusal.TheVariants as refusal

@@ -7,11 +7,11 @@ use Rattle.master_core.specs.cleaner.declared.pass.Pass.{Pass}
 use Rattle.entry.specs.Text.{text_of}
 use Rattle.log_head.specs.declared.head.Roll.{Roll}
 use Rattle.log_head.specs.Log.{head_of, units_from}
-use Rattle.log_head.specs.log_model.Data.{Start}
-use Rattle.master_core.specs.failover_model.Data.{Calm, Rolls, Closes, Repairs, FailData}
-use Rattle.master_core.specs.failover_model.Steps.{ended, mended, EndsRoll}
-use Rattle.master_core.specs.master_mending.declared.mending.Mend.TheVariants as mend
-use Rattle.master_core.specs.master_mending.Mending.{mended_data}
+use Rattle.log_head.specs.log_laws.Heads.{Start}
+use Rattle.master_core.specs.log_laws.Data.{Calm, Rolls, Closes, Repairs, FailData}
+use Rattle.master_core.specs.log_laws.Steps.{ended, mended, EndsRoll}
+use Rattle.master_core.specs.master_failover.declared.mending.Mend.TheVariants as mend
+use Rattle.master_core.specs.master_failover.Mending.{mended_data}
 use Rattle.master_core.specs.master_state.declared.failover.Failover.{Failover}
 use Rattle.master_core.specs.master_state.declared.failover.Part.TheVariants as part
 use Rattle.master_core.specs.master_state.Budget.{is_committing}

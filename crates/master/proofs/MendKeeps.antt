@@ -5,28 +5,29 @@ use Rattle.master_core.specs.cleaner.declared.pass.Pass.{Pass}
 use Rattle.entry.specs.Bag.{IsAmong}
 use Rattle.entry.proofs.BagLemmas.{among_left}
 use Rattle.replica.specs.Picture.{FleetState}
-use Rattle.log_head.specs.log_model.Data.{Start}
-use Rattle.master_core.specs.failover_model.Data.{Repairs, FailData}
-use Rattle.master_core.specs.failover_model.Log.{Texts, IsLogHeld}
-use Rattle.master_core.specs.failover_model.Runs.{IsThere}
-use Rattle.master_core.specs.failover_model.Shown.{Op, On, Raise}
-use Rattle.master_core.specs.failover_model.Steps.{ended, mended, ids_now, EndsRoll}
-use Rattle.master_core.specs.failover_bytes.Ops.{TakesOp, log_op_for}
-use Rattle.master_core.specs.failover_bytes.Text.{entries_for}
-use Rattle.master_core.specs.failover_clean.Fleet.{read_of, HoldsAll, HoldsLoading}
-use Rattle.master_core.specs.failover_clean.Loading.{IsLoadingOp}
-use Rattle.master_core.specs.failover_clean.Memory.{Spot, FailMemory, AreImages, text_in, log_ids}
-use Rattle.master_core.specs.failover_clean.Steps.{finished}
-use Rattle.master_core.proofs.failover_clean.FleetAnswers.{ok_holds_all}
-use Rattle.master_core.proofs.failover_clean.FleetSteps.{mend_holds_all}
-use Rattle.master_core.proofs.failover_clean.Ids.{now_others}
-use Rattle.master_core.proofs.failover_clean.LoadingFleets.{ok_holds_loading, repair_holds_loading, mend_holds_loading}
-use Rattle.master_core.proofs.failover_clean.TextsIn.{image_text}
-use Rattle.log_head.specs.log_model.Ops.{op_of}
-use Rattle.master_core.specs.master_mending.declared.mending.Mend.{Mend}
-use Rattle.master_core.specs.master_mending.declared.mending.Mend.TheVariants as mend
-use Rattle.master_core.specs.master_mending.Mending.{IsNextMend, IsLater, IsOnReplica, mended_data, backup_for, segment_for}
-use Rattle.master_core.specs.master_mending.Mending.{replica_for}
+use Rattle.log_head.specs.log_laws.Heads.{Start}
+use Rattle.master_core.specs.log_laws.Data.{Repairs, FailData}
+use Rattle.master_core.specs.log_laws.Log.{Texts, IsLogHeld}
+use Rattle.master_core.specs.log_laws.Runs.{IsThere}
+use Rattle.master_core.specs.log_laws.Shown.{Op, On, Raise}
+use Rattle.master_core.specs.log_laws.Steps.{ended, mended, ids_now, EndsRoll}
+use Rattle.master_core.specs.log_bytes.Ops.{TakesOp, log_op_for}
+use Rattle.master_core.specs.log_bytes.Text.{entries_for}
+use Rattle.master_core.specs.log_memory.Fleet.{read_of, HoldsAll, HoldsLoading}
+use Rattle.master_core.specs.log_memory.Loading.{IsLoadingOp}
+use Rattle.master_core.specs.log_memory.Memory.{Spot, FailMemory, AreImages, text_in, log_ids}
+use Rattle.master_core.specs.log_memory.Steps.{finished}
+use Rattle.master_core.proofs.log_memory.FleetAnswers.{ok_holds_all}
+use Rattle.master_core.proofs.log_memory.FleetSteps.{mend_holds_all}
+use Rattle.master_core.proofs.log_memory.Ids.{now_others}
+use Rattle.master_core.proofs.log_memory.LoadingFleets.{ok_holds_loading, repair_holds_loading, mend_holds_loading}
+use Rattle.master_core.proofs.log_memory.TextsIn.{image_text}
+use Rattle.log_head.specs.log_laws.Ops.{op_of}
+use Rattle.master_core.specs.master_failover.declared.mending.Mend.{Mend}
+use Rattle.master_core.specs.master_failover.declared.mending.Mend.TheVariants as mend
+use Rattle.master_core.specs.master_failover.Mending.{IsNextMend, IsLater, IsOnReplica, mended_data, backup_for}
+use Rattle.master_core.specs.master_failover.Mending.{segment_for}
+use Rattle.master_core.specs.master_failover.Mending.{replica_for}
 use Rattle.master_core.specs.master_state.Budget.{victims_of}
 use Rattle.master_core.specs.master_state.Data.{MasterData}
 use Rattle.master_core.specs.master_state.Invariant.{AreApart, IsCore}

@@ -12,17 +12,17 @@ use Rattle.log_head.specs.Log.{head_of, start_of}
 use Rattle.log_head.specs.Next.{units_of}
 use Rattle.log_head.proofs.HeadLog.{count_is}
 use Rattle.log_head.proofs.Rolls.{rolls}
-use Rattle.log_head.specs.log_model.Data.{Start, entries_of}
-use Rattle.log_head.specs.log_model.Ids.{has, without}
-use Rattle.log_head.specs.log_model.Steps.{units_between}
-use Rattle.master_core.specs.failover_model.Data.{Head, front, bare, Closes, FailData, IsHome}
-use Rattle.master_core.specs.failover_model.Shown.{Act, Open, Extend, Close, Seal, Op, On, Raise}
-use Rattle.master_core.specs.failover_model.Steps.{with_taken, with_count, Extends, OpensNew, Replaces, Raises, ClosesOld}
-use Rattle.master_core.specs.failover_model.Text.{length_of}
-use Rattle.master_core.specs.failover_clean.Memory.{text_in}
-use Rattle.master_core.specs.master_mending.declared.mending.Mend.{Mend}
-use Rattle.master_core.specs.master_mending.declared.mending.Mend.TheVariants as mend
-use Rattle.master_core.specs.master_mending.Mending.{backup_for, segment_for, opened_more, raised_data}
+use Rattle.log_head.specs.log_laws.Heads.{Start, entries_of}
+use Rattle.log_head.specs.log_laws.Ids.{has, without}
+use Rattle.log_head.specs.log_laws.HeadSteps.{units_between}
+use Rattle.master_core.specs.log_laws.Data.{Head, front, bare, Closes, FailData, IsHome}
+use Rattle.master_core.specs.log_laws.Shown.{Act, Open, Extend, Close, Seal, Op, On, Raise}
+use Rattle.master_core.specs.log_laws.Steps.{with_taken, with_count, Extends, OpensNew, Replaces, Raises, ClosesOld}
+use Rattle.master_core.specs.log_laws.Text.{length_of}
+use Rattle.master_core.specs.log_memory.Memory.{text_in}
+use Rattle.master_core.specs.master_failover.declared.mending.Mend.{Mend}
+use Rattle.master_core.specs.master_failover.declared.mending.Mend.TheVariants as mend
+use Rattle.master_core.specs.master_failover.Mending.{backup_for, segment_for, opened_more, raised_data}
 use Rattle.master_core.specs.master_state.declared.failover.Failover.{Failover}
 use Rattle.master_core.specs.master_state.declared.failover.Part.{Part}
 use Rattle.master_core.specs.master_state.declared.failover.Part.TheVariants as part

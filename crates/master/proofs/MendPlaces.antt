@@ -9,9 +9,9 @@ use Rattle.images.specs.Image.{Image}
 use Rattle.log_head.specs.declared.head.Roll.{Roll}
 use Rattle.log_head.specs.declared.next.Next.TheVariants as next
 use Rattle.log_head.specs.Head.{IsLagging}
-use Rattle.log_head.specs.log_model.Ids.{without}
-use Rattle.master_core.specs.failover_model.Steps.{with_taken}
-use Rattle.master_core.specs.master_mending.Mending.{opened_more, raised_data}
+use Rattle.log_head.specs.log_laws.Ids.{without}
+use Rattle.master_core.specs.log_laws.Steps.{with_taken}
+use Rattle.master_core.specs.master_failover.Mending.{opened_more, raised_data}
 use Rattle.master_core.specs.master_state.declared.failover.Failover.{Failover}
 use Rattle.master_core.specs.master_state.declared.failover.Part.TheVariants as part
 use Rattle.master_core.specs.master_state.declared.ledger.Posting.{Posting}

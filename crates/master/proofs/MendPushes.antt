@@ -12,18 +12,18 @@ use Rattle.log_head.specs.Log.{head_of, start_of}
 use Rattle.log_head.specs.Next.{units_of}
 use Rattle.log_head.proofs.HeadLog.{end_is, front_is, part_is, count_is}
 use Rattle.log_head.proofs.Rolls.{rolls}
-use Rattle.log_head.specs.log_model.Data.{start_entries}
-use Rattle.log_head.specs.log_model.Ops.{op_of}
-use Rattle.master_core.specs.failover_model.Data.{front, bare}
-use Rattle.master_core.specs.failover_model.Shown.{Open, On}
-use Rattle.master_core.specs.failover_bytes.Ops.{act_for, log_op_for}
-use Rattle.master_core.proofs.failover_bytes.Texts.{length_is}
-use Rattle.master_core.specs.master_mending.declared.mending.Mend.{Mend}
-use Rattle.master_core.specs.master_mending.declared.mending.Mend.TheVariants as mend
-use Rattle.master_core.specs.master_mending.Mending.{IsNextMend, IsLater, IsOnReplica, was_headless, backup_for}
-use Rattle.master_core.specs.master_mending.Mending.{segment_for, replica_for, op_now}
-use Rattle.master_core.proofs.master_mending.Changed.{own, was_is, headless_is}
-use Rattle.master_core.proofs.master_mending.Sought.{is_other, fewer}
+use Rattle.log_head.specs.log_laws.Heads.{start_entries}
+use Rattle.log_head.specs.log_laws.Ops.{op_of}
+use Rattle.master_core.specs.log_laws.Data.{front, bare}
+use Rattle.master_core.specs.log_laws.Shown.{Open, On}
+use Rattle.master_core.specs.log_bytes.Ops.{act_for, log_op_for}
+use Rattle.master_core.proofs.log_bytes.Texts.{length_is}
+use Rattle.master_core.specs.master_failover.declared.mending.Mend.{Mend}
+use Rattle.master_core.specs.master_failover.declared.mending.Mend.TheVariants as mend
+use Rattle.master_core.specs.master_failover.Mending.{IsNextMend, IsLater, IsOnReplica, was_headless, backup_for}
+use Rattle.master_core.specs.master_failover.Mending.{segment_for, replica_for, op_now}
+use Rattle.master_core.proofs.master_failover.Changed.{own, was_is, headless_is}
+use Rattle.master_core.proofs.master_failover.Sought.{is_other, fewer}
 use Rattle.master_core.specs.master_state.declared.failover.Failover.{Failover}
 use Rattle.master_core.specs.master_state.declared.failover.Part.{Part}
 use Rattle.master_core.specs.master_state.declared.failover.Part.TheVariants as part

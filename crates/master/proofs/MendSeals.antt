@@ -4,7 +4,7 @@ use Rattle.std.proofs.Common.{sym, ap, subst, ◌∙◌, arith}
 use Rattle.std.specs.Prelude.{Option, Some, None, IsSome, ◌==◌, not, is_none, unwrap_or, if◌then◌else◌}
 use Rattle.std.specs.List.{AllByRecursion}
 use Rattle.std.proofs.lemmas.Bool.{eqb-true, eqb-false}
-use Rattle.master_core.proofs.clean_model.CommitDigest.{all_in}
+use Rattle.master_core.proofs.log_laws.CommitDigest.{all_in}
 use Rattle.entry.specs.declared.entry.Entry.{Entry}
 use Rattle.entry.specs.Bag.{IsAmong}
 use Rattle.entry.specs.Text.{IsSegment, text_of}
@@ -13,16 +13,16 @@ use Rattle.images.specs.Images.{AreWithin}
 use Rattle.images.specs.Sorted.{segment_of, replicas_of, changed}
 use Rattle.images.specs.Steps.{more_replicas}
 use Rattle.log_head.specs.Log.{head_of}
-use Rattle.log_head.specs.log_model.Ids.{has, without}
-use Rattle.master_core.specs.failover_model.Data.{Calm, Rolls, FailData}
-use Rattle.master_core.specs.failover_model.Steps.{with_taken, mended, MayRepair}
-use Rattle.master_core.specs.failover_bytes.Text.{entries_for, IsWholeText}
-use Rattle.master_core.specs.failover_clean.Memory.{text_in}
-use Rattle.master_core.specs.failover_clean.Ops.{RepairsImage}
-use Rattle.master_core.specs.master_mending.declared.mending.Mend.{Mend}
-use Rattle.master_core.specs.master_mending.declared.mending.Mend.TheVariants as mend
-use Rattle.master_core.specs.master_mending.Mending.{first_lost, IsNextMend}
-use Rattle.master_core.proofs.master_mending.Sought.{is_other, held, fewer, older, image_is, has_image, segment_there}
+use Rattle.log_head.specs.log_laws.Ids.{has, without}
+use Rattle.master_core.specs.log_laws.Data.{Calm, Rolls, FailData}
+use Rattle.master_core.specs.log_laws.Steps.{with_taken, mended, MayRepair}
+use Rattle.master_core.specs.log_bytes.Text.{entries_for, IsWholeText}
+use Rattle.master_core.specs.log_memory.Memory.{text_in}
+use Rattle.master_core.specs.log_memory.Ops.{RepairsImage}
+use Rattle.master_core.specs.master_failover.declared.mending.Mend.{Mend}
+use Rattle.master_core.specs.master_failover.declared.mending.Mend.TheVariants as mend
+use Rattle.master_core.specs.master_failover.Mending.{first_lost, IsNextMend}
+use Rattle.master_core.proofs.master_failover.Sought.{is_other, held, fewer, older, image_is, has_image, segment_there}
 use Rattle.master_core.specs.master_state.declared.failover.Failover.{Failover}
 use Rattle.master_core.specs.master_state.declared.failover.Part.TheVariants as part
 use Rattle.master_core.specs.master_state.declared.ledger.Posting.TheVariants as posting

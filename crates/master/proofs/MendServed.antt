@@ -13,19 +13,21 @@ use Rattle.images.specs.Sorted.{changed}
 use Rattle.images.specs.Steps.{more_replicas}
 use Rattle.log_head.specs.declared.head.Roll.{Roll}
 use Rattle.log_head.specs.Steps.{with_closed_replica, old_image}
-use Rattle.log_head.specs.log_model.Ids.{has}
-use Rattle.master_core.specs.failover_model.Data.{FailData, Repairs}
-use Rattle.master_core.specs.failover_model.Shown.{Op, On, Raise}
-use Rattle.master_core.specs.failover_bytes.Ops.{TakesOp}
-use Rattle.master_core.specs.failover_clean.Fleet.{HoldsAll, HoldsLoading}
-use Rattle.master_core.specs.failover_clean.Loading.{IsLoadingOp}
-use Rattle.master_core.specs.failover_clean.Ops.{IsOp}
-use Rattle.master_core.proofs.failover_clean.FleetSteps.{finish_holds_all}
-use Rattle.master_core.specs.master_mending.declared.mending.Mend.{Mend}
-use Rattle.master_core.specs.master_mending.declared.mending.Mend.TheVariants as mend
-use Rattle.master_core.specs.master_mending.Mending.{IsInPart, IsNextMend, IsLater, IsOnReplica, mended_data, backup_for}
-use Rattle.master_core.specs.master_mending.Mending.{segment_for, replica_for, was_headless, first_lost, repaired_data, with_part}
-use Rattle.master_core.specs.master_mending.Mending.{closed_more}
+use Rattle.log_head.specs.log_laws.Ids.{has}
+use Rattle.master_core.specs.log_laws.Data.{FailData, Repairs}
+use Rattle.master_core.specs.log_laws.Shown.{Op, On, Raise}
+use Rattle.master_core.specs.log_bytes.Ops.{TakesOp}
+use Rattle.master_core.specs.log_memory.Fleet.{HoldsAll, HoldsLoading}
+use Rattle.master_core.specs.log_memory.Loading.{IsLoadingOp}
+use Rattle.master_core.specs.log_memory.Ops.{IsOp}
+use Rattle.master_core.proofs.log_memory.FleetSteps.{finish_holds_all}
+use Rattle.master_core.specs.master_failover.declared.mending.Mend.{Mend}
+use Rattle.master_core.specs.master_failover.declared.mending.Mend.TheVariants as mend
+use Rattle.master_core.specs.master_failover.Mending.{IsInPart, IsNextMend, IsLater, IsOnReplica, mended_data}
+use Rattle.master_core.specs.master_failover.Mending.{backup_for}
+use Rattle.master_core.specs.master_failover.Mending.{segment_for, replica_for, was_headless, first_lost, repaired_data}
+use Rattle.master_core.specs.master_failover.Mending.{with_part}
+use Rattle.master_core.specs.master_failover.Mending.{closed_more}
 use Rattle.master_core.specs.master_state.declared.failover.Part.{Part}
 use Rattle.master_core.specs.master_state.declared.failover.Part.TheVariants as part
 use Rattle.master_core.specs.master_state.declared.ledger.Posting.TheVariants as posting

@@ -19,18 +19,18 @@ use Rattle.log_head.specs.Log.{head_of, start_of, HasLens}
 use Rattle.log_head.specs.Steps.{lone_start, start_after}
 use Rattle.log_head.proofs.RollLog.{start_is, start_after_has}
 use Rattle.log_head.proofs.Rolls.{rolls}
-use Rattle.log_head.specs.log_model.Data.{Start, digest_for, lens_next, start_entries}
-use Rattle.log_head.specs.log_model.Ids.{has as has_id, without}
-use Rattle.master_core.specs.clean_model.Intact.{IsCommit}
-use Rattle.master_core.specs.clean_model.Memory.{Place as EntryPlace}
-use Rattle.master_core.specs.failover_model.Data.{bare, front_entries, Mends, Opens}
-use Rattle.master_core.specs.failover_model.Steps.{rolling, next_start, len_now}
-use Rattle.master_core.specs.failover_bytes.Text.{IsWholeText}
-use Rattle.master_core.specs.failover_clean.Memory.{FailMemory}
-use Rattle.master_core.specs.failover_clean.Steps.{rolled}
-use Rattle.master_core.specs.master_mending.declared.mending.Mend.TheVariants as mend
-use Rattle.master_core.specs.master_mending.Mending.{IsNextMend, turned_data, turn_roll}
-use Rattle.master_core.proofs.master_mending.Changed.{own}
+use Rattle.log_head.specs.log_laws.Heads.{Start, digest_for, lens_next, start_entries}
+use Rattle.log_head.specs.log_laws.Ids.{has as has_id, without}
+use Rattle.master_core.specs.log_laws.Intact.{IsCommit}
+use Rattle.master_core.specs.log_laws.Memory.{Place as EntryPlace}
+use Rattle.master_core.specs.log_laws.Data.{bare, front_entries, Mends, Opens}
+use Rattle.master_core.specs.log_laws.Steps.{rolling, next_start, len_now}
+use Rattle.master_core.specs.log_bytes.Text.{IsWholeText}
+use Rattle.master_core.specs.log_memory.Memory.{FailMemory}
+use Rattle.master_core.specs.log_memory.Steps.{rolled}
+use Rattle.master_core.specs.master_failover.declared.mending.Mend.TheVariants as mend
+use Rattle.master_core.specs.master_failover.Mending.{IsNextMend, turned_data, turn_roll}
+use Rattle.master_core.proofs.master_failover.Changed.{own}
 use Rattle.master_core.proofs.master_rolls.RollLaws.{next_is, next_id, is_commit}
 use Rattle.master_core.specs.master_state.declared.failover.Failover.{Failover}
 use Rattle.master_core.specs.master_state.declared.failover.Part.TheVariants as part

@@ -13,16 +13,16 @@ use Rattle.log_head.specs.declared.next.Next.TheVariants as next
 use Rattle.log_head.specs.Log.{head_of}
 use Rattle.log_head.specs.Steps.{lone_start, fresh_head}
 use Rattle.log_head.proofs.HeadLog.{count_is}
-use Rattle.log_head.specs.log_model.Data.{LogUnit}
-use Rattle.master_core.specs.failover_model.Data.{Head as FailHead, Calm, Rolls, Closes, Repairs, FailData, is_failing}
-use Rattle.master_core.specs.failover_model.Data.{taken_records, durable_of}
-use Rattle.master_core.specs.failover_model.Shown.{Op}
-use Rattle.master_core.specs.failover_model.Steps.{ended, mended, with_taken}
-use Rattle.master_core.specs.master_mending.declared.mending.Mend.{Mend}
-use Rattle.master_core.specs.master_mending.declared.mending.Mend.TheVariants as mend
-use Rattle.master_core.specs.master_mending.Mending.{IsInPart, IsNextMend, was_headless, opening, turned_data}
-use Rattle.master_core.specs.master_mending.Mending.{raised_data, first_lost, repaired_data, with_part, closed_more}
-use Rattle.master_core.specs.master_mending.Mending.{mended_data, turn_roll, backup_for}
+use Rattle.log_head.specs.log_laws.Heads.{LogUnit}
+use Rattle.master_core.specs.log_laws.Data.{Head as FailHead, Calm, Rolls, Closes, Repairs, FailData, is_failing}
+use Rattle.master_core.specs.log_laws.Data.{taken_records, durable_of}
+use Rattle.master_core.specs.log_laws.Shown.{Op}
+use Rattle.master_core.specs.log_laws.Steps.{ended, mended, with_taken}
+use Rattle.master_core.specs.master_failover.declared.mending.Mend.{Mend}
+use Rattle.master_core.specs.master_failover.declared.mending.Mend.TheVariants as mend
+use Rattle.master_core.specs.master_failover.Mending.{IsInPart, IsNextMend, was_headless, opening, turned_data}
+use Rattle.master_core.specs.master_failover.Mending.{raised_data, first_lost, repaired_data, with_part, closed_more}
+use Rattle.master_core.specs.master_failover.Mending.{mended_data, turn_roll, backup_for}
 use Rattle.master_core.specs.master_state.declared.failover.Failover.{Failover}
 use Rattle.master_core.specs.master_state.declared.failover.Part.TheVariants as part
 use Rattle.master_core.specs.master_state.declared.ledger.Posting.TheVariants as posting

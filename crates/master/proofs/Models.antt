@@ -16,16 +16,16 @@ use Rattle.entry.specs.Meaning.{Versioned, object_at}
 use Rattle.places.specs.declared.place.Place.{Place}
 use Rattle.master_core.specs.compactor.Places.{IsAtPlace}
 use Rattle.replica.specs.Picture.{FleetState}
-use Rattle.master_core.specs.clean_model.Memory.{Place as EntryPlace, Index, Images, Pass, IsAt, StandsAt, SegmentHas}
-use Rattle.master_core.specs.clean_model.Memory.{new_ids}
-use Rattle.master_core.specs.clean_model.Tracked.{IsTracked}
-use Rattle.master_core.specs.failover_model.Data.{FailData, new_of}
-use Rattle.master_core.specs.failover_model.Log.{Texts}
-use Rattle.master_core.specs.failover_model.Steps.{ids_now}
-use Rattle.master_core.specs.failover_clean.Covered.{map_of}
-use Rattle.master_core.specs.failover_clean.Fleet.{HoldsAll}
-use Rattle.master_core.specs.failover_clean.Memory.{Spot, FailMemory, log_ids, log_set_of}
-use Rattle.master_core.specs.failover_clean.Same.{IsFoundInBoth, IsSameMemory}
+use Rattle.master_core.specs.log_laws.Memory.{Place as EntryPlace, Index, Images, Pass, IsAt, StandsAt, SegmentHas}
+use Rattle.master_core.specs.log_laws.Memory.{new_ids}
+use Rattle.master_core.specs.log_laws.Tracked.{IsTracked}
+use Rattle.master_core.specs.log_laws.Data.{FailData, new_of}
+use Rattle.master_core.specs.log_laws.Log.{Texts}
+use Rattle.master_core.specs.log_laws.Steps.{ids_now}
+use Rattle.master_core.specs.log_memory.Covered.{map_of}
+use Rattle.master_core.specs.log_memory.Fleet.{HoldsAll}
+use Rattle.master_core.specs.log_memory.Memory.{Spot, FailMemory, log_ids, log_set_of}
+use Rattle.master_core.specs.log_memory.Same.{IsFoundInBoth, IsSameMemory}
 use Rattle.master_core.specs.master_state.Budget.{victims_of, survivors_of, is_committing}
 use Rattle.master_core.specs.master_state.Data.{MasterData}
 use Rattle.master_core.specs.master_state.Index.{LiesFound}

@@ -3,16 +3,16 @@ use Rattle.std.proofs.Common.{◌≡◌, ℕ, ◌<◌, ◌≤◌, ◌⊎◌, inl
 use Rattle.std.specs.Prelude.{Option, IsSome, IsSomeAnd}
 use Rattle.replica.specs.Picture.{Shown}
 use Rattle.replica.specs.Survival.{HoldsHead}
-use Rattle.log_head.proofs.log_model.Lists.{some_given, some_is}
-use Rattle.master_core.specs.failover_model.Text.{Replica}
-use Rattle.master_core.specs.failover_model.Shown.{Shown as ModelShown, HoldsHead as ModelHoldsHead}
-use Rattle.master_core.specs.failover_model.Choice.{IsNewestOpened}
-use Rattle.master_core.specs.failover_model.Data.{FailData, HasTaken, IsHome, bare_replica}
-use Rattle.master_core.specs.failover_model.Log.{Texts, IsReplica, IsLogHeld}
-use Rattle.master_core.specs.failover_bytes.Choice.{IsOpenedHead}
-use Rattle.master_core.specs.failover_bytes.Spelled.{IsSpelled}
-use Rattle.master_core.proofs.failover_bytes.Choosing.{head_there, head_back}
-use Rattle.master_core.proofs.failover_bytes.NewestHomes.{taker, head_bears}
+use Rattle.log_head.proofs.log_laws.IdLists.{some_given, some_is}
+use Rattle.master_core.specs.log_laws.Text.{Replica}
+use Rattle.master_core.specs.log_laws.Shown.{Shown as ModelShown, HoldsHead as ModelHoldsHead}
+use Rattle.master_core.specs.log_laws.Choice.{IsNewestOpened}
+use Rattle.master_core.specs.log_laws.Data.{FailData, HasTaken, IsHome, bare_replica}
+use Rattle.master_core.specs.log_laws.Log.{Texts, IsReplica, IsLogHeld}
+use Rattle.master_core.specs.log_bytes.Choice.{IsOpenedHead}
+use Rattle.master_core.specs.log_bytes.Spelled.{IsSpelled}
+use Rattle.master_core.proofs.log_bytes.Choosing.{head_there, head_back}
+use Rattle.master_core.proofs.log_bytes.NewestHomes.{taker, head_bears}
 
 -- one that is there holds a head if it has an opening
 heads : (p : ModelShown) (b s : ℕ) (r : Replica) → p.holds b s ≡ Some r → IsSome r.text.opening → p.least ≤ s

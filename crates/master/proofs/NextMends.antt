@@ -3,9 +3,9 @@ use Rattle.std.proofs.Common.{◌≡◌, ℕ, ◌≤◌, inl, inr, true, List, l
 use Rattle.std.specs.Prelude.{Some, None}
 use Rattle.std.proofs.lemmas.Option.{same_Some}
 use Rattle.log_head.specs.Head.{IsLagging}
-use Rattle.master_core.specs.master_mending.declared.mending.Mend.{Mend}
-use Rattle.master_core.specs.master_mending.declared.mending.Mend.TheVariants as mend
-use Rattle.master_core.specs.master_mending.Mending.{IsInPart, IsNextMend, IsLater}
+use Rattle.master_core.specs.master_failover.declared.mending.Mend.{Mend}
+use Rattle.master_core.specs.master_failover.declared.mending.Mend.TheVariants as mend
+use Rattle.master_core.specs.master_failover.Mending.{IsInPart, IsNextMend, IsLater}
 use Rattle.master_core.specs.master_state.declared.failover.Failover.{Failover}
 use Rattle.master_core.specs.master_state.declared.failover.Part.{Part}
 use Rattle.master_core.specs.master_state.declared.failover.Part.TheVariants as part

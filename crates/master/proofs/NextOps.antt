@@ -22,17 +22,17 @@ use Rattle.log_head.specs.Steps.{with_opened_replica, with_all_taken, with_new_r
 use Rattle.log_head.proofs.HeadLog.{end_is, front_is, part_is, count_is}
 use Rattle.log_head.proofs.RollLog.{head_in_force}
 use Rattle.log_head.proofs.Rolls.{rolls, zeros_length}
-use Rattle.log_head.specs.log_model.Data.{Head as LogHead, start_entries, entries_of}
-use Rattle.log_head.specs.log_model.Ids.{has, without}
-use Rattle.log_head.specs.log_model.Ops.{op_of}
-use Rattle.log_head.specs.log_model.Steps.{units_between}
-use Rattle.master_core.specs.failover_model.Data.{Head, front, bare, Calm, Rolls, FailData, HasTaken, IsHome}
-use Rattle.master_core.specs.failover_model.Shown.{Act, Open, Extend, Close, Op, On}
-use Rattle.master_core.specs.failover_model.Steps.{with_taken, with_count, ended, EndsRoll, OpensNew, ClosesOld}
-use Rattle.master_core.specs.failover_model.Text.{length_of}
-use Rattle.master_core.specs.failover_bytes.Ops.{act_for, log_op_for}
-use Rattle.master_core.proofs.failover_bytes.Texts.{length_is}
-use Rattle.master_core.specs.failover_clean.Ops.{IsHeadOp}
+use Rattle.log_head.specs.log_laws.Heads.{Head as LogHead, start_entries, entries_of}
+use Rattle.log_head.specs.log_laws.Ids.{has, without}
+use Rattle.log_head.specs.log_laws.Ops.{op_of}
+use Rattle.log_head.specs.log_laws.HeadSteps.{units_between}
+use Rattle.master_core.specs.log_laws.Data.{Head, front, bare, Calm, Rolls, FailData, HasTaken, IsHome}
+use Rattle.master_core.specs.log_laws.Shown.{Act, Open, Extend, Close, Op, On}
+use Rattle.master_core.specs.log_laws.Steps.{with_taken, with_count, ended, EndsRoll, OpensNew, ClosesOld}
+use Rattle.master_core.specs.log_laws.Text.{length_of}
+use Rattle.master_core.specs.log_bytes.Ops.{act_for, log_op_for}
+use Rattle.master_core.proofs.log_bytes.Texts.{length_is}
+use Rattle.master_core.specs.log_memory.Ops.{IsHeadOp}
 use Rattle.master_core.specs.master_state.declared.failover.Failover.{Failover}
 use Rattle.master_core.specs.master_state.declared.ledger.Posting.{Posting}
 use Rattle.master_core.specs.master_state.declared.ledger.Posting.TheVariants as posting

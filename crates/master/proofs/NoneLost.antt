@@ -5,8 +5,8 @@ use Rattle.entry.specs.Bag.{IsAmong}
 use Rattle.images.specs.Sorted.{replicas_of}
 use Rattle.log_head.specs.Log.{head_of}
 use Rattle.master_core.proofs.cleaner.Lacking.{none_is_lacking}
-use Rattle.master_core.specs.failover_model.Data.{FailData, Head, homes}
-use Rattle.master_core.specs.failover_model.Steps.{mended, NoneIsLost}
+use Rattle.master_core.specs.log_laws.Data.{FailData, Head, homes}
+use Rattle.master_core.specs.log_laws.Steps.{mended, NoneIsLost}
 use Rattle.master_core.specs.master_state.Data.{MasterData}
 use Rattle.master_core.specs.master_state.Invariant.{IsCore}
 use Rattle.master_core.specs.master_state.Log.{log_of}

@@ -19,8 +19,8 @@ use Rattle.images.specs.Sorted.{IsWhole, segment_of}
 use Rattle.log_head.specs.declared.head.Roll.{Roll}
 use Rattle.log_head.specs.Head.{HeadValue}
 use Rattle.log_head.specs.Log.{head_of}
-use Rattle.log_head.specs.log_model.Data.{ids_of}
-use Rattle.master_core.proofs.clean_model.KeptEntries.{has_is}
+use Rattle.log_head.specs.log_laws.Heads.{ids_of}
+use Rattle.master_core.proofs.log_laws.KeptEntries.{has_is}
 use Rattle.entry.proofs.BagLemmas.{among_last}
 use Rattle.master_core.specs.master_state.Budget.{victims_of}
 use Rattle.master_core.specs.master_state.Data.{MasterData}

@@ -8,8 +8,8 @@ use Rattle.entry.specs.Bag.{IsAmong}
 use Rattle.entry.specs.Format.{spelling}
 use Rattle.entry.specs.Text.{text_of, is_data}
 use Rattle.entry.proofs.BagLemmas.{among_left, among_right}
-use Rattle.master_core.specs.clean_model.Compaction.{places}
-use Rattle.master_core.specs.clean_model.Memory.{IsAt}
+use Rattle.master_core.specs.log_laws.Compaction.{places}
+use Rattle.master_core.specs.log_laws.Memory.{IsAt}
 use Rattle.places.specs.declared.place.Place.{Place}
 
 -- The entry is the one behind these.

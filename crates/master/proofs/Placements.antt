@@ -16,10 +16,10 @@ use Rattle.log_head.specs.declared.head.UnitEnd.{UnitEnd}
 use Rattle.log_head.specs.Head.{HeadValue}
 use Rattle.log_head.specs.Steps.{with_unit_end}
 use Rattle.log_head.proofs.Rolls.{zeros_length}
-use Rattle.master_core.specs.failover_model.Data.{Calm, is_failing}
-use Rattle.log_head.specs.log_model.Ids.{without}
-use Rattle.log_head.specs.log_model.Steps.{no_units}
-use Rattle.master_core.proofs.clean_model.KeptEntries.{has_is}
+use Rattle.master_core.specs.log_laws.Data.{Calm, is_failing}
+use Rattle.log_head.specs.log_laws.Ids.{without}
+use Rattle.log_head.specs.log_laws.HeadSteps.{no_units}
+use Rattle.master_core.proofs.log_laws.KeptEntries.{has_is}
 use Rattle.master_core.specs.master_state.declared.config.Config.{Config}
 use Rattle.master_core.specs.master_state.declared.failover.Failover.{Failover}
 use Rattle.master_core.specs.master_state.declared.ledger.Posting.{Posting}

@@ -3,7 +3,7 @@ use Rattle.std.proofs.Common.{◌≡◌, ℕ, zero, suc, ◌⊎◌, ◌+◌, ◌
 use Rattle.std.proofs.Common.{length, refl, sym, ap, ◌∙◌, arith}
 use Rattle.std.specs.Prelude.{None, ◌==◌, ◌||◌}
 use Rattle.std.proofs.lemmas.Bool.{cases_eq, eqb-true}
-use Rattle.log_head.specs.log_model.Ids.{has, without}
+use Rattle.log_head.specs.log_laws.Ids.{has, without}
 use Rattle.master_core.specs.master_state.declared.config.Config.{Config}
 use Rattle.master_core.specs.master_state.Config.{config_fault}
 use Rattle.master_core.specs.master_state.Data.{MasterData}

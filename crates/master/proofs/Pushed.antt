@@ -19,21 +19,21 @@ use Rattle.log_head.specs.Log.{start_of}
 use Rattle.log_head.specs.Next.{IsNextPush, replica_of, segment_of}
 use Rattle.log_head.specs.Steps.{with_new_replica}
 use Rattle.log_head.proofs.Rolls.{rolls}
-use Rattle.log_head.specs.log_model.Data.{Start}
-use Rattle.log_head.specs.log_model.Ids.{has}
-use Rattle.log_head.specs.log_model.Ops.{op_of}
-use Rattle.master_core.specs.failover_model.Data.{Calm, FailData, IsHome}
-use Rattle.master_core.specs.failover_model.Log.{Texts, IsLogHeld}
-use Rattle.master_core.specs.failover_model.Shown.{Shown}
-use Rattle.master_core.specs.failover_model.Text.{Replica}
-use Rattle.master_core.specs.failover_model.Steps.{ended, EndsRoll}
-use Rattle.master_core.proofs.failover_model.Lists.{some_is}
-use Rattle.master_core.proofs.failover_model.Replicas.{head_only}
-use Rattle.master_core.specs.failover_bytes.Ops.{log_op_for}
-use Rattle.master_core.specs.failover_clean.Fleet.{read_of}
-use Rattle.master_core.specs.failover_clean.Memory.{Spot, FailMemory}
-use Rattle.master_core.specs.failover_clean.Ops.{IsHeadOp}
-use Rattle.master_core.specs.failover_clean.Steps.{finished}
+use Rattle.log_head.specs.log_laws.Heads.{Start}
+use Rattle.log_head.specs.log_laws.Ids.{has}
+use Rattle.log_head.specs.log_laws.Ops.{op_of}
+use Rattle.master_core.specs.log_laws.Data.{Calm, FailData, IsHome}
+use Rattle.master_core.specs.log_laws.Log.{Texts, IsLogHeld}
+use Rattle.master_core.specs.log_laws.Shown.{Shown}
+use Rattle.master_core.specs.log_laws.Text.{Replica}
+use Rattle.master_core.specs.log_laws.Steps.{ended, EndsRoll}
+use Rattle.master_core.proofs.log_laws.Lists.{some_is}
+use Rattle.master_core.proofs.log_laws.Replicas.{head_only}
+use Rattle.master_core.specs.log_bytes.Ops.{log_op_for}
+use Rattle.master_core.specs.log_memory.Fleet.{read_of}
+use Rattle.master_core.specs.log_memory.Memory.{Spot, FailMemory}
+use Rattle.master_core.specs.log_memory.Ops.{IsHeadOp}
+use Rattle.master_core.specs.log_memory.Steps.{finished}
 use Rattle.master_core.specs.master_state.declared.ledger.Posting.{Posting}
 use Rattle.master_core.specs.master_state.declared.ledger.Posting.TheVariants as posting
 use Rattle.master_core.specs.master_state.declared.step.Step.TheVariants.{Push}

@@ -3,7 +3,7 @@ use Rattle.std.proofs.Common.{◌≡◌, ℕ, ◌<◌, ◌≤◌, inl, inr, Bool
 use Rattle.std.specs.Prelude.{Result, Ok, Err, nat_lt}
 use Rattle.std.proofs.lemmas.Bool.{ltb-false, ltb-true}
 use Rattle.replica.specs.Picture.{FleetState}
-use Rattle.master_core.specs.failover_model.Data.{durable_of}
+use Rattle.master_core.specs.log_laws.Data.{durable_of}
 use Rattle.master_core.specs.master_state.declared.step.Refusal.{Refusal}
 use Rattle.master_core.specs.master_state.declared.step.Step.TheVariants.{Push}
 use Rattle.master_core.specs.master_state.Data.{MasterData}

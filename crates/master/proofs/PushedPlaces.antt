@@ -17,12 +17,12 @@ use Rattle.log_head.specs.Log.{head_of}
 use Rattle.log_head.specs.Next.{IsNextPush, segment_of}
 use Rattle.log_head.specs.Steps.{with_all_taken, with_new_replica}
 use Rattle.log_head.proofs.Rolls.{rolls, zeros_length}
-use Rattle.log_head.specs.log_model.Data.{ids_of}
-use Rattle.log_head.specs.log_model.Ids.{has, without}
-use Rattle.log_head.specs.log_model.Steps.{no_units}
+use Rattle.log_head.specs.log_laws.Heads.{ids_of}
+use Rattle.log_head.specs.log_laws.Ids.{has, without}
+use Rattle.log_head.specs.log_laws.HeadSteps.{no_units}
 use Rattle.entry.proofs.BagLemmas.{among_last}
-use Rattle.master_core.proofs.clean_model.KeptEntries.{has_is}
-use Rattle.master_core.specs.failover_model.Steps.{with_taken}
+use Rattle.master_core.proofs.log_laws.KeptEntries.{has_is}
+use Rattle.master_core.specs.log_laws.Steps.{with_taken}
 use Rattle.master_core.specs.master_state.declared.ledger.Posting.{Posting}
 use Rattle.master_core.specs.master_state.declared.ledger.Posting.TheVariants as posting
 use Rattle.master_core.specs.master_state.Budget.{survivors_of}

@@ -4,7 +4,7 @@ use Rattle.std.specs.Prelude.{unwrap_or, ◌==◌, if◌then◌else◌, Some}
 use Rattle.std.specs.Option.{option_map, option_map_or}
 use Rattle.master_core.specs.cleaner.Passes.{rest_of}
 use Rattle.entry.specs.declared.entry.Entry.{Entry}
-use Rattle.master_core.specs.clean_model.Memory.{Place as EntryPlace}
+use Rattle.master_core.specs.log_laws.Memory.{Place as EntryPlace}
 use Rattle.places.specs.declared.place.Place.{Place}
 use Rattle.places.specs.Map.{found}
 use Rattle.images.specs.Image.{Image}

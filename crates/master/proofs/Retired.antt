@@ -8,7 +8,7 @@ use Rattle.replica.specs.Retire.{Retires}
 use Rattle.replica.specs.Take.{limited}
 use Rattle.replica.proofs.Acks.{grows_not}
 use Rattle.replica.proofs.Retiring.{IsSparing, retire_spares}
-use Rattle.master_core.proofs.failover_clean.KeptFleets.{others_leave_all}
+use Rattle.master_core.proofs.log_memory.KeptFleets.{others_leave_all}
 use Rattle.master_core.specs.master_state.Data.{MasterData}
 use Rattle.master_core.specs.master_state.Log.{log_of, memory_of}
 use Rattle.master_core.specs.master_state.Steps.{halted}

@@ -20,16 +20,16 @@ use Rattle.images.specs.Image.{Image}
 use Rattle.images.specs.Sorted.{segment_of, replicas_of}
 use Rattle.log_head.specs.declared.head.Roll.{Roll}
 use Rattle.log_head.specs.Steps.{start_after, fresh_roll}
-use Rattle.log_head.specs.log_model.Data.{Start, start_entries}
-use Rattle.master_core.specs.clean_model.Intact.{IsCommit}
-use Rattle.master_core.specs.clean_model.Memory.{Place as EntryPlace}
-use Rattle.master_core.specs.failover_model.Data.{Head as FailHead, bare, Rolls, FailData}
-use Rattle.master_core.specs.failover_model.Steps.{next_start, rolling}
-use Rattle.master_core.specs.failover_bytes.Text.{IsWholeText}
-use Rattle.master_core.specs.failover_clean.Intact.{IsReady}
-use Rattle.master_core.specs.failover_clean.Memory.{FailMemory}
-use Rattle.master_core.specs.failover_clean.Steps.{MayCommit, commit_start, rolled}
-use Rattle.master_core.proofs.failover_clean.FleetSteps.{commit_holds_all}
+use Rattle.log_head.specs.log_laws.Heads.{Start, start_entries}
+use Rattle.master_core.specs.log_laws.Intact.{IsCommit}
+use Rattle.master_core.specs.log_laws.Memory.{Place as EntryPlace}
+use Rattle.master_core.specs.log_laws.Data.{Head as FailHead, bare, Rolls, FailData}
+use Rattle.master_core.specs.log_laws.Steps.{next_start, rolling}
+use Rattle.master_core.specs.log_bytes.Text.{IsWholeText}
+use Rattle.master_core.specs.log_memory.Intact.{IsReady}
+use Rattle.master_core.specs.log_memory.Memory.{FailMemory}
+use Rattle.master_core.specs.log_memory.Steps.{MayCommit, commit_start, rolled}
+use Rattle.master_core.proofs.log_memory.FleetSteps.{commit_holds_all}
 use Rattle.master_core.specs.master_state.declared.step.StepAnswer.{StepAnswer}
 use Rattle.master_core.specs.master_state.Budget.{victims_of, survivors_of, is_ready, is_committing}
 use Rattle.master_core.specs.master_state.Data.{MasterData}

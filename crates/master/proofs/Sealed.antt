@@ -21,21 +21,21 @@ use Rattle.replica.specs.Take.{Takes, Refuses}
 use Rattle.replica.specs.declared.op.TakeFault.{TakeFault}
 use Rattle.replica.specs.declared.op.TakeFault.TheVariants as take_fault
 use Rattle.log_head.specs.declared.head.Roll.{Roll}
-use Rattle.log_head.specs.log_model.Ids.{has, without}
-use Rattle.log_head.specs.log_model.Ops.{op_of}
-use Rattle.log_head.proofs.log_model.Segments.{data_alone}
-use Rattle.master_core.specs.clean_model.Intact.{BeginAsSurvivor}
-use Rattle.master_core.specs.failover_model.Data.{FailData}
-use Rattle.master_core.specs.failover_model.Shown.{Act, Seal as SealAct}
-use Rattle.master_core.specs.failover_model.Steps.{with_taken}
-use Rattle.master_core.specs.failover_bytes.Ops.{log_op_for}
-use Rattle.master_core.specs.failover_bytes.Text.{entries_for, IsWholeText}
-use Rattle.master_core.proofs.failover_bytes.Texts.{no_opening}
-use Rattle.master_core.specs.failover_clean.Fleet.{HoldsAll}
-use Rattle.master_core.specs.failover_clean.Memory.{FailMemory, text_in}
-use Rattle.master_core.specs.failover_clean.Ops.{IsOp}
-use Rattle.master_core.specs.failover_clean.Steps.{MaySeal, seal_op}
-use Rattle.master_core.proofs.failover_clean.FleetAnswers.{ok_holds_all}
+use Rattle.log_head.specs.log_laws.Ids.{has, without}
+use Rattle.log_head.specs.log_laws.Ops.{op_of}
+use Rattle.log_head.proofs.log_laws.Segments.{data_alone}
+use Rattle.master_core.specs.log_laws.Intact.{BeginAsSurvivor}
+use Rattle.master_core.specs.log_laws.Data.{FailData}
+use Rattle.master_core.specs.log_laws.Shown.{Act, Seal as SealAct}
+use Rattle.master_core.specs.log_laws.Steps.{with_taken}
+use Rattle.master_core.specs.log_bytes.Ops.{log_op_for}
+use Rattle.master_core.specs.log_bytes.Text.{entries_for, IsWholeText}
+use Rattle.master_core.proofs.log_bytes.Texts.{no_opening}
+use Rattle.master_core.specs.log_memory.Fleet.{HoldsAll}
+use Rattle.master_core.specs.log_memory.Memory.{FailMemory, text_in}
+use Rattle.master_core.specs.log_memory.Ops.{IsOp}
+use Rattle.master_core.specs.log_memory.Steps.{MaySeal, seal_op}
+use Rattle.master_core.proofs.log_memory.FleetAnswers.{ok_holds_all}
 use Rattle.master_core.specs.master_state.declared.ledger.Posting.TheVariants as posting
 use Rattle.master_core.specs.master_state.declared.step.Step.TheVariants.{Seal}
 use Rattle.master_core.specs.master_state.declared.step.StepAnswer.TheVariants.{Sealed as StepSealed}

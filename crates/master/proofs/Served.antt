@@ -9,12 +9,12 @@ use Rattle.replica.specs.declared.op.TakeFault.{TakeFault}
 use Rattle.replica.specs.declared.op.TakeFault.TheVariants as take_fault
 use Rattle.log_head.specs.declared.next.Next.{Next}
 use Rattle.log_head.specs.Next.{IsNextPush, replica_of, segment_of}
-use Rattle.log_head.specs.log_model.Ids.{has}
-use Rattle.log_head.specs.log_model.Ops.{op_of}
-use Rattle.master_core.specs.failover_model.Data.{Calm}
-use Rattle.master_core.specs.failover_bytes.Ops.{log_op_for}
-use Rattle.master_core.specs.failover_clean.Fleet.{HoldsAll, HoldsLoading}
-use Rattle.master_core.proofs.failover_clean.FleetSteps.{finish_holds_all}
+use Rattle.log_head.specs.log_laws.Ids.{has}
+use Rattle.log_head.specs.log_laws.Ops.{op_of}
+use Rattle.master_core.specs.log_laws.Data.{Calm}
+use Rattle.master_core.specs.log_bytes.Ops.{log_op_for}
+use Rattle.master_core.specs.log_memory.Fleet.{HoldsAll, HoldsLoading}
+use Rattle.master_core.proofs.log_memory.FleetSteps.{finish_holds_all}
 use Rattle.master_core.specs.master_state.declared.step.Refusal.TheVariants.{Halted, Nothing}
 use Rattle.master_core.specs.master_state.declared.step.Step.TheVariants.{Push}
 use Rattle.master_core.specs.master_state.Causes.{is_done}

@@ -16,13 +16,13 @@ use Rattle.entry.proofs.BagLemmas.{among_permutation, among_images}
 use Rattle.replica.specs.Picture.{FleetState}
 use Rattle.tablet_will.specs.Parts.{is_in_one}
 use Rattle.tablet_will.specs.Sizes.{are_in_order, are_sizes}
-use Rattle.log_head.specs.log_model.Ids.{has}
-use Rattle.master_core.proofs.clean_model.KeptEntries.{is_has, has_is}
-use Rattle.master_core.proofs.clean_model.Lists.{among_at}
-use Rattle.master_core.specs.failover_model.Data.{FailData, state_of}
-use Rattle.master_core.specs.failover_clean.Fleet.{read_of, KeepsAll}
-use Rattle.master_core.specs.failover_clean.Intact.{IsIntact}
-use Rattle.master_core.specs.failover_clean.Memory.{FailMemory, log_ids}
+use Rattle.log_head.specs.log_laws.Ids.{has}
+use Rattle.master_core.proofs.log_laws.KeptEntries.{is_has, has_is}
+use Rattle.master_core.proofs.log_laws.ImageLists.{among_at}
+use Rattle.master_core.specs.log_laws.Data.{FailData, state_of}
+use Rattle.master_core.specs.log_memory.Fleet.{read_of, KeepsAll}
+use Rattle.master_core.specs.log_memory.Intact.{IsIntact}
+use Rattle.master_core.specs.log_memory.Memory.{FailMemory, log_ids}
 use Rattle.master_core.specs.master_state.Data.{MasterData}
 use Rattle.master_core.specs.master_state.Log.{log_of, memory_of, state_now}
 use Rattle.master_core.specs.master_state.Sizes.{size_of, AreSizesOf}

@@ -4,16 +4,16 @@ use Rattle.std.specs.Prelude.{Some, None, IsSome, unwrap_or, ◌==◌, if◌then
 use Rattle.std.specs.Option.{option_map}
 use Rattle.std.proofs.lemmas.Option.{same_Some}
 use Rattle.replica.specs.Picture.{FleetState}
-use Rattle.log_head.specs.log_model.Data.{Start, start_entries}
-use Rattle.master_core.specs.failover_model.Data.{bare, FailData, IsNew}
-use Rattle.master_core.specs.failover_model.Steps.{restored, restored_start, MayBegin}
-use Rattle.master_core.specs.failover_bytes.Runs.{read_fleet}
-use Rattle.master_core.specs.failover_bytes.Segments.{HeadsAreSegments}
-use Rattle.master_core.specs.failover_bytes.Spelled.{read_replica}
-use Rattle.master_core.specs.failover_bytes.Text.{IsWholeText}
-use Rattle.master_core.specs.failover_clean.Fleet.{HoldsAll}
-use Rattle.master_core.specs.failover_clean.Steps.{first_memory}
-use Rattle.master_core.proofs.failover_clean.FleetSteps.{fresh_holds_all}
+use Rattle.log_head.specs.log_laws.Heads.{Start, start_entries}
+use Rattle.master_core.specs.log_laws.Data.{bare, FailData, IsNew}
+use Rattle.master_core.specs.log_laws.Steps.{restored, restored_start, MayBegin}
+use Rattle.master_core.specs.log_bytes.Runs.{read_fleet}
+use Rattle.master_core.specs.log_bytes.Segments.{HeadsAreSegments}
+use Rattle.master_core.specs.log_bytes.Spelled.{read_replica}
+use Rattle.master_core.specs.log_bytes.Text.{IsWholeText}
+use Rattle.master_core.specs.log_memory.Fleet.{HoldsAll}
+use Rattle.master_core.specs.log_memory.Steps.{first_memory}
+use Rattle.master_core.proofs.log_memory.FleetSteps.{fresh_holds_all}
 use Rattle.master_core.specs.master_state.declared.config.Config.{Config}
 use Rattle.master_core.specs.master_state.Config.{config_fault}
 use Rattle.master_core.specs.master_state.Data.{fresh_data}

@@ -1,9 +1,9 @@
 -- A push that may not open the new head of a failover answers Halted and nothing else.
 use Rattle.std.proofs.Common.{◌≡◌, inl, inr, true, refl, sym, ap, ◌∙◌}
 use Rattle.std.specs.Prelude.{Ok, Err}
-use Rattle.master_core.specs.master_mending.declared.mending.Mend.{Mend}
-use Rattle.master_core.specs.master_mending.declared.mending.Mend.TheVariants as mend
-use Rattle.master_core.specs.master_mending.Mending.{IsNextMend}
+use Rattle.master_core.specs.master_failover.declared.mending.Mend.{Mend}
+use Rattle.master_core.specs.master_failover.declared.mending.Mend.TheVariants as mend
+use Rattle.master_core.specs.master_failover.Mending.{IsNextMend}
 use Rattle.master_core.specs.master_state.Budget.{may_turn}
 use Rattle.master_core.specs.master_state.Data.{MasterData}
 use Rattle.master.specs.Laws.{StuckHalts}

@@ -1,6 +1,6 @@
 -- What is kept is valid.
 use Rattle.replica.specs.Picture.{FleetState}
-use Rattle.master_core.proofs.failover_clean.KeptFleets.{kept_is_sound, kept_is_covered, kept_is_durable}
+use Rattle.master_core.proofs.log_memory.KeptFleets.{kept_is_sound, kept_is_covered, kept_is_durable}
 use Rattle.master_core.specs.master_state.Data.{MasterData}
 use Rattle.master_core.specs.master_state.Log.{log_of, memory_of}
 use Rattle.master_core.proofs.master_state.Finding.{indexed}

@@ -6,9 +6,9 @@ use Rattle.entry.specs.Bag.{IsAmong}
 use Rattle.entry.proofs.BagLemmas.{among_left, among_last}
 use Rattle.entry.proofs.ListLemmas.{all_among}
 use Rattle.log_head.specs.Log.{head_of}
-use Rattle.log_head.specs.log_model.Data.{ids_of}
-use Rattle.log_head.specs.log_model.Ids.{has}
-use Rattle.master_core.proofs.clean_model.KeptEntries.{has_is, is_has}
+use Rattle.log_head.specs.log_laws.Heads.{ids_of}
+use Rattle.log_head.specs.log_laws.Ids.{has}
+use Rattle.master_core.proofs.log_laws.KeptEntries.{has_is, is_has}
 use Rattle.master_core.specs.master_state.Budget.{victims_of, survivors_of}
 use Rattle.master_core.specs.master_state.Data.{MasterData}
 use Rattle.master_core.specs.master_state.Invariant.{IsCore, IsOpenPass}

@@ -1,7 +1,7 @@
 -- What a master keeps, and one that is loading. What it knows, its memory, and the fleet obey the laws of a log.
 use Rattle.std.specs.Prelude.{◌≡◌, ◌≤◌, ◌⊎◌, map, true, false}
 use Rattle.replica.specs.Picture.{FleetState}
-use Rattle.master_core.specs.failover_clean.Fleet.{KeepsAll, HoldsAll, HoldsLoading}
+use Rattle.master_core.specs.log_memory.Fleet.{KeepsAll, HoldsAll, HoldsLoading}
 use Rattle.master_core.specs.master_state.declared.waiting.Waiting.{Waiting}
 use Rattle.master_core.specs.master_state.Causes.{is_done}
 use Rattle.master_core.specs.master_state.Data.{MasterData}

@@ -1,6 +1,6 @@
 -- What steps keep, whatever they answer. They make at most so many takes.
 use Rattle.std.specs.Prelude.{◌≡◌, ℕ, ◌+◌, ◌≤◌, List, ◌++◌}
-use Rattle.master_core.specs.failover_model.Data.{durable_of}
+use Rattle.master_core.specs.log_laws.Data.{durable_of}
 use Rattle.versioned_map.specs.declared.command.Record.{Record}
 use Rattle.master_core.specs.master_state.Log.{log_of}
 use Rattle.master.specs.World.{World}

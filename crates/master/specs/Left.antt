@@ -5,7 +5,7 @@ use Rattle.master_core.specs.master_state.declared.step.Refusal.TheVariants as r
 use Rattle.master_core.specs.master_state.declared.step.Step.{Step}
 use Rattle.master_core.specs.master_state.declared.step.Step.TheVariants.{Push}
 use Rattle.master_core.specs.master_state.declared.step.StepAnswer.{StepAnswer}
-use Rattle.master_core.specs.master_mending.Left.{left_now}
+use Rattle.master_core.specs.master_failover.Left.{left_now}
 use Rattle.master.specs.World.{World}
 
 -- Each push of a failover that is accepted leaves fewer. No step adds any, but one whose take ended in a fault and

@@ -14,13 +14,12 @@ pub mod Invariant
 pub mod Shown
 pub mod Left
 pub use Rattle.master_core.specs.cleaner
-pub use Rattle.log_head.specs.log_model
-pub use Rattle.master_core.specs.failover_model
-pub use Rattle.master_core.specs.failover_bytes
-pub use Rattle.master_core.specs.failover_clean
+pub use Rattle.log_head.specs.log_laws
+pub use Rattle.master_core.specs.log_bytes
+pub use Rattle.master_core.specs.log_memory
 pub use Rattle.log_head.specs as log_head
 pub use Rattle.master_core.specs.master_state
 pub use Rattle.master_core.specs.master_rolls
 pub use Rattle.master_core.specs.master_space
-pub use Rattle.master_core.specs.master_mending
+pub use Rattle.master_core.specs.master_failover
 pub use Rattle.master_core.specs as master_core

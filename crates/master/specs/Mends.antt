@@ -6,19 +6,20 @@ use Rattle.replica.specs.Op.{OpValue, Open}
 use Rattle.replica.specs.Picture.{FleetState}
 use Rattle.replica.specs.Take.{Takes, Refuses}
 use Rattle.log_head.specs.Head.{IsHeadValue}
-use Rattle.log_head.specs.log_model.Data.{Start}
-use Rattle.master_core.specs.failover_model.Data.{Mode, Opens, Repairs, FailData}
-use Rattle.master_core.specs.failover_model.Shown.{Op}
-use Rattle.master_core.specs.failover_model.Steps.{ended, EndsRoll, mended, NoneIsLost, rolling, with_taken, MayRepair, Extends}
-use Rattle.master_core.specs.failover_model.Steps.{OpensNew, Replaces, Raises, ClosesOld}
-use Rattle.master_core.specs.failover_bytes.Ops.{TakesOp}
-use Rattle.master_core.specs.failover_clean.Steps.{seal_op}
-use Rattle.master_core.specs.master_mending.declared.mending.Mend.{Mend}
-use Rattle.master_core.specs.master_mending.declared.mending.Mend.TheVariants as mend
-use Rattle.master_core.specs.master_mending.declared.mending.Mend.TheVariants.{Turn}
-use Rattle.master_core.specs.master_mending.declared.turning.NewHead.{NewHead}
-use Rattle.master_core.specs.master_mending.declared.turning.NewHead.TheVariants as new_head
-use Rattle.master_core.specs.master_mending.Mending.{IsNextMend, mended_data, segment_for, backup_for, new_text}
+use Rattle.log_head.specs.log_laws.Heads.{Start}
+use Rattle.master_core.specs.log_laws.Data.{Mode, Opens, Repairs, FailData}
+use Rattle.master_core.specs.log_laws.Shown.{Op}
+use Rattle.master_core.specs.log_laws.Steps.{ended, EndsRoll, mended, NoneIsLost, rolling, with_taken, MayRepair}
+use Rattle.master_core.specs.log_laws.Steps.{Extends}
+use Rattle.master_core.specs.log_laws.Steps.{OpensNew, Replaces, Raises, ClosesOld}
+use Rattle.master_core.specs.log_bytes.Ops.{TakesOp}
+use Rattle.master_core.specs.log_memory.Steps.{seal_op}
+use Rattle.master_core.specs.master_failover.declared.mending.Mend.{Mend}
+use Rattle.master_core.specs.master_failover.declared.mending.Mend.TheVariants as mend
+use Rattle.master_core.specs.master_failover.declared.mending.Mend.TheVariants.{Turn}
+use Rattle.master_core.specs.master_failover.declared.turning.NewHead.{NewHead}
+use Rattle.master_core.specs.master_failover.declared.turning.NewHead.TheVariants as new_head
+use Rattle.master_core.specs.master_failover.Mending.{IsNextMend, mended_data, segment_for, backup_for, new_text}
 use Rattle.master_core.specs.master_state.declared.step.Refusal.{Refusal}
 use Rattle.master_core.specs.master_state.declared.step.Refusal.TheVariants as refusal
 use Rattle.master_core.specs.master_state.declared.step.StepAnswer.{StepAnswer}

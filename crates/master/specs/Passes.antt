@@ -1,10 +1,10 @@
 -- The op that a seal or a free hands to a backup.
 use Rattle.std.specs.Prelude.{◌≡◌, ℕ, None, Some}
-use Rattle.master_core.specs.failover_model.Shown.{Op}
-use Rattle.master_core.specs.failover_bytes.Ops.{TakesOp}
-use Rattle.master_core.specs.failover_bytes.Text.{entries_for}
-use Rattle.master_core.specs.failover_clean.Memory.{text_in}
-use Rattle.master_core.specs.failover_clean.Steps.{seal_op, free_op}
+use Rattle.master_core.specs.log_laws.Shown.{Op}
+use Rattle.master_core.specs.log_bytes.Ops.{TakesOp}
+use Rattle.master_core.specs.log_bytes.Text.{entries_for}
+use Rattle.master_core.specs.log_memory.Memory.{text_in}
+use Rattle.master_core.specs.log_memory.Steps.{seal_op, free_op}
 use Rattle.master_core.specs.master_state.declared.ledger.Posting.TheVariants as posting
 use Rattle.master_core.specs.master_state.declared.step.StepAnswer.{StepAnswer}
 use Rattle.master_core.specs.master_state.declared.step.StepAnswer.TheVariants.{Sealed, Freed}

@@ -3,12 +3,12 @@ use Rattle.std.specs.Prelude.{◌≡◌, ◌⊎◌, ℕ, length, true, false, No
 use Rattle.log_head.specs.declared.next.Next.{Next}
 use Rattle.log_head.specs.declared.next.Next.TheVariants as next
 use Rattle.log_head.specs.Head.{IsLagging}
-use Rattle.log_head.specs.log_model.Data.{Start}
-use Rattle.log_head.specs.log_model.Ids.{has}
-use Rattle.master_core.specs.failover_model.Data.{Calm, FailData}
-use Rattle.master_core.specs.failover_model.Shown.{Op, On, Raise}
-use Rattle.master_core.specs.failover_model.Steps.{ended, EndsRoll, Extends, OpensNew, ClosesOld}
-use Rattle.master_core.specs.failover_bytes.Ops.{TakesOp}
+use Rattle.log_head.specs.log_laws.Heads.{Start}
+use Rattle.log_head.specs.log_laws.Ids.{has}
+use Rattle.master_core.specs.log_laws.Data.{Calm, FailData}
+use Rattle.master_core.specs.log_laws.Shown.{Op, On, Raise}
+use Rattle.master_core.specs.log_laws.Steps.{ended, EndsRoll, Extends, OpensNew, ClosesOld}
+use Rattle.master_core.specs.log_bytes.Ops.{TakesOp}
 use Rattle.master_core.specs.master_state.declared.step.StepAnswer.{StepAnswer}
 use Rattle.master_core.specs.master_state.declared.step.StepAnswer.TheVariants.{Opened, Extended, Closed}
 use Rattle.master_core.specs.master_state.Budget.{victims_of}

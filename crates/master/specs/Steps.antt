@@ -1,9 +1,9 @@
 -- What a step makes of a master and its fleet, and what many steps do.
 use Rattle.std.specs.Prelude.{◌≡◌, ◌⊎◌, ℕ, ◌<◌, ◌≤◌, Bool, true, false, List, [], ◌∷◌, Result, Ok, Err, Some, None}
-use Rattle.master_core.specs.failover_model.Data.{FailData, durable_of}
-use Rattle.master_core.specs.failover_model.Shown.{Op}
-use Rattle.master_core.specs.failover_model.Runs.{IsOn}
-use Rattle.master_core.specs.failover_bytes.Ops.{RefusesOp}
+use Rattle.master_core.specs.log_laws.Data.{FailData, durable_of}
+use Rattle.master_core.specs.log_laws.Shown.{Op}
+use Rattle.master_core.specs.log_laws.Runs.{IsOn}
+use Rattle.master_core.specs.log_bytes.Ops.{RefusesOp}
 use Rattle.replica.specs.declared.op.TakeFault.TheVariants as take_fault
 use Rattle.master_core.specs.master_state.declared.step.Refusal.{Refusal}
 use Rattle.master_core.specs.master_state.declared.step.Refusal.TheVariants as refusal
@@ -17,9 +17,9 @@ use Rattle.master_core.specs.master_state.Causes.{seal_refusal, free_refusal}
 use Rattle.master_core.specs.master_state.Log.{log_of}
 use Rattle.master_core.specs.master_state.Budget.{may_turn}
 use Rattle.master_core.specs.master_state.Steps.{Applies, BeginsRoll, Compacts, BeginsPass, Copies, halted, may_lose, lost_data}
-use Rattle.master_core.specs.master_mending.declared.mending.Mend.{Mend}
-use Rattle.master_core.specs.master_mending.declared.mending.Mend.TheVariants as mend
-use Rattle.master_core.specs.master_mending.Mending.{IsNextMend, turned_data}
+use Rattle.master_core.specs.master_failover.declared.mending.Mend.{Mend}
+use Rattle.master_core.specs.master_failover.declared.mending.Mend.TheVariants as mend
+use Rattle.master_core.specs.master_failover.Mending.{IsNextMend, turned_data}
 use Rattle.master.specs.Mends.{IsMendOp, MendsOn}
 use Rattle.master.specs.Keeps.{Keeps}
 use Rattle.master.specs.Passes.{IsSealOp, Seals, IsFreeOp, Frees}

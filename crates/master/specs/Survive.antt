@@ -3,9 +3,9 @@ use Rattle.std.specs.Prelude.{◌≡◌, ◌⊎◌, ℕ, zero, suc, ◌<◌, Lis
 use Rattle.entry.specs.declared.key.Key.{Key}
 use Rattle.replica.specs.Picture.{FleetState}
 use Rattle.replica.specs.Survival.{BothSurvive}
-use Rattle.master_core.specs.failover_model.Data.{IsHome, state_after}
-use Rattle.master_core.specs.failover_bytes.Choice.{newest_opened}
-use Rattle.master_core.specs.failover_clean.Fleet.{shown_for}
+use Rattle.master_core.specs.log_laws.Data.{IsHome, state_after}
+use Rattle.master_core.specs.log_bytes.Choice.{newest_opened}
+use Rattle.master_core.specs.log_memory.Fleet.{shown_for}
 use Rattle.master_core.specs.master_state.Data.{MasterData}
 use Rattle.master_core.specs.master_state.Log.{log_of}
 

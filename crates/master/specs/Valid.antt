@@ -3,12 +3,12 @@ use Rattle.std.specs.Prelude.{◌≡◌, ◌≤◌, ◌⊎◌, ◌↔◌, ℕ, l
 use Rattle.entry.specs.Bag.{IsAmong}
 use Rattle.replica.specs.Picture.{FleetState}
 use Rattle.versioned_map.specs.History.{IsLegal}
-use Rattle.master_core.specs.failover_model.Data.{Mends, durable_of}
-use Rattle.master_core.specs.failover_bytes.Choice.{IsOpenedHead, IsNewestOpenedOrNone, newest_opened}
-use Rattle.master_core.specs.failover_bytes.Sound.{IsSoundInBytes}
-use Rattle.master_core.specs.failover_clean.Covered.{IsCovered}
-use Rattle.master_core.specs.failover_clean.Fleet.{CountsDurable, read_of, shown_for}
-use Rattle.master_core.specs.failover_clean.Memory.{log_ids}
+use Rattle.master_core.specs.log_laws.Data.{Mends, durable_of}
+use Rattle.master_core.specs.log_bytes.Choice.{IsOpenedHead, IsNewestOpenedOrNone, newest_opened}
+use Rattle.master_core.specs.log_bytes.Sound.{IsSoundInBytes}
+use Rattle.master_core.specs.log_memory.Covered.{IsCovered}
+use Rattle.master_core.specs.log_memory.Fleet.{CountsDurable, read_of, shown_for}
+use Rattle.master_core.specs.log_memory.Memory.{log_ids}
 use Rattle.master_core.specs.master_state.Budget.{used_seglets}
 use Rattle.master_core.specs.master_state.Causes.{is_done}
 use Rattle.master_core.specs.master_state.Config.{config_fault}

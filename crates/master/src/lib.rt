@@ -22,6 +22,7 @@ mod mending;
 mod pushing;
 mod retiring;
 mod showing;
+mod tallying;
 
 pub use history::{CommandRef, History, RecordRef, ReplyRef, ValueRef};
 pub use laws::stuck_push_halts;
@@ -30,6 +31,7 @@ pub use master::Master;
 pub use master_core;
 pub use master_core::{
     Config, ConfigFault, Core, KeyHasher, PassFault, Refusal, Secret, Step, StepAnswer, Survivors,
+    Tally,
 };
 pub use segment::{Segment, SegmentFault, read_segment};
 pub use showing::{Look, Shown};

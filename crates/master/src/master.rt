@@ -4,8 +4,8 @@ ghost use Rattle.std.specs.Prelude.{List, ◌⊎◌, ◌≡◌, ◌≤◌, ◌<�
 ghost use Rattle.std.specs.Prelude.{OnOk, OnErr, ◌↔◌, ◌+◌, ◌*◌};
 ghost use Rattle.std.specs.Result.{result_err};
 ghost use Rattle.history.specs.View.{shown_command};
-ghost use Rattle.master_core.specs.failover_model.Data.{durable_of};
-ghost use Rattle.master_core.specs.master_mending.Left.{left_now};
+ghost use Rattle.master_core.specs.log_laws.Data.{durable_of};
+ghost use Rattle.master_core.specs.master_failover.Left.{left_now};
 ghost use Rattle.master_core.specs.master_state.Budget.{most_segments};
 ghost use Rattle.master_core.specs.master_state.Causes.{command_refusal};
 ghost use Rattle.master_core.specs.master_state.Steps.{IsFound, reply_now};
@@ -139,6 +139,13 @@ impl<F: Fleet> Master<F> {
         ensures { result ≡ self.now.knows.live }
     {
         self.core.live
+    }
+
+    /// The configuration.
+    pub fn config(&self) -> &Config
+        ensures { result.now ≡ self.now.knows.config }
+    {
+        &self.core.config
     }
 
     /// The most bytes that puts make of the live objects. `u64::MAX` sets no limit.

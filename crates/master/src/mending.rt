@@ -4,7 +4,7 @@ ghost use Rattle.std.specs.Prelude.{◌≡◌, false, IsSome, IfOk, IfErr};
 ghost use Rattle.images.specs.Images.{AreWithin};
 ghost use Rattle.replica.specs.Picture.{FleetState};
 ghost use Rattle.replica.specs.Take.{Refuses};
-ghost use Rattle.master_core.specs.master_mending.Mending.{IsNextMend, IsOnReplica};
+ghost use Rattle.master_core.specs.master_failover.Mending.{IsNextMend, IsOnReplica};
 ghost use Rattle.master_core.specs.master_state.Budget.{may_turn};
 ghost use Rattle.master.specs.Invariant.{IsServed, StaysServed};
 ghost use Rattle.master.specs.Mends.{answer_for, first_open, OpensFirst, IsNewValid};
@@ -64,6 +64,7 @@ fn turn<F: Fleet>(core: &mut Core, fleet: &mut F) -> Result<StepAnswer, Refusal>
     mark(&mut core.pass, is_commit);
     new.put(&mut core.head, core.config.seglet as usize);
     core.next_id += 1;
+    core.tallies.clear();
     core.ledger = ledger_of_turn(&core.ledger, id);
     if !is_taken {
         core.halt();

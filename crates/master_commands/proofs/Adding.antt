@@ -32,12 +32,12 @@ use Rattle.log_head.specs.Head.{HeadValue, IsHeadValue, is_open, digest_of}
 use Rattle.log_head.specs.Log.{head_of, IsImageOf}
 use Rattle.log_head.proofs.HeadLog.{head_is, image_with_unit}
 use Rattle.log_head.proofs.RollLog.{digest_is}
-use Rattle.log_head.specs.log_model.Data.{Head, ids_of}
-use Rattle.log_head.specs.log_model.Ids.{all_inserted, without}
-use Rattle.log_head.specs.log_model.Log.{AreBelow}
-use Rattle.log_head.specs.log_model.Steps.{with_unit}
-use Rattle.master_state.specs.failover_model.Data.{Calm}
-use Rattle.master_state.specs.failover_model.Steps.{applied}
+use Rattle.log_head.specs.log_laws.Heads.{Head, ids_of}
+use Rattle.log_head.specs.log_laws.Ids.{all_inserted, without}
+use Rattle.log_head.specs.log_laws.Rising.{AreBelow}
+use Rattle.log_head.specs.log_laws.HeadSteps.{with_unit}
+use Rattle.master_state.specs.log_laws.Data.{Calm}
+use Rattle.master_state.specs.log_laws.Steps.{applied}
 use Rattle.master_commands.specs.declared.change.Change.{Change}
 use Rattle.master_state.specs.declared.step.StepAnswer.TheVariants.{Applied}
 use Rattle.images.specs.Images.{count_of}

@@ -4,13 +4,13 @@ use Rattle.std.specs.Prelude.{Option, None, Some, not, nat_le, if◌then◌else�
 use Rattle.std.specs.Option.{option_map_or}
 use Rattle.std.proofs.lemmas.Bool.{le-leb}
 use Rattle.entry.specs.declared.entry.Entry.{Entry}
-use Rattle.master_state.specs.failover_model.Data.{Head as FailHead, Calm, Rolls, Opens, Closes, front_entries}
-use Rattle.master_state.specs.failover_model.Steps.{no_head}
+use Rattle.master_state.specs.log_laws.Data.{Head as FailHead, Calm, Rolls, Opens, Closes, front_entries}
+use Rattle.master_state.specs.log_laws.Steps.{no_head}
 use Rattle.log_head.specs.declared.head.Roll.{Roll}
 use Rattle.log_head.specs.Head.{HeadValue, is_open}
 use Rattle.log_head.specs.Log.{head_of, start_of, settled_head}
-use Rattle.log_head.specs.log_model.Data.{Head}
-use Rattle.log_head.specs.log_model.Steps.{with_unit}
+use Rattle.log_head.specs.log_laws.Heads.{Head}
+use Rattle.log_head.specs.log_laws.HeadSteps.{with_unit}
 use Rattle.master_state.specs.declared.config.Config.{Config}
 use Rattle.master_state.specs.declared.failover.Failover.{Failover}
 use Rattle.master_state.specs.declared.failover.Part.{Part}

@@ -5,3 +5,4 @@ pub mod Adding
 pub mod LoadedCore
 pub mod Found
 pub mod Gets
+pub mod Tallied

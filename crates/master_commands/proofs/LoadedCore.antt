@@ -35,13 +35,13 @@ use Rattle.log_head.specs.Steps.{with_unit_end, settled, with_new_replica, with_
 use Rattle.log_head.proofs.Rolls.{zeros_length}
 use Rattle.log_head.proofs.RollLog.{digest_is}
 use Rattle.log_head.proofs.SettledLog.{settled_is, image_settled}
-use Rattle.master_state.specs.failover_model.Data.{Calm}
-use Rattle.master_state.specs.failover_model.Steps.{adopted}
-use Rattle.master_state.specs.failover_clean.Loading.{with_object}
-use Rattle.log_head.specs.log_model.Data.{Head, fewest, ids_of}
-use Rattle.log_head.specs.log_model.Ids.{all_inserted}
-use Rattle.log_head.specs.log_model.Log.{AreBelow, IsWhole}
-use Rattle.log_head.proofs.log_model.Counts.{fewest_below}
+use Rattle.master_state.specs.log_laws.Data.{Calm}
+use Rattle.master_state.specs.log_laws.Steps.{adopted}
+use Rattle.master_state.specs.log_memory.Loading.{with_object}
+use Rattle.log_head.specs.log_laws.Heads.{Head, fewest, ids_of}
+use Rattle.log_head.specs.log_laws.Ids.{all_inserted}
+use Rattle.log_head.specs.log_laws.Rising.{AreBelow, IsWhole}
+use Rattle.log_head.proofs.log_laws.Counts.{fewest_below}
 use Rattle.versioned_map.specs.declared.command.Record.{Record}
 use Rattle.versioned_map.specs.History.{commands_of, IsLegal}
 use Rattle.versioned_map.specs.Versioned.{State, after, with_contents}

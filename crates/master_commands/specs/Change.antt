@@ -153,6 +153,10 @@ pub record IsJudged (d : MasterData) (command : Command) (change : Change) (dead
   pub lies : dead ≡ dead_segment d command
   pub change_of : IsChangeNow d command change
 
+-- the bytes of what the command's key has
+abbrev pub had_now : MasterData → Command → ℕ
+had_now d command = bytes_of (command_key command) (held_now d command)
+
 -- The hash is that of the key. If the index finds the key, the place is where it finds the key.
 pub record IsSought (d : MasterData) (k : Key) (held : Held) : Type 0 where
   pub hash : held.hash ≡ hash_of d.index.seed k

@@ -8,11 +8,12 @@ ghost use Rattle.master_state.specs.Index.{object_found};
 ghost use Rattle.master_state.specs.Invariant.{IsCore};
 ghost use Rattle.master_state.specs.Steps.{Applies, AppliesAs, MayApplyNow, reply_now, record_now, IsFound};
 ghost use Rattle.master_commands.specs.Change.{IsJudged, IsSought, IsPresent, IsNoGet, RepliesTo, RepliesFound};
-ghost use Rattle.master_commands.specs.Change.{version_in};
+ghost use Rattle.master_commands.specs.Change.{version_in, had_now};
 ghost use Rattle.versioned_map.specs.Command.{command_key};
 ghost use Rattle.versioned_map.specs.declared.command.Command.{Command as CommandValue};
 
 use crate::change::Judged;
+use crate::counting::count;
 use crate::getting::add_get;
 use crate::judging::{judge, weigh};
 use crate::unit::enact;
@@ -110,6 +111,7 @@ fn consider(core: &Core, command: &CommandRef<'_>) -> Result<(Judged, Reply), Re
     ensures passed { IfOk result (λ _. command_refusal core.now (shown_command command.now) ≡ None) }
     ensures judged { IfOk result (λ considered.
         IsJudged core.now (shown_command command.now) considered.0.change considered.0.held.place.segment) }
+    ensures had { IfOk result (λ considered. considered.0.had ≡ had_now core.now (shown_command command.now)) }
     ensures live { IfOk result (λ considered. considered.0.live ≡ live_now core.now (shown_command command.now)) }
     ensures sought { IfOk result (λ considered.
         IsSought core.now (command_key (shown_command command.now)) considered.0.held) }
@@ -133,6 +135,7 @@ fn add(core: &mut Core, accepted: &RecordRef<'_>, judged: &Judged) -> Result<u64
     requires judged { IsJudged core.old (shown_command accepted.now.command) judged.now.change
         judged.now.held.place.segment }
     requires sought { IsSought core.old (command_key (shown_command accepted.now.command)) judged.now.held }
+    requires had { judged.now.had ≡ had_now core.old (shown_command accepted.now.command) }
     requires live { judged.now.live ≡ live_now core.old (shown_command accepted.now.command) }
     requires reply { shown_reply accepted.now.reply ≡ reply_now core.old (shown_command accepted.now.command) }
     ensures added { IfOk result (λ place. AppliesAs core.old
@@ -152,6 +155,8 @@ fn add(core: &mut Core, accepted: &RecordRef<'_>, judged: &Judged) -> Result<u64
         judged,
         core.config.segment as usize,
     )?;
+    let head = core.head.id();
+    count(&mut core.tallies, head, &accepted.command, judged);
     core.safe = judged.change.safe_after(core.safe);
     core.live = judged.live;
     replies_have_one_value();
@@ -172,6 +177,7 @@ fn add_change(
     requires passed { command_refusal core.old (shown_command command.now) ≡ None }
     requires judged { IsJudged core.old (shown_command command.now) judged.now.change judged.now.held.place.segment }
     requires sought { IsSought core.old (command_key (shown_command command.now)) judged.now.held }
+    requires had { judged.now.had ≡ had_now core.old (shown_command command.now) }
     requires live { judged.now.live ≡ live_now core.old (shown_command command.now) }
     requires present { IsPresent core.old (shown_command command.now) judged.now.present judged.now.held.place }
     ensures added { IfOk result (λ place.
@@ -199,6 +205,7 @@ fn add_judged(
     requires passed { command_refusal core.old (shown_command command.now) ≡ None }
     requires judged { IsJudged core.old (shown_command command.now) judged.now.change judged.now.held.place.segment }
     requires sought { IsSought core.old (command_key (shown_command command.now)) judged.now.held }
+    requires had { judged.now.had ≡ had_now core.old (shown_command command.now) }
     requires live { judged.now.live ≡ live_now core.old (shown_command command.now) }
     requires present { IsPresent core.old (shown_command command.now) judged.now.present judged.now.held.place }
     ensures added { IfOk result (λ place.

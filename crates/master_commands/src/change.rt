@@ -40,6 +40,8 @@ pub struct Judged {
     pub held: Held,
     /// The version of the key's object, if there is one.
     pub present: Option<Version>,
+    /// The bytes of the key's object; 0 if there is none.
+    pub had: u64,
     /// The bytes of the live objects once the command is done.
     pub live: u64,
 }

@@ -13,7 +13,7 @@ ghost use Rattle.master_state.specs.Causes.{unit_now};
 ghost use Rattle.master_state.specs.Live.{bytes_of};
 ghost use Rattle.master_state.specs.Index.{segment_at, place_found, object_found};
 ghost use Rattle.master_state.specs.Log.{held_now, find, images_of};
-ghost use Rattle.master_commands.specs.Change.{version_in, IsChangeNow, IsJudged, IsSought, IsPresent};
+ghost use Rattle.master_commands.specs.Change.{version_in, had_now, IsChangeNow, IsJudged, IsSought, IsPresent};
 
 use crate::change::{Change, Judged, change_of, is_longer, is_too_big, segments_for};
 use crate::index::find_object;
@@ -137,6 +137,7 @@ pub(crate) fn judge<'a>(
     ensures passed { IfOk result (λ _. command_refusal core.entry.now (shown_command command.now) ≡ None) }
     ensures judged { IfOk result (λ found.
         IsJudged core.entry.now (shown_command command.now) found.0.change found.0.held.place.segment) }
+    ensures had { IfOk result (λ found. found.0.had ≡ had_now core.entry.now (shown_command command.now)) }
     ensures live { IfOk result (λ found. found.0.live ≡ live_now core.entry.now (shown_command command.now)) }
     ensures sought { IfOk result (λ found.
         IsSought core.entry.now (command_key (shown_command command.now)) found.0.held) }
@@ -151,7 +152,8 @@ pub(crate) fn judge<'a>(
     let Ok(change) = change_of(command, core.safe, version_of(&found)) else {
         return Err(Refusal::VersionsSpent);
     };
-    let live = change.live_after(core.live, bytes_of(command, &found), command);
+    let had = bytes_of(command, &found);
+    let live = change.live_after(core.live, had, command);
     if is_overcommitted(core, live) {
         return Err(Refusal::Overcommit);
     }
@@ -162,6 +164,7 @@ pub(crate) fn judge<'a>(
         change,
         held,
         present: version_of(&found),
+        had,
         live,
     };
     Ok((judged, found))
@@ -172,6 +175,7 @@ pub(crate) fn weigh(core: &Core, command: &CommandRef<'_>) -> Result<Judged, Ref
     ensures passed { IfOk result (λ _. command_refusal core.now (shown_command command.now) ≡ None) }
     ensures judged { IfOk result (λ judged.
         IsJudged core.now (shown_command command.now) judged.change judged.held.place.segment) }
+    ensures had { IfOk result (λ judged. judged.had ≡ had_now core.now (shown_command command.now)) }
     ensures live { IfOk result (λ judged. judged.live ≡ live_now core.now (shown_command command.now)) }
     ensures sought { IfOk result (λ judged.
         IsSought core.now (command_key (shown_command command.now)) judged.held) }

@@ -3,12 +3,13 @@
 //! `Commands::apply` applies a command whole or not at all. It answers what the versioned map replies, and adds the
 //! record to the history and the unit to the head. `Commands::accept` applies a command that the caller keeps, and
 //! returns the place of its record, from which the reply may be read. `Loads::load` adds an object that has its version
-//! already. `specs/Change.antt` says what a command does to its key, and `specs/Index.antt` says what becomes of the
-//! index.
+//! already. `specs/Change.antt` says what a command does to its key, `specs/Index.antt` says what becomes of the index,
+//! and `specs/Counts.antt` says what becomes of the counts of segments.
 #![tactic(auto)]
 
 mod applying;
 mod change;
+mod counting;
 mod getting;
 mod index;
 mod judging;

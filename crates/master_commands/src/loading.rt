@@ -69,13 +69,16 @@ impl Loads for Core {
         ensures err { OnErr result (self.new ≡ self.old) }
     {
         admit_object(self, object)?;
-        let live = self.live.saturating_add(object_len(object) as u64);
+        let len = object_len(object);
+        let live = self.live.saturating_add(len as u64);
         append_object(
             &mut self.head,
             &mut self.index,
             object,
             self.config.segment as usize,
         )?;
+        let head = self.head.id();
+        self.tallies.grow(head, len, 0);
         self.live = live;
         self.loaded = Loaded::with(&self.loaded, object);
         Ok(())

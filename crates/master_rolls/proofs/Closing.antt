@@ -15,19 +15,22 @@ use Rattle.log_head.specs.Head.{HeadValue, IsHeadValue}
 use Rattle.log_head.specs.Log.{head_of}
 use Rattle.log_head.specs.Next.{IsNextPush}
 use Rattle.log_head.specs.Steps.{in_force, with_closed_replica, old_image}
-use Rattle.log_head.specs.log_model.Data.{Start}
+use Rattle.log_head.specs.log_laws.Heads.{Start}
 use Rattle.master_state.specs.declared.failover.Failover.{Failover}
 use Rattle.master_state.specs.declared.failover.Part.TheVariants as part
 use Rattle.master_state.specs.declared.ledger.Posting.{Posting}
 use Rattle.master_state.specs.Data.{MasterData}
 use Rattle.master_state.specs.Images.{with_closed}
-use Rattle.master_state.specs.Invariant.{IsCore, IsFailover, AreWhole}
+use Rattle.master_state.specs.Invariant.{IsCore, IsFailover, AreWhole, AreTallied}
 use Rattle.master_state.specs.Log.{is_opened}
 use Rattle.master_state.specs.Steps.{roll_ended, closed_data, taken_data}
-use Rattle.master_rolls.specs.Ends.{pass_left, closed_left, waiting_left}
+use Rattle.master_rolls.specs.Ends.{pass_left, closed_left, waiting_left, IsCountedOut}
 use Rattle.master_rolls.proofs.RollEnds.{HasFailover, left_as, calm_failover, none_found, old_closed, all_opened}
 use Rattle.master_rolls.proofs.RollEnds.{nothing_loaded}
 use Rattle.master_rolls.proofs.Taken.{closed_core, ended_core, ended_whole}
+use Rattle.master_rolls.proofs.Tallied.{on_tallied, left_tallied, begun_tallied}
+use Rattle.tally.specs.declared.tallies.Tally.{Tally}
+use Rattle.tally.specs.Rows.{WithOne, of_nothing}
 
 -- what the end of a roll leaves, field by field
 pub ended_is : (o : Option Pass) (g : MasterData) → roll_ended o (record g { pass = o })
@@ -145,6 +148,16 @@ module _ (k : MasterData) (core : IsCore k) (r : Roll) (is : k.head.roll ≡ Som
         ended_as k.failover k.abandoned k.ledger
         (calm_failover core_ended calm (whole_then (core.whole calm)) (core.abandoned calm))
 
+    -- what is counted of segments
+    pub ended_tallied : (old new : List Tally) → IsCountedOut k.pass h.id old new → AreTallied k old
+        → AreTallied core_ended new
+    ended_tallied old new counts right =
+        begun_tallied k core r is core_ended head_then counts.rest new
+        (subst (λ (id : ℕ). WithOne (of_nothing id) counts.rest new) (ap (λ (g : HeadValue). g.id) head_then)
+        counts.begun)
+        (subst (λ (g : MasterData). AreTallied g counts.rest) ended_same
+        (left_tallied k core r is k.pass refl old counts.rest counts.left right))
+
     -- a failover goes on with its repairs, or ends, if no replica is lost
     module _ (g : Failover) (fails : k.failover ≡ Some g) (closes : g.part ≡ part.Closes) where
       was : IsFailover k g
@@ -221,6 +234,11 @@ module _ (k : MasterData) (core : IsCore k) (r : Roll) (is : k.head.roll ≡ Som
     pub early_valid : k.failover ≡ None → IsCore (record k { head = h })
     early_valid calm =
         subst IsCore early_taken (closed_core k core r is calm (subst IsHeadValue head_closed valid))
+
+    pub early_tallied : (rows : List Tally) → AreTallied k rows → AreTallied (record k { head = h }) rows
+    early_tallied rows right =
+        subst (λ (g : HeadValue). AreTallied (record k { head = g }) rows) (sym early_head)
+        (on_tallied k core r is (record r { closed = suc r.closed }) refl refl rows right)
 
 -- the roll of a push that closes the old head
 pub closing_roll : (k : MasterData) (push : Next) (j : ℕ) → push ≡ next.CloseOld j → IsNextPush k.head (Some push)

@@ -11,7 +11,7 @@ use Rattle.cleaner.proofs.SurvivorIds.{among_ids}
 use Rattle.cleaner.specs.Seals.{first_lacking}
 use Rattle.cleaner.proofs.Ends.{end_none}
 use Rattle.cleaner.proofs.Lacking.{none_is_lacking}
-use Rattle.master_state.proofs.clean_model.CommitDigest.{all_out, without_from}
+use Rattle.master_state.proofs.log_laws.CommitDigest.{all_out, without_from}
 use Rattle.cleaner.specs.compactor.Places.{LiesAt, object_in, keys_in}
 use Rattle.entry.specs.declared.entry.Entry.{Entry}
 use Rattle.entry.specs.declared.entry.Entry.TheVariants as entry
@@ -32,8 +32,8 @@ use Rattle.log_head.specs.declared.head.Roll.{Roll}
 use Rattle.log_head.specs.Head.{IsHeadValue}
 use Rattle.log_head.specs.Log.{head_of, start_of}
 use Rattle.log_head.specs.Steps.{in_force}
-use Rattle.log_head.specs.log_model.Data.{Head, Start, ids_of}
-use Rattle.log_head.specs.log_model.Ids.{has, all_inserted, without}
+use Rattle.log_head.specs.log_laws.Heads.{Head, Start, ids_of}
+use Rattle.log_head.specs.log_laws.Ids.{has, all_inserted, without}
 use Rattle.master_state.specs.declared.failover.Failover.{Failover}
 use Rattle.master_state.specs.declared.ledger.Posting.{Posting}
 use Rattle.master_state.specs.declared.waiting.Waiting.{Waiting}

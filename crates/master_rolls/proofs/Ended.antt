@@ -5,7 +5,7 @@ use Rattle.std.specs.List.{AllByRecursion}
 use Rattle.std.proofs.lemmas.Bool.{eqb-true}
 use Rattle.images.specs.Image.{Image}
 use Rattle.images.specs.Sorted.{AreRising, without}
-use Rattle.log_head.specs.log_model.Ids.{has}
+use Rattle.log_head.specs.log_laws.Ids.{has}
 use Rattle.master_state.specs.Images.{staying, leaving, waiting_for}
 use Rattle.master_state.proofs.Imaging.{ids_in, same_id, other_id}
 use Rattle.master_state.proofs.Rising.{Rise}

@@ -7,7 +7,7 @@ use Rattle.std.proofs.lemmas.Bool.{eqb-true, ltb-true}
 use Rattle.std.proofs.lemmas.List.Sums.{sum_by-cons}
 use Rattle.images.specs.Image.{Image}
 use Rattle.images.specs.Sorted.{image_of}
-use Rattle.log_head.specs.log_model.Ids.{has, without}
+use Rattle.log_head.specs.log_laws.Ids.{has, without}
 use Rattle.master_state.specs.declared.waiting.Waiting.{Waiting}
 use Rattle.master_state.specs.Images.{staying, leaving}
 use Rattle.master_state.specs.Invariant.{AreApart}

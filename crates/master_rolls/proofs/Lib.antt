@@ -9,6 +9,7 @@ pub mod RollStarts
 pub mod RollLaws
 pub mod Committed
 pub mod Taken
+pub mod Tallied
 pub mod Ended
 pub mod Closing
 pub mod Awaited

@@ -1,9 +1,10 @@
 -- A core stays valid when a roll or a failover begins to open a new head, whatever the new head's digest lists.
 use Rattle.std.proofs.Common.{◌≡◌, inl, inr, ℕ, ◌+◌, ◌<◌, ◌≤◌, Bool, true, false, List, [], ◌∷◌, ◌++◌, length, refl}
 use Rattle.std.proofs.Common.{sym, ap, subst, ◌∙◌, arith}
-use Rattle.std.specs.Prelude.{Option, Some, None, IfSome, ◌==◌, ◌^◌, ◌||◌}
+use Rattle.std.specs.Prelude.{Option, Some, None, IfSome, ◌==◌, ◌^◌, ◌||◌, filter}
 use Rattle.std.specs.Option.{option_map, option_to_list}
 use Rattle.std.proofs.Math.Nat.{mul-div-le}
+use Rattle.std.proofs.lemmas.Bool.{eqb-true}
 use Rattle.std.proofs.lemmas.List.{length-append}
 use Rattle.cleaner.specs.declared.pass.Pass.{Pass}
 use Rattle.cleaner.specs.Passes.{images_in, is_ready as is_ready_pass}
@@ -13,22 +14,23 @@ use Rattle.entry.specs.declared.entry.Entry.{Entry}
 use Rattle.entry.specs.declared.entry.Entry.TheVariants as entry
 use Rattle.entry.specs.declared.key.Key.{Key}
 use Rattle.entry.specs.Bag.{IsAmong}
-use Rattle.entry.specs.Text.{text_of}
+use Rattle.entry.specs.Text.{text_of, is_data}
 use Rattle.images.specs.Sorted.{segment_of}
 use Rattle.log_head.specs.declared.head.Roll.{Roll}
 use Rattle.log_head.specs.Head.{IsHeadValue}
 use Rattle.log_head.specs.Log.{head_of, HasLens}
 use Rattle.log_head.specs.Steps.{fresh_roll}
 use Rattle.log_head.proofs.RollLog.{start_is, opening_is}
-use Rattle.log_head.specs.log_model.Data.{Start, digest_for, start_entries}
-use Rattle.log_head.specs.log_model.Ids.{all_inserted}
-use Rattle.log_head.proofs.log_model.Lengths.{ids_listed}
+use Rattle.log_head.specs.log_laws.Heads.{Start, digest_for, start_entries}
+use Rattle.log_head.specs.log_laws.Ids.{all_inserted}
+use Rattle.log_head.proofs.log_laws.ListedIds.{ids_listed}
 use Rattle.segment.proofs.UnitLemmas.{head_few}
 use Rattle.master_state.specs.declared.failover.Failover.{Failover}
 use Rattle.master_state.specs.declared.ledger.Posting.{Posting}
 use Rattle.master_state.specs.Budget.{most_segments, used_seglets, survivors_of}
 use Rattle.master_state.specs.Data.{MasterData}
 use Rattle.master_state.specs.Invariant.{IsFirst, IsOpenPass, IsCore, IsFailover, IsSpare, NameBelow, listed_now}
+use Rattle.master_state.specs.Invariant.{AreTallied}
 use Rattle.master_state.specs.Log.{images_of, log_set_ids, find, state_now, is_headless}
 use Rattle.master_state.proofs.Finding.{each_among, index_again, index_of}
 use Rattle.master_state.proofs.Imaging.{ids_in, other_id, rolled_grow}
@@ -36,7 +38,10 @@ use Rattle.master_state.proofs.Indexing.{Grow, found_grown}
 use Rattle.master_state.proofs.LogIds.{no_segment, no_next, older_image}
 use Rattle.master_state.proofs.Passing.{Stays, victims_then, survivor_then, rooms_then, victim_below}
 use Rattle.master_state.proofs.Refusals.{sizes_of}
+use Rattle.master_state.proofs.Tallying.{tallied_begun}
 use Rattle.master_rolls.proofs.Placed.{closed_each, no_more}
+use Rattle.tally.specs.declared.tallies.Tally.{Tally}
+use Rattle.tally.specs.Right.{StaysOrBegins}
 
 -- a core that rolls to this head, with so many replicas of the old head closed, and with this pass and failover
 abbrev pub rolls_to : MasterData → Start → ℕ → Option Pass → Option Failover → List Posting → MasterData
@@ -50,18 +55,10 @@ rolls_to d n closed o fo ps = record d {
 
 -- an id more in the log set is none below it
 one_more : (xs : List ℕ) (h next z : ℕ) → z < next
-    → has_id (xs ++ h ∷ option_to_list (Some next)) z ≡ true
-    → has_id (xs ++ h ∷ option_to_list None) z ≡ true
-one_more [] h next z lt is =
-    let away = other_id next z (λ same. omega arith) in
-    rw away at is
-one_more (x ∷ xs) h next z lt is = go (x == z) (one_more xs h next z lt) is where
-  go : (t : Bool) → (has_id (xs ++ h ∷ option_to_list (Some next)) z ≡ true
-      → has_id (xs ++ h ∷ option_to_list None) z ≡ true)
-      → (t || has_id (xs ++ h ∷ option_to_list (Some next)) z) ≡ true
-      → (t || has_id (xs ++ h ∷ option_to_list None) z) ≡ true
-  go true later is = refl
-  go false later is = later is
+    → has_id (xs ++ h ∷ option_to_list (Some next)) z ≡ has_id (xs ++ h ∷ option_to_list None) z
+one_more [] h next z lt =
+    ap (λ (b : Bool). (h == z) || (b || false)) (other_id next z (λ same. omega arith))
+one_more (x ∷ xs) h next z lt = ap (λ (b : Bool). (x == z) || b) (one_more xs h next z lt)
 
 module _ (d : MasterData) (core : IsCore d) (n : Start) (id : n.id ≡ d.next) (has : HasLens n) (closed : ℕ)
     (o : Option Pass) (fo : Option Failover) (ps : List Posting) (none : d.head.roll ≡ None)
@@ -86,11 +83,11 @@ module _ (d : MasterData) (core : IsCore d) (n : Start) (id : n.id ≡ d.next) (
 
   -- ---- an open pass
 
-  covers : (z : ℕ) → z < d.next → has_id (log_set_ids e) z ≡ true → has_id (log_set_ids d) z ≡ true
-  covers z lt has_it =
-      subst (λ (r : Option Roll). has_id (ids_in d.closed ++ d.head.id ∷ option_to_list
-      (option_map (λ (x : Roll). x.id) r)) z ≡ true) (sym none)
-      (one_more (ids_in d.closed) d.head.id n.id z (omega arith) has_it)
+  same_below : (z : ℕ) → z < d.next → has_id (log_set_ids e) z ≡ has_id (log_set_ids d) z
+  same_below z lt =
+      one_more (ids_in d.closed) d.head.id n.id z (omega arith)
+      ∙ ap (λ (r : Option Roll). has_id (ids_in d.closed ++ d.head.id ∷ option_to_list
+      (option_map (λ (x : Roll). x.id) r)) z) (sym none)
 
   stays : (p : Pass) → IsOpenPass d p → Stays d e p
   stays p opens = record {
@@ -105,7 +102,7 @@ module _ (d : MasterData) (core : IsCore d) (n : Start) (id : n.id ≡ d.next) (
         (λ q t m stands. (let lt = victim_below d core p opens q.segment (rest_segment (images_in d.closed) p q m) in
         core.named q.segment t (subst (λ (image : List Entry). IsAmong (entry.Tombstone t) image)
         (sym (older_image d core q.segment lt)) stands)))
-        covers;
+        (λ z lt has_it. sym (same_below z lt) ∙ has_it);
   }
 
   -- it goes on, and the roll of a pass that is ready is its commit
@@ -218,3 +215,22 @@ module _ (d : MasterData) (core : IsCore d) (n : Start) (id : n.id ≡ d.next) (
     index = (let all = index_again d core e.head d.closed grow valid core.segments in
         record { kept = all.kept; lies = all.lies; safe = core.index.safe });
   }
+
+  -- ---- what is counted of segments
+
+  -- the new head's image begins without objects and tombstones
+  stays_or_begins : (s : ℕ) → StaysOrBegins (images_of d s) (images_of e s)
+  stays_or_begins s = go (d.head.id == s) refl (n.id == s) refl where
+    go : (b : Bool) → (d.head.id == s) ≡ b → (c : Bool) → (n.id == s) ≡ c
+        → StaysOrBegins (images_of d s) (images_of e s)
+    go true own_it c there = inl (rw own_it refl)
+    go false other true there =
+        let gone : segment_of d.closed s ≡ None = ap (segment_of d.closed) (sym (eqb-true n.id s there)) ∙ no_new in
+        let was : images_of d s ≡ [] = rw (other, none, gone) refl in
+        let image : images_of e s ≡ roll.image = rw (other, there) refl in
+        inr (was, ap (λ (es : List Entry). filter is_data es) image)
+    go false other false there = inl (rw (other, there, none) refl)
+
+  pub tallied_then : (rows : List Tally) → AreTallied d rows → AreTallied (rolls_to d n closed o fo ps) rows
+  tallied_then rows right =
+      tallied_begun d e rows refl stays_or_begins (λ s t m. same_below t.segment (core.named s t m)) right

@@ -17,8 +17,8 @@ use Rattle.log_head.specs.Head.{digest_of}
 use Rattle.log_head.specs.Log.{head_of, HasLens}
 use Rattle.log_head.specs.Steps.{start_after}
 use Rattle.log_head.proofs.RollLog.{digest_is, start_after_has}
-use Rattle.log_head.specs.log_model.Data.{Start, ids_of}
-use Rattle.log_head.specs.log_model.Ids.{has, all_inserted, without}
+use Rattle.log_head.specs.log_laws.Heads.{Start, ids_of}
+use Rattle.log_head.specs.log_laws.Ids.{has, all_inserted, without}
 use Rattle.master_state.specs.Budget.{victims_of, survivors_of}
 use Rattle.master_state.specs.Data.{MasterData}
 use Rattle.master_state.specs.Invariant.{IsOpenPass, IsCore, listed_now}

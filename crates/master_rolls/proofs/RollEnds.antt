@@ -13,7 +13,7 @@ use Rattle.cleaner.specs.Seals.{first_lacking}
 use Rattle.cleaner.proofs.Lacking.{none_is_lacking}
 use Rattle.cleaner.proofs.Ends.{rest_same, cursor_agrees, rest_segment}
 use Rattle.cleaner.proofs.RoomLaws.{rooms_stay}
-use Rattle.master_state.specs.clean_model.Intact.{BeginAsSurvivor}
+use Rattle.master_state.specs.log_laws.Intact.{BeginAsSurvivor}
 use Rattle.cleaner.specs.compactor.Kept.{has_id}
 use Rattle.cleaner.specs.compactor.Places.{keys_in}
 use Rattle.entry.specs.declared.entry.Entry.{Entry}
@@ -36,11 +36,11 @@ use Rattle.log_head.specs.Steps.{in_force}
 use Rattle.log_head.proofs.Digests.{has_any}
 use Rattle.log_head.proofs.RollLog.{head_in_force, image_in_force}
 use Rattle.log_head.proofs.Rolls.{rolls}
-use Rattle.log_head.specs.log_model.Data.{Start, Head, ids_of}
-use Rattle.log_head.specs.log_model.Ids.{has, inserted, all_inserted}
-use Rattle.log_head.specs.log_model.Log.{AreBelow}
-use Rattle.log_head.specs.log_model.Steps.{new_head}
-use Rattle.log_head.proofs.log_model.Lists.{no_units_length}
+use Rattle.log_head.specs.log_laws.Heads.{Start, Head, ids_of}
+use Rattle.log_head.specs.log_laws.Ids.{has, inserted, all_inserted}
+use Rattle.log_head.specs.log_laws.Rising.{AreBelow}
+use Rattle.log_head.specs.log_laws.HeadSteps.{new_head}
+use Rattle.log_head.proofs.log_laws.IdLists.{no_units_length}
 use Rattle.master_state.specs.declared.failover.Failover.{Failover}
 use Rattle.master_state.specs.declared.ledger.Posting.{Posting}
 use Rattle.master_state.specs.declared.waiting.Waiting.{Waiting}
@@ -341,6 +341,22 @@ module _ (d : MasterData) (core : IsCore d) (r : Roll) (is : d.head.roll ≡ Som
   pub nothing_loaded : (head_of (in_force d.head r)).loaded ≡ []
   nothing_loaded = ap (λ (l : Head). l.loaded) head_then
 
+  -- the log has the same segments
+  pub same_set : (z : ℕ) → has_id (log_set_ids old_closed) z ≡ has_id (log_set_ids d) z
+  same_set z =
+      has_any (log_set_ids old_closed) z
+      ∙ has_more (ids_in old_closed.closed) r.id z
+      ∙ ap (λ (ids : List ℕ). has ids z || (r.id == z))
+      (added_ids (closed_image d.head.id d.head.image d.config.replicas) d.closed)
+      ∙ ap (λ (b : Bool). b || (r.id == z)) (has_put d.head.id (ids_in d.closed) z)
+      ∙ shuffle (d.head.id == z) (has (ids_in d.closed) z) (r.id == z)
+      ∙ ap (λ (b : Bool). b || (r.id == z)) (sym (has_more (ids_in d.closed) d.head.id z))
+      ∙ sym (has_more (ids_in d.closed ++ d.head.id ∷ []) r.id z)
+      ∙ ap (λ (ids : List ℕ). has ids z) (append_assoc (ids_in d.closed) (d.head.id ∷ []) (r.id ∷ []))
+      ∙ ap (λ (n : Option Roll). has (ids_in d.closed ++ d.head.id ∷ option_to_list
+      (option_map (λ (p : Roll). p.id) n)) z) (sym is)
+      ∙ sym (has_any (log_set_ids d) z)
+
   -- ---- whatever becomes of a pass, and of a failover
 
   module _ (cs : List Image) (o : Option Pass) (waits : List Waiting) (x : Option Failover) (gone : List Start)
@@ -405,21 +421,6 @@ module _ (d : MasterData) (core : IsCore d) (r : Roll) (is : d.head.roll ≡ Som
   -- ---- an ordinary roll
 
   module _ (lists : (start_of r).others ≡ ids_of (head_of d.head).start) where
-    same_set : (z : ℕ) → has_id (log_set_ids old_closed) z ≡ has_id (log_set_ids d) z
-    same_set z =
-        has_any (log_set_ids old_closed) z
-        ∙ has_more (ids_in old_closed.closed) r.id z
-        ∙ ap (λ (ids : List ℕ). has ids z || (r.id == z))
-        (added_ids (closed_image d.head.id d.head.image d.config.replicas) d.closed)
-        ∙ ap (λ (b : Bool). b || (r.id == z)) (has_put d.head.id (ids_in d.closed) z)
-        ∙ shuffle (d.head.id == z) (has (ids_in d.closed) z) (r.id == z)
-        ∙ ap (λ (b : Bool). b || (r.id == z)) (sym (has_more (ids_in d.closed) d.head.id z))
-        ∙ sym (has_more (ids_in d.closed ++ d.head.id ∷ []) r.id z)
-        ∙ ap (λ (ids : List ℕ). has ids z) (append_assoc (ids_in d.closed) (d.head.id ∷ []) (r.id ∷ []))
-        ∙ ap (λ (n : Option Roll). has (ids_in d.closed ++ d.head.id ∷ option_to_list
-        (option_map (λ (p : Roll). p.id) n)) z) (sym is)
-        ∙ sym (has_any (log_set_ids d) z)
-
     images_then : images_of old_closed ≡ images_of d
     images_then = λ i s. unwrap_or (closed_images s i) []
 

@@ -6,22 +6,22 @@ use Rattle.std.specs.Option.{option_map_or}
 use Rattle.std.proofs.lemmas.Bool.{le-leb}
 use Rattle.std.proofs.lemmas.Bool.Decides.{nat_tests}
 use Rattle.cleaner.specs.Passes.{images_in}
-use Rattle.master_state.specs.clean_model.Intact.{IsCommit}
-use Rattle.master_state.proofs.clean_model.CommitDigest.{without_stays, without_from, all_out, all_in}
+use Rattle.master_state.specs.log_laws.Intact.{IsCommit}
+use Rattle.master_state.proofs.log_laws.CommitDigest.{without_stays, without_from, all_out, all_in}
 use Rattle.entry.specs.declared.entry.Entry.{Entry}
 use Rattle.entry.specs.Bag.{IsAmong}
 use Rattle.entry.specs.Text.{text_of, len_in, IsSegment}
-use Rattle.master_state.specs.failover_model.Data.{Head as FailHead, Rolls, front}
-use Rattle.master_state.specs.failover_model.Steps.{ids_now, rolling}
-use Rattle.master_state.specs.failover_model.Text.{length_of}
-use Rattle.master_state.proofs.failover_bytes.Texts.{length_is}
+use Rattle.master_state.specs.log_laws.Data.{Head as FailHead, Rolls, front}
+use Rattle.master_state.specs.log_laws.Steps.{ids_now, rolling}
+use Rattle.master_state.specs.log_laws.Text.{length_of}
+use Rattle.master_state.proofs.log_bytes.Texts.{length_is}
 use Rattle.log_head.specs.Head.{HeadValue, IsHeadValue, digest_in, digest_of}
 use Rattle.log_head.specs.Log.{head_of, start_of}
 use Rattle.log_head.specs.Steps.{fresh_roll, with_roll}
 use Rattle.log_head.proofs.RollLog.{digest_is, start_is}
-use Rattle.log_head.specs.log_model.Data.{Start, digest_for, ids_of, len_next, lens_next, start_entries}
-use Rattle.log_head.specs.log_model.Data.{head_entries}
-use Rattle.log_head.specs.log_model.Ids.{has, all_inserted, without}
+use Rattle.log_head.specs.log_laws.Heads.{Start, digest_for, ids_of, len_next, lens_next, start_entries}
+use Rattle.log_head.specs.log_laws.Heads.{head_entries}
+use Rattle.log_head.specs.log_laws.Ids.{has, all_inserted, without}
 use Rattle.master_state.specs.declared.failover.Failover.{Failover}
 use Rattle.master_state.specs.declared.step.StepAnswer.TheVariants.{Rolling as RollingTo}
 use Rattle.master_state.specs.Budget.{victims_of, survivors_of, is_ready}

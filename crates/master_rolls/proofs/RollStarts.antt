@@ -14,8 +14,8 @@ use Rattle.images.proofs.Counts.{within_whole}
 use Rattle.log_head.specs.declared.head.Roll.{Roll}
 use Rattle.log_head.specs.Head.{IsHeadValue, digest_of}
 use Rattle.log_head.specs.Steps.{with_roll}
-use Rattle.log_head.specs.log_model.Ids.{all_inserted, without}
-use Rattle.log_head.proofs.log_model.Lengths.{ids_listed}
+use Rattle.log_head.specs.log_laws.Ids.{all_inserted, without}
+use Rattle.log_head.proofs.log_laws.ListedIds.{ids_listed}
 use Rattle.master_state.specs.declared.failover.Failover.{Failover}
 use Rattle.master_state.specs.Budget.{newest_digest, most_segments, whole_seglets, seglets_of, head_seglets}
 use Rattle.master_state.specs.Budget.{used_seglets, free_seglets}
@@ -24,14 +24,15 @@ use Rattle.master_state.specs.Budget.{may_roll}
 use Rattle.master_state.specs.Budget.{segments_taken, segments_entering, segments_leaving}
 use Rattle.master_state.specs.Causes.{roll_refusal}
 use Rattle.master_state.specs.Data.{MasterData}
-use Rattle.master_state.specs.Invariant.{IsOpenPass, IsSpare, IsCore}
+use Rattle.master_state.specs.Invariant.{IsOpenPass, IsSpare, IsCore, AreTallied}
 use Rattle.master_state.specs.Steps.{start_now}
 use Rattle.master_state.proofs.Calm.{no_failover}
-use Rattle.master_rolls.proofs.NewRolls.{rolls_to, pass_then, roll_core}
+use Rattle.master_rolls.proofs.NewRolls.{rolls_to, pass_then, roll_core, tallied_then}
 use Rattle.master_rolls.proofs.NextIds.{next_ids, next_listed, start_id, start_has, start_others, count_none}
 use Rattle.master_rolls.proofs.NextIds.{count_commit}
 use Rattle.master_state.proofs.LogIds.{open_of}
 use Rattle.master_state.proofs.Refusals.{MayBeginRoll, may_begin, open_parts, sizes_of}
+use Rattle.tally.specs.declared.tallies.Tally.{Tally}
 
 -- ---- the next head
 
@@ -295,3 +296,8 @@ module _ (d : MasterData) (core : IsCore d) (passed : roll_refusal d ≡ None) w
         d.ledger none valid may.ids (start_others d (is_ready d) ∙ next_listed d core d.pass) (survivors_same d)
         (omega arith) (budget_of cases) (pass_of d.pass refl cases) core.first (λ is. is)
         (no_failover d e may.calm)
+
+    pub rolled_tallied : (rows : List Tally) → AreTallied d rows → AreTallied (unposted d) rows
+    rolled_tallied =
+        tallied_then d core (start_now d) (start_id d (is_ready d)) (start_has d (is_ready d)) 0 (pass_now d) d.failover
+        d.ledger none valid

@@ -17,8 +17,8 @@ use Rattle.log_head.specs.Head.{IsHeadValue}
 use Rattle.log_head.specs.Log.{head_of, start_of}
 use Rattle.log_head.specs.Next.{IsNextPush}
 use Rattle.log_head.specs.Steps.{in_force, with_new_replica, with_closed_replica}
-use Rattle.log_head.specs.log_model.Data.{Start, ids_of}
-use Rattle.log_head.specs.log_model.Ids.{has, all_inserted}
+use Rattle.log_head.specs.log_laws.Heads.{Start, ids_of}
+use Rattle.log_head.specs.log_laws.Ids.{has, all_inserted}
 use Rattle.master_state.specs.declared.failover.Failover.{Failover}
 use Rattle.master_state.specs.declared.ledger.Posting.{Posting}
 use Rattle.master_state.specs.Budget.{victims_of, survivors_of, is_committing}

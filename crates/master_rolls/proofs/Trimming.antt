@@ -16,7 +16,7 @@ use Rattle.images.specs.Sorted.{image_of, segment_of, replicas_of, changed}
 use Rattle.images.specs.Steps.{trimmed}
 use Rattle.images.proofs.Counts.{within_whole}
 use Rattle.images.proofs.Replicas.{replicas_mapped}
-use Rattle.log_head.specs.log_model.Ids.{has}
+use Rattle.log_head.specs.log_laws.Ids.{has}
 use Rattle.master_state.specs.Images.{all_trimmed}
 use Rattle.master_state.proofs.Imaging.{same_id, other_id}
 use Rattle.master_state.proofs.Rising.{Rise}

@@ -2,14 +2,15 @@
 
 ghost use Rattle.std.specs.Prelude.{◌≡◌, ◌+◌, ◌≤◌, ◌++◌, ◌&&◌, IfSome, true, length, nat_lt, vec_capacity};
 ghost use Rattle.images.specs.Sorted.{AreRising};
-ghost use Rattle.log_head.specs.log_model.Ids.{has};
-ghost use Rattle.master_rolls.specs.Ends.{pass_left, closed_left, waiting_left};
+ghost use Rattle.log_head.specs.log_laws.Ids.{has};
+ghost use Rattle.master_rolls.specs.Ends.{pass_left, closed_left, waiting_left, IsCountedOut};
 ghost use Rattle.cleaner.specs.Passes.{survivor_ids, AreIds};
 ghost use Rattle.master_state.specs.Images.{staying, leaving, waiting_for, after_pass, all_trimmed};
 
 use cleaner::{Pass, Survivors};
 use images::{Image, Images};
 use master_state::Waiting;
+use tally::Tallies;
 
 /// Ends the open pass at the end of a roll, if the roll was its commit. The images of the victims are dropped, and the
 /// victims' replicas wait to be freed. From then on each survivor's image counts its length instead of a whole segment.
@@ -30,6 +31,19 @@ pub fn end_pass(pass: &mut Option<Pass>, closed: &mut Images, waiting: &mut Vec<
     }
     commit(open, closed, waiting);
     *pass = None;
+}
+
+/// Counts the end of a roll: the new head has neither objects nor tombstones yet, and a commit takes the victims of the
+/// open pass out. The call allocates no memory.
+pub fn count_end(tallies: &mut Tallies, pass: &Option<Pass>, head: u64)
+    ensures { IsCountedOut pass.now head tallies.old tallies.new }
+{
+    if let Some(pass) = pass {
+        if pass.is_committing {
+            tallies.commit(pass.victims.as_slice());
+        }
+    }
+    tallies.begin(head);
 }
 
 /// Drops the victims of a committed pass, lets their replicas wait, and trims the survivors' images.

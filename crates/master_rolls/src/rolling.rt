@@ -15,7 +15,7 @@ ghost use Rattle.master_state.specs.Invariant.{IsCore};
 ghost use Rattle.master_state.specs.Log.{durable_now};
 ghost use Rattle.master_state.specs.Steps.{listed_in, BeginsRoll, MayRollNow, taken_data};
 
-use crate::ending::end_pass;
+use crate::ending::{count_end, end_pass};
 use cleaner::{Pass, Survivors};
 use entry::{Listed, MAX_SEGMENT_ID, NoMemory};
 use images::Images;
@@ -89,6 +89,7 @@ impl Rolls for Core {
             memory,
         )?;
         mark(&mut self.pass, is_commit);
+        self.tallies.reserve(1);
         self.next_id += 1;
         self.post(&Posting::Began(id));
         Ok(StepAnswer::Rolling(id))
@@ -127,6 +128,7 @@ impl Rolls for Core {
                 if let Some(image) = self.head.close_old() {
                     let replicas = self.config.replicas as usize;
                     self.closed.add_closed(id, image, replicas);
+                    count_end(&mut self.tallies, &self.pass, self.head.id());
                     end_pass(&mut self.pass, &mut self.closed, &mut self.waiting);
                 }
             }

@@ -12,11 +12,11 @@ use Rattle.entry.proofs.ListLemmas.{all_among, all_from_among}
 use Rattle.compactor.specs.Kept.{has_id, kept_of}
 use Rattle.images.specs.Image.{Image}
 use Rattle.images.specs.Sorted.{AreRising, segment_of}
-use Rattle.master_state.proofs.clean_model.KeptEntries.{is_has, has_is}
+use Rattle.master_state.proofs.log_laws.KeptEntries.{is_has, has_is}
 use Rattle.log_head.specs.declared.head.Roll.{Roll}
 use Rattle.log_head.specs.Log.{head_of}
 use Rattle.log_head.proofs.RollLog.{digest_is}
-use Rattle.log_head.specs.log_model.Ids.{has, inserted, all_inserted}
+use Rattle.log_head.specs.log_laws.Ids.{has, inserted, all_inserted}
 use Rattle.master_space.specs.declared.candidates.Candidate.{Candidate}
 use Rattle.master_state.specs.Budget.{survivors_of}
 use Rattle.master_state.specs.Causes.{is_head}

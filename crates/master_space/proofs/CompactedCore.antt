@@ -1,9 +1,9 @@
 -- What a core becomes when a segment is compacted: the images, the seglets, and what the index leads to.
-use Rattle.std.proofs.Common.{◌≡◌, ℕ, ◌+◌, ◌≤◌, ◌<◌, Bool, true, false, List, [], ◌∷◌, length, refl, sym, ap, subst}
-use Rattle.std.proofs.Common.{◌∙◌, inl, inr, arith}
+use Rattle.std.proofs.Common.{◌≡◌, ℕ, ◌+◌, ◌≤◌, ◌<◌, Bool, true, false, List, [], ◌∷◌, ◌++◌, length, refl, sym, ap}
+use Rattle.std.proofs.Common.{subst, ◌∙◌, inl, inr, arith}
 use Rattle.std.specs.Prelude.{Option, Some, None, IfSome, IsSome, is_some, unwrap_or, not, ◌==◌, ◌||◌, if◌then◌else◌}
 use Rattle.std.specs.List.{AllByRecursion}
-use Rattle.std.specs.Option.{option_map_or}
+use Rattle.std.specs.Option.{option_map, option_map_or, option_to_list}
 use Rattle.std.proofs.lemmas.Bool.{eqb-true, not-false, or_parts}
 use Rattle.std.proofs.Math.Bool.{or-false}
 use Rattle.cleaner.specs.declared.pass.Pass.{Pass as OpenPass}
@@ -19,8 +19,8 @@ use Rattle.log_head.specs.Head.{digest_of}
 use Rattle.log_head.specs.Log.{head_of}
 use Rattle.log_head.proofs.Digests.{has_any}
 use Rattle.log_head.proofs.RollLog.{digest_is}
-use Rattle.log_head.specs.log_model.Data.{ids_of}
-use Rattle.log_head.specs.log_model.Ids.{has, all_inserted}
+use Rattle.log_head.specs.log_laws.Heads.{ids_of}
+use Rattle.log_head.specs.log_laws.Ids.{has, all_inserted}
 use Rattle.images.specs.Image.{Image}
 use Rattle.images.specs.Images.{AreWithin}
 use Rattle.images.specs.Sorted.{AreRising, segment_of, replicas_of, changed}
@@ -28,13 +28,16 @@ use Rattle.images.specs.Steps.{replaced_by}
 use Rattle.images.proofs.Replicas.{replicas_kept}
 use Rattle.compactor.specs.Kept.{has_id, kept, kept_from}
 use Rattle.compactor.specs.Laws.{compacted_images}
+use Rattle.tally.specs.declared.tallies.Tally.{Tally}
+use Rattle.tally.specs.Rows.{AreRight}
+use Rattle.tally.proofs.Rights.{compact_is_right}
 use Rattle.cleaner.specs.declared.fault.PassFault.TheVariants.{IsHead, NotInLog, PassOpen}
 use Rattle.master_state.specs.declared.step.Refusal.TheVariants.{Pass}
 use Rattle.master_state.specs.Budget.{used_seglets, victims_of, survivors_of}
 use Rattle.master_state.specs.Causes.{is_head, compact_refusal, step_refusal}
 use Rattle.master_state.specs.Data.{MasterData}
 use Rattle.master_state.specs.Images.{new_image_or, images_among}
-use Rattle.master_state.specs.Invariant.{IsCore, IsRollOf, IsOpenPass, NameBelow, IsIndex, AreWhole}
+use Rattle.master_state.specs.Invariant.{IsCore, IsRollOf, IsOpenPass, NameBelow, IsIndex, AreWhole, AreTallied}
 use Rattle.master_state.specs.Log.{images_of, log_set_ids}
 use Rattle.master_state.specs.Steps.{kept_now, compacted_data}
 use Rattle.master_state.proofs.Imaging.{same_id, ids_in}
@@ -210,6 +213,19 @@ module _ (d : MasterData) (core : IsCore d) (id : ℕ) (is : IsAdmitted d id) wh
         let other : id ≡ s → ⊥ = (λ same. (
         let test : (s == id) ≡ true = ap (λ (z : ℕ). z == id) (sym same) ∙ same_id id in cc)) in
         rw away (image_beside s other)
+
+  -- ---- what is counted
+
+  ids_then : log_set_ids (compacted_data d id) ≡ log_set_ids d
+  ids_then =
+      ap (λ (ids : List ℕ). ids ++ d.head.id ∷ option_to_list (option_map (λ (r : Roll). r.id) d.head.roll))
+      (same_ids id (kept_now d id) d.closed)
+
+  pub compacted_tallies : (rows : List Tally) → AreTallied d rows → AreTallied (compacted_data d id) rows
+  compacted_tallies rows right =
+      subst (λ (ids : List ℕ). AreRight ids e.index (images_of e) rows) (sym ids_then)
+      (compact_is_right (log_set_ids d) d.index (images_of d) (images_of e) id rows old_segment image_here
+      (λ s other. image_beside s (λ same. other (sym same))) right)
 
   -- ---- the closed segments
 

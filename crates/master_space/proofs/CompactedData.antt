@@ -17,10 +17,11 @@ use Rattle.compactor.proofs.KeptEntries.{kept_length}
 use Rattle.master_state.specs.declared.step.StepAnswer.TheVariants.{Compacted}
 use Rattle.master_state.specs.Causes.{compact_refusal}
 use Rattle.master_state.specs.Data.{MasterData}
-use Rattle.master_state.specs.Invariant.{IsCore, AreImagesOf}
+use Rattle.master_state.specs.Invariant.{IsCore, AreImagesOf, AreTallied}
 use Rattle.master_state.specs.Log.{images_of, log_set_ids}
 use Rattle.master_state.specs.Steps.{kept_now, compacted_data, Compacts}
-use Rattle.master_space.proofs.CompactedCore.{admitted, old_there, used_less, compacted_core}
+use Rattle.tally.specs.declared.tallies.Tally.{Tally}
+use Rattle.master_space.proofs.CompactedCore.{admitted, old_there, used_less, compacted_core, compacted_tallies}
 use Rattle.master_space.proofs.CompactedIndex.{compacted_index}
 use Rattle.master_space.proofs.CompactedPass.{compacted_pass}
 use Rattle.master_space.proofs.Replacing.{never_full, still_within}
@@ -99,6 +100,12 @@ module _ (d : MasterData) (core : IsCore d) (id : ℕ) (passed : compact_refusal
           let rising = subst AreRising own valid.rising in
           subst IsCore data_is (compacted_core d core id is rising within (compacted_index follows d core id is)
           (compacted_pass follows d core id is (used_less d core id is rising within)))
+
+      pub tallied_then : (rows : List Tally) → AreTallied d rows
+          → AreTallied (record d { closed = then.images; index = index }) rows
+      tallied_then rows right =
+          subst (λ (m : MasterData). AreTallied m rows) data_is
+          (compacted_tallies d core id (admitted d id passed) rows right)
 
       pub room_then : length closed.images < closed.room → length then.images < then.room
       room_then enough =

@@ -1,6 +1,6 @@
 -- A core stays valid when its open pass has treated one more entry.
 use Rattle.std.proofs.Common.{◌≡◌, ℕ, ◌<◌, Bool, true, false, List, [], ◌∷◌, ◌++◌, length, refl, sym, ap, subst, ◌∙◌}
-use Rattle.std.proofs.Common.{◌+◌, ◌≤◌, inl, inr, append_assoc, arith}
+use Rattle.std.proofs.Common.{◌+◌, ◌≤◌, map, inl, inr, append_assoc, arith}
 use Rattle.std.specs.Prelude.{Option, Some, None, IfSome, unwrap_or, ◌==◌, ◌||◌, if◌then◌else◌}
 use Rattle.std.specs.List.{AllByRecursion}
 use Rattle.std.specs.Option.{option_map, option_map_or, option_to_list}
@@ -10,16 +10,16 @@ use Rattle.entry.specs.declared.key.Key.{Key}
 use Rattle.entry.specs.declared.entry.Entry.{Entry}
 use Rattle.entry.specs.declared.entry.Entry.TheVariants as entry
 use Rattle.entry.specs.Bag.{IsAmong}
-use Rattle.entry.specs.Format.{IsEntry}
+use Rattle.entry.specs.Format.{spelling, IsEntry}
 use Rattle.entry.specs.Text.{text_of, is_data, IsSegment}
 use Rattle.entry.proofs.BagLemmas.{among_push}
 use Rattle.entry.proofs.ListLemmas.{all_among}
-use Rattle.master_state.specs.clean_model.Intact.{BeginAsSurvivor, survivor_entries}
+use Rattle.master_state.specs.log_laws.Intact.{BeginAsSurvivor, survivor_entries}
 use Rattle.cleaner.specs.declared.pass.Copied.{Copied}
 use Rattle.cleaner.specs.declared.pass.Pass.{Pass}
 use Rattle.cleaner.specs.KeptLengths.{HasRoomsIn}
 use Rattle.cleaner.specs.Passes.{images_in, survivor_ids, images_with, held_with, copy_place, rest_of, is_at_end}
-use Rattle.cleaner.specs.Passes.{IsPass, CopiesOne}
+use Rattle.cleaner.specs.Passes.{copied_as, level_of, IsPass, CopiesOne}
 use Rattle.cleaner.proofs.Lacking.{copied_replicas}
 use Rattle.cleaner.proofs.Images.{with_other, len_is, is_victim}
 use Rattle.cleaner.proofs.Leaving.{left_rooms}
@@ -32,17 +32,22 @@ use Rattle.images.specs.Image.{Image}
 use Rattle.images.specs.Sorted.{AreRising, IsWhole, segment_of}
 use Rattle.log_head.specs.declared.head.Roll.{Roll}
 use Rattle.log_head.specs.Log.{head_of}
-use Rattle.log_head.specs.log_model.Data.{ids_of}
-use Rattle.log_head.specs.log_model.Ids.{has, all_inserted}
+use Rattle.log_head.specs.log_laws.Heads.{ids_of}
+use Rattle.log_head.specs.log_laws.Ids.{has, all_inserted}
+use Rattle.tally.specs.declared.tallies.Tally.{Tally}
+use Rattle.tally.specs.Rows.{AreRight}
+use Rattle.master_space.specs.Counting.{next_victim, longer, IsCopyCounted}
 use Rattle.master_state.specs.Budget.{victims_of, survivors_of, used_seglets}
 use Rattle.master_state.specs.Data.{MasterData}
 use Rattle.master_state.specs.Images.{images_among, new_image_or}
 use Rattle.master_state.specs.Invariant.{IsCore, IsIndex, IsRollOf, IsSurvivor, IsOpenPass, NameBelow}
-use Rattle.master_state.specs.Invariant.{listed_with}
+use Rattle.master_state.specs.Invariant.{listed_with, AreTallied}
 use Rattle.master_state.specs.Log.{log_set_ids, images_of, find, state_now}
 use Rattle.master_state.proofs.Calm.{no_failover}
 use Rattle.master_space.proofs.CopiedImages.{tail_of, ids_same, segments_then, replicas_then, count_same, own_then}
+use Rattle.master_space.proofs.CopiedLengths.{victim_is, longer_is, counted_by}
 use Rattle.master_space.proofs.CopiedPlaces.{index_treated, found_treated}
+use Rattle.master_space.proofs.CopiedTallies.{copied_right}
 use Rattle.master_state.proofs.Finding.{each_of, each_among, index_of}
 use Rattle.master_state.proofs.Imaging.{same_id, other_id}
 use Rattle.master_state.proofs.Indexing.{Grow}
@@ -166,6 +171,19 @@ module _ (d : MasterData) (core : IsCore d) (p : Pass) (opened : d.pass ≡ Some
           ∙ ap (λ (es : List Entry). length (text_of es)) (sym
           (closed_only d target not_head survivor.not_new d.closed));
     }
+
+    -- ---- what is counted
+
+    pub copied_tallied : (old new : List Tally) → AreTallied d old
+        → IsCopyCounted (copied_as b x) place.segment target (length (spelling x)) old new
+        → AreRight (log_set_ids d) held later new
+    copied_tallied old new right counted =
+        let len = len_is d.closed target
+        ∙ ap (λ (es : List Entry). length (text_of es)) (sym
+        (closed_only d target not_head survivor.not_new d.closed)) in
+        copied_right (log_set_ids d) d.index (images_of d) later grow (each_of d core) each_later
+        (state_now d).contents (index_of d core) place to len (λ s away. other s (other_id s target away)) old new right
+        b x refl of_data stands own counted
 
     -- ---- the core
 
@@ -378,3 +396,50 @@ copied_core d core p q copied closed_after held_after opened more rising calm on
     (subst (λ (y : List Image × List ℕ). IsPass y.1 y.0 q) (λ i. (one.survivor i, seed i)) valid)
     (subst (λ (y : List Image × Places). HasRoomsIn d.config.segment (log_set_ids d) q y.0 y.1)
     (λ i. (one.survivor i, one.index i)) rooms))
+
+-- and its tallies stay right
+module _ (d : MasterData) (core : IsCore d) (p q : Pass) (copied : Copied) (closed_after : List Image)
+    (held_after : Places) (old new : List Tally) (opened : d.pass ≡ Some p) (more : is_at_end p ≡ false)
+    (rising : AreRising d.closed) (calm : d.failover ≡ None)
+    (one : CopiesOne d.config.segment (log_set_ids d) p d.closed d.index copied q closed_after held_after) where
+  is_open : IsOpenPass d p
+  is_open = open_pass d core p opened more rising calm
+
+  abbrev goal_id : ℕ
+  goal_id = p.survivors.first + q.filling
+
+  abbrev is_kept : Bool
+  is_kept = kept (log_set_ids d) d.index one.place one.entry
+
+  member : IsAmong goal_id (survivor_ids p.survivors)
+  member = id_among p.survivors.first p.survivors.count q.filling one.within
+
+  at : q.survivors.first + q.filling ≡ goal_id
+  at = ap (λ (z : Pass). z.survivors.first + q.filling) one.pass
+
+  counted_one : IsCopyCounted copied (next_victim p) (q.survivors.first + q.filling)
+      (longer (level_of p d.closed) (level_of q closed_after)) old new
+      → IsCopyCounted (copied_as is_kept one.entry) one.place.segment goal_id (length (spelling one.entry)) old new
+  counted_one counted =
+      counted_by is_kept one.entry (next_victim p) one.place.segment goal_id
+      (longer (level_of p d.closed) (level_of q closed_after)) (length (spelling one.entry)) old new
+      (victim_is d.index.seed d.closed p is_open.pass more one.place one.later one.first)
+      (longer_is d.config.segment (log_set_ids d) p q d.closed closed_after d.index held_after copied one
+      is_open.rooms.blank (all_among (IsWhole d.closed) (survivor_ids p.survivors) goal_id is_open.pass.whole member))
+      (subst (λ (y : Copied × ℕ). IsCopyCounted y.0 (next_victim p) y.1
+      (longer (level_of p d.closed) (level_of q closed_after)) old new) (λ i. (one.told i, at i)) counted)
+
+  ids_after : log_set_ids d ≡ log_set_ids (record d { closed = closed_after; index = held_after; pass = Some q })
+  ids_after =
+      ap (λ (ids : List ℕ). ids ++ d.head.id ∷ option_to_list (option_map (λ (r : Roll). r.id) d.head.roll))
+      (sym (ids_same d.closed goal_id one.entry is_kept)
+      ∙ ap (λ (cs : List Image). map (λ (c : Image). c.id) cs) (sym one.survivor))
+
+  pub copied_tallies : IsCopyCounted copied (next_victim p) (q.survivors.first + q.filling)
+      (longer (level_of p d.closed) (level_of q closed_after)) old new
+      → AreTallied d old → AreTallied (record d { closed = closed_after; index = held_after; pass = Some q }) new
+  copied_tallies counted right =
+      subst (λ (y : List ℕ × Places × (ℕ → List Entry)). AreRight y.0 y.1 y.2 new)
+      (λ i. (ids_after i, sym one.index i, images_among d.head (sym one.survivor i)))
+      (copied_tallied d core p opened more rising calm goal_id member one.place one.entry one.victim one.stands
+      one.valid one.of_data old new right (counted_one counted))

@@ -18,8 +18,8 @@ use Rattle.images.specs.Image.{Image}
 use Rattle.images.specs.Sorted.{segment_of}
 use Rattle.log_head.specs.declared.head.Roll.{Roll}
 use Rattle.log_head.specs.Log.{start_of}
-use Rattle.log_head.specs.log_model.Data.{start_entries}
-use Rattle.log_head.specs.log_model.Ids.{has}
+use Rattle.log_head.specs.log_laws.Heads.{start_entries}
+use Rattle.log_head.specs.log_laws.Ids.{has}
 use Rattle.compactor.specs.Places.{LiesAt, IsAtPlace}
 use Rattle.master_state.specs.Budget.{survivors_of}
 use Rattle.master_state.specs.Data.{MasterData}

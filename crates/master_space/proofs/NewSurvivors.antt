@@ -9,7 +9,7 @@ use Rattle.std.proofs.lemmas.List.Sums.{sum_by-append}
 use Rattle.entry.specs.Text.{text_of}
 use Rattle.entry.proofs.ListLemmas.{all_weaker}
 use Rattle.segment.proofs.UnitLemmas.{length-survivor}
-use Rattle.master_state.specs.clean_model.Intact.{survivor_entries}
+use Rattle.master_state.specs.log_laws.Intact.{survivor_entries}
 use Rattle.cleaner.proofs.SurvivorIds.{ids_more}
 use Rattle.images.specs.Image.{Image, whole_image}
 use Rattle.images.specs.Images.{ImagesValue, IsImages, count_of, free_seglets}

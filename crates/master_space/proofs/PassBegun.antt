@@ -1,7 +1,7 @@
 -- The parts of a core that stay valid when a pass begins.
 use Rattle.std.proofs.Common.{◌≡◌, ℕ, ◌+◌, ◌<◌, ◌≤◌, Bool, true, false, List, [], ◌∷◌, ◌++◌, map, drop, length, refl}
 use Rattle.std.proofs.Common.{sym, ap, subst, ◌∙◌, arith, inl, inr}
-use Rattle.std.specs.Prelude.{Option, Some, None, IsSome, IsSomeAnd, unwrap_or, ◌==◌, ◌||◌, ◌⊎◌, if◌then◌else◌}
+use Rattle.std.specs.Prelude.{filter, Option, Some, None, IsSome, IsSomeAnd, unwrap_or, ◌==◌, ◌||◌, ◌⊎◌, if◌then◌else◌}
 use Rattle.std.specs.List.{AllByRecursion}
 use Rattle.std.specs.Option.{option_map, option_to_list}
 use Rattle.std.proofs.lemmas.List.{append-nil, map-append}
@@ -11,11 +11,11 @@ use Rattle.entry.specs.declared.entry.Entry.{Entry}
 use Rattle.entry.specs.declared.entry.Entry.TheVariants as entry
 use Rattle.entry.specs.Bag.{IsAmong}
 use Rattle.entry.specs.Format.{IsEntry}
-use Rattle.entry.specs.Text.{text_of, IsSegment}
+use Rattle.entry.specs.Text.{text_of, is_data, IsSegment}
 use Rattle.entry.proofs.ListLemmas.{all_among, all_from_among}
 use Rattle.segment.proofs.UnitLemmas.{length-survivor}
-use Rattle.master_state.specs.clean_model.Intact.{survivor_entries}
-use Rattle.master_state.proofs.clean_model.KeptEntries.{has_is}
+use Rattle.master_state.specs.log_laws.Intact.{survivor_entries}
+use Rattle.master_state.proofs.log_laws.KeptEntries.{has_is}
 use Rattle.cleaner.specs.declared.pass.Cursor.{Cursor}
 use Rattle.cleaner.specs.declared.pass.Pass.{Pass}
 use Rattle.cleaner.specs.KeptLengths.{survivors_over, HasRoomsIn}
@@ -32,11 +32,11 @@ use Rattle.images.specs.Image.{Image}
 use Rattle.images.specs.Images.{AreWithin}
 use Rattle.images.specs.Sorted.{IsWhole, image_of as image_in, segment_of}
 use Rattle.log_head.specs.declared.head.Roll.{Roll}
-use Rattle.log_head.specs.log_model.Ids.{has}
+use Rattle.log_head.specs.log_laws.Ids.{has}
 use Rattle.master_state.specs.Causes.{survivors_for}
 use Rattle.master_state.specs.Data.{MasterData}
 use Rattle.master_state.specs.Images.{survivor_image, survivor_images, new_image_or, images_among}
-use Rattle.master_state.specs.Invariant.{IsCore}
+use Rattle.master_state.specs.Invariant.{IsCore, AreTallied}
 use Rattle.master_state.specs.Log.{log_set_ids, images_of}
 use Rattle.master_state.specs.Steps.{fresh_pass, next_survivors}
 use Rattle.master_state.proofs.Finding.{each_of}
@@ -45,6 +45,11 @@ use Rattle.master_state.proofs.Indexing.{Grow, stands_at}
 use Rattle.master_state.proofs.Passing.{has_among}
 use Rattle.master_state.proofs.Refusals.{sizes_of}
 use Rattle.master_state.proofs.FreeVictims.{IsOlder, MayBegin}
+use Rattle.master_state.proofs.Tallying.{tallied_begun, tallied_more}
+use Rattle.tally.specs.declared.tallies.Tally.{Tally}
+use Rattle.tally.specs.Right.{StaysOrBegins}
+use Rattle.tally.specs.Rows.{of_nothing, IsRight, WithOne}
+use Rattle.master_space.specs.Counting.{WithBegun}
 use Rattle.master_space.proofs.NewImages.{found_behind, found_before, new_found, new_other, new_ids}
 use Rattle.master_state.proofs.PassIds.{others, others_below, images_below, closed_only, head_parts, not_opening_later}
 use Rattle.master_state.proofs.PassIds.{not_head_later, victims_listed, victims_there}
@@ -69,6 +74,10 @@ has_without (x ∷ ids) new more z out = ap (λ (b : Bool). (x == z) || b) (has_
 there_is : (o : Option (List Entry)) → IsSome o → o ≡ Some (unwrap_or o [])
 there_is None some = absurd (cc)
 there_is (Some es) some = refl
+
+one_more : (s : ℕ) → WithOne (of_nothing s) [] (of_nothing s ∷ [])
+one_more s row (inl here) = inr (sym here)
+one_more s row (inr m) = absurd m
 
 module _ (d : MasterData) (core : IsCore d) (victims : List ℕ) (may : MayBegin d victims) where
   -- how many survivors there are, and their ids
@@ -144,6 +153,16 @@ module _ (d : MasterData) (core : IsCore d) (victims : List ℕ) (may : MayBegin
           (sym (images_none s (id_within s m).0)),
     )
     go (inr out) = ([], images_other s out ∙ sym (append-nil (images_of d s)))
+
+  no_data : (s : ℕ) → IsAmong s ids → filter is_data (images_among d.head closed_then s) ≡ []
+  no_data s m = ap (λ (es : List Entry). filter is_data es) (images_new s m)
+
+  -- each image stays, or begins with its header alone
+  each_begins : (s : ℕ) → StaysOrBegins (images_of d s) (images_among d.head closed_then s)
+  each_begins s = go (new_or_not s) where
+    go : IsAmong s ids ⊎ (IsAmong s ids → ⊥) → StaysOrBegins (images_of d s) (images_among d.head closed_then s)
+    go (inl m) = inr (images_none s (id_within s m).0, no_data s m)
+    go (inr out) = inl (images_other s out)
 
   -- ---- victims
 
@@ -222,6 +241,15 @@ module _ (d : MasterData) (core : IsCore d) (victims : List ℕ) (may : MayBegin
         ∙ ap (λ (zs : List ℕ). map (λ (c : Image). c.id) d.closed ++ zs) (new_ids d.config ids))
         ∙ has_without (map (λ (c : Image). c.id) d.closed) ids (d.head.id ∷ option_to_list
         (option_map (λ (r : Roll). r.id) d.head.roll)) z (has_below d.next count z lt)
+
+    pub begun_tallies : (old new : List Tally) → WithBegun ids old new → AreTallied d old → AreTallied e new
+    begun_tallies old new begun right tally m = elim (begun tally m)
+        as (λ _. IsRight (log_set_ids e) d.index (images_of e) tally) [
+          | inl was ↦ tallied_begun d e old refl each_begins
+              (λ s t there. ids_then t.segment (core.named s t there)) right tally was
+          | inr one ↦ tallied_more e one.0 [] (of_nothing one.0 ∷ []) (no_data one.0 one.1) (one_more one.0)
+              (λ other among. absurd among) tally (inl (sym one.2))
+        ]
 
     keeps_no_more : KeepsNoMore (log_set_ids d) (log_set_ids e) d.index d.index (images_in d.closed) row
     keeps_no_more p (entry.Header h) m stands is = refl

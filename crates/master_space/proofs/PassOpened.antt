@@ -18,8 +18,8 @@ use Rattle.entry.specs.Meaning.{object_at}
 use Rattle.entry.specs.Text.{text_of, IsSegment}
 use Rattle.entry.proofs.ListLemmas.{all_among, all_weaker}
 use Rattle.segment.proofs.UnitLemmas.{length-survivor}
-use Rattle.master_state.specs.clean_model.Intact.{survivor_entries}
-use Rattle.master_state.proofs.clean_model.KeptEntries.{has_is}
+use Rattle.master_state.specs.log_laws.Intact.{survivor_entries}
+use Rattle.master_state.proofs.log_laws.KeptEntries.{has_is}
 use Rattle.cleaner.specs.declared.pass.Cursor.{Cursor}
 use Rattle.cleaner.specs.declared.pass.Pass.{Pass}
 use Rattle.cleaner.specs.Passes.{images_in, places_of, rest_of, IsCursorAt}
@@ -28,13 +28,13 @@ use Rattle.places.specs.declared.place.Place.{Place}
 use Rattle.images.specs.Image.{Image}
 use Rattle.images.specs.Sorted.{replicas_of}
 use Rattle.images.specs.Images.{ImagesValue, AreWithin, count_of, free_seglets as free_images}
-use Rattle.master_state.specs.failover_model.Data.{FailData}
-use Rattle.master_state.specs.failover_model.Steps.{id_taken}
-use Rattle.master_state.specs.failover_clean.Steps.{ids_taken, MayBeginClean}
+use Rattle.master_state.specs.log_laws.Data.{FailData}
+use Rattle.master_state.specs.log_laws.Steps.{id_taken}
+use Rattle.master_state.specs.log_memory.Steps.{ids_taken, MayBeginClean}
 use Rattle.log_head.specs.declared.head.Roll.{Roll}
 use Rattle.log_head.specs.Log.{head_of}
-use Rattle.log_head.specs.log_model.Data.{ids_of}
-use Rattle.log_head.specs.log_model.Ids.{has, inserted, all_inserted}
+use Rattle.log_head.specs.log_laws.Heads.{ids_of}
+use Rattle.log_head.specs.log_laws.Ids.{has, inserted, all_inserted}
 use Rattle.master_state.specs.declared.ledger.Posting.TheVariants.{Survivors}
 use Rattle.master_state.specs.declared.step.StepAnswer.TheVariants.{Begun}
 use Rattle.master_state.specs.Budget.{newest_digest, most_segments, whole_seglets, used_seglets, free_seglets}

@@ -12,7 +12,7 @@ use Rattle.cleaner.specs.Passes.{survivor_ids, is_at_end, next_seal as next_seal
 use Rattle.cleaner.specs.Seals.{first_lacking}
 use Rattle.cleaner.proofs.Ends.{pass_agrees}
 use Rattle.cleaner.proofs.Lacking.{lacking_is_one, seal_adds_one}
-use Rattle.master_state.proofs.clean_model.KeptEntries.{has_is}
+use Rattle.master_state.proofs.log_laws.KeptEntries.{has_is}
 use Rattle.entry.specs.declared.entry.Entry.{Entry}
 use Rattle.entry.specs.Bag.{IsAmong}
 use Rattle.entry.specs.Text.{IsSegment}
@@ -29,7 +29,7 @@ use Rattle.master_state.specs.declared.failover.Failover.{Failover}
 use Rattle.master_state.specs.Budget.{survivors_of, used_seglets}
 use Rattle.master_state.specs.Data.{MasterData}
 use Rattle.master_state.specs.Index.{LiesFound}
-use Rattle.master_state.specs.Invariant.{IsCore, IsRollOf, IsOpenPass, IsIndex, IsFailover, NameBelow}
+use Rattle.master_state.specs.Invariant.{IsCore, IsRollOf, IsOpenPass, IsIndex, IsFailover, NameBelow, AreTallied}
 use Rattle.master_state.specs.Log.{images_of, state_now, log_set_ids}
 use Rattle.master_state.specs.Waits.{next_seal}
 use Rattle.master_state.proofs.Imaging.{ids_in, other_id}
@@ -39,6 +39,8 @@ use Rattle.master_state.proofs.Recounts.{IsRecount, one_more, all_mapped, ids_re
 use Rattle.master_state.proofs.Recounts.{images_recounted, whole_recounted, seglets_recounted, among_recounted}
 use Rattle.master_state.proofs.Refusals.{has_homes}
 use Rattle.master_state.proofs.Rising.{Rise}
+use Rattle.master_state.proofs.Tallying.{tallied_alike}
+use Rattle.tally.specs.declared.tallies.Tally.{Tally}
 
 -- The next seal is of a survivor that lacks a replica.
 pub record IsNextSeal (replicas : ℕ) (images : List Image) (p : Pass) (s n : ℕ) : Type 0 where
@@ -301,3 +303,8 @@ module _ (d : MasterData) (core : IsCore d) (p : Pass) (opened : d.pass ≡ Some
     legal = core.legal;
     index = index_then;
   }
+
+  -- what is counted stays right
+  pub sealed_tallies : (rows : List Tally) → AreTallied d rows
+      → AreTallied (record d { closed = changed d.closed s more_replicas }) rows
+  sealed_tallies rows right = tallied_alike d e rows refl (λ z i. images_same i z) ids_then right

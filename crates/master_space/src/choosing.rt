@@ -11,9 +11,10 @@ ghost use Rattle.master_space.specs.Choosing.{next_step, NeedsChoice};
 
 use crate::candidates::{Candidate, rank};
 use crate::compacting::{is_survivor, opening_id};
+use crate::keeping::{fill_with, kept_in};
 use crate::victims::{has_memory_for, has_places_for};
-use cleaner::{Level, MAX_SURVIVORS, MAX_VICTIMS, Pass, fill};
-use compactor::{LogSet, kept_bytes};
+use cleaner::{Level, MAX_SURVIVORS, MAX_VICTIMS, Pass};
+use compactor::LogSet;
 use entry::{NoMemory, Row};
 use master_state::{Core, Step};
 
@@ -112,21 +113,9 @@ fn filled_by(core: &Core, id: u64, level: Level) -> Level
     ensures filled { result ≡ filled_by core.now level id }
     ensures limit { result.len ≤ 2 ^ 24 }
 {
-    let log = LogSet {
-        closed: &core.closed,
-        head: core.head.id(),
-        new: opening_id(&core.head),
-    };
     match core.closed.get(id) {
         None => level,
-        Some(image) => fill(
-            id,
-            &image,
-            &core.index,
-            &log,
-            level,
-            core.config.segment as usize,
-        ),
+        Some(image) => fill_with(core, id, &image, level),
     }
 }
 
@@ -145,7 +134,7 @@ fn best(core: &Core) -> Result<Vec<Candidate>, NoMemory>
         let image = &images[at];
         let id = image.id();
         if !is_survivor(core, id) {
-            let kept = kept_bytes(id, &image.segment(), &core.index, &log);
+            let kept = kept_in(core, id, &image.segment(), &log);
             rank(&mut best, Candidate { id, kept });
         }
     }

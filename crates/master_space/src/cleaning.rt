@@ -3,7 +3,7 @@
 
 ghost use Rattle.std.specs.Prelude.{◌⊎◌, ◌≡◌, ◌<◌, ◌≤◌, ◌==◌, ◌∷◌, ◌++◌, ◌*◌, ◌+◌, [], ℕ, None, Some, length};
 ghost use Rattle.std.specs.Prelude.{IfOk, IfErr, IfSome, OnOk, OnErr, IsSome, is_none, if◌then◌else◌};
-ghost use Rattle.master_state.specs.failover_clean.Steps.{MayBeginClean};
+ghost use Rattle.master_state.specs.log_memory.Steps.{MayBeginClean};
 ghost use Rattle.cleaner.specs.Passes.{survivor_ids, AreIds};
 ghost use Rattle.entry.specs.Bag.{IsAmong};
 ghost use Rattle.entry.specs.Text.{text_of};
@@ -19,8 +19,10 @@ ghost use Rattle.master_state.specs.Steps.{BeginsPass, Copies, copy_answer, seal
 ghost use Rattle.std.specs.List.{AllByRecursion};
 ghost use Rattle.std.specs.Prelude.{vec_capacity};
 ghost use Rattle.master_state.specs.Waits.{next_seal, next_free};
+ghost use Rattle.master_space.specs.Counting.{WithBegun};
 
 use crate::compacting::opening_id;
+use crate::copying::copy_next;
 use crate::victims::admit_pass;
 use cleaner::{Copied, Pass, Survivors};
 use entry::{NoMemory, Row};
@@ -28,6 +30,7 @@ use images::Images;
 use master_state::{Config, Core, Posting, Refusal, StepAnswer, Waiting, image_of};
 use replica::{Act, Op};
 use std::alloc::Global;
+use tally::Tallies;
 
 /// The steps of a pass: it begins, it copies entry by entry, its survivors are sealed, and after its commit the
 /// replicas of its victims are freed.
@@ -93,6 +96,7 @@ impl Cleans for Core {
         add_survivors(&mut self.closed, self.alloc, &self.config, survivors)?;
         let pass = Pass::begin(victims, size.near, survivors, &self.closed, &self.index);
         self.next_id += survivors.count as u64;
+        begin_tallies(&mut self.tallies, survivors);
         self.pass = Some(pass);
         self.post(&Posting::Survivors(survivors.first, survivors.count as u64));
         Ok(StepAnswer::Begun(survivors))
@@ -114,7 +118,14 @@ impl Cleans for Core {
         if pass.is_at_end() {
             return Err(Refusal::Nothing);
         }
-        let copied = pass.copy_one(&mut self.closed, &mut self.index, head, new);
+        let copied = copy_next(
+            pass,
+            &mut self.closed,
+            &mut self.index,
+            &mut self.tallies,
+            head,
+            new,
+        );
         Ok(copy_answer(copied))
     }
 
@@ -228,6 +239,17 @@ fn add_survivors(
     add_survivors(closed, alloc, config, others)?;
     closed.add_image(survivor);
     Ok(())
+}
+
+/// Begins to count the bytes of new survivors. A survivor is left out if there is no memory.
+fn begin_tallies(tallies: &mut Tallies, survivors: Survivors)
+    requires { AreIds survivors }
+    ensures { WithBegun (survivor_ids survivors) tallies.old tallies.new }
+{
+    tallies.reserve(survivors.count);
+    for at in 0..survivors.count {
+        tallies.begin(survivors.id(at));
+    }
 }
 
 /// Returns the answer of the step `copy`, by what became of the entry.

@@ -11,19 +11,22 @@ use Rattle.log_head.specs.Log.{head_of, HasLens, IsImageOf}
 use Rattle.log_head.specs.Steps.{lone_start, fresh_head}
 use Rattle.log_head.proofs.HeadLog.{head_is, image_fresh}
 use Rattle.log_head.proofs.RollLog.{digest_is}
-use Rattle.log_head.specs.log_model.Data.{Head, ids_of, digest_for, start_entries}
-use Rattle.log_head.proofs.log_model.Lengths.{ids_listed}
-use Rattle.log_head.specs.log_model.Log.{AreBelow}
-use Rattle.failover_clean.specs.failover_model.Data.{Calm, Rolls}
-use Rattle.failover_clean.specs.failover_model.Steps.{no_head, restored}
+use Rattle.log_head.specs.log_laws.Heads.{Head, ids_of, digest_for, start_entries}
+use Rattle.log_head.proofs.log_laws.ListedIds.{ids_listed}
+use Rattle.log_head.specs.log_laws.Rising.{AreBelow}
+use Rattle.log_memory.specs.log_laws.Data.{Calm, Rolls}
+use Rattle.log_memory.specs.log_laws.Steps.{no_head, restored}
 use Rattle.master_state.specs.declared.config.Config.{Config}
 use Rattle.master_state.specs.Config.{config_fault}
 use Rattle.master_state.specs.Budget.{most_segments}
-use Rattle.master_state.specs.Invariant.{NameBelow, IsCore}
+use Rattle.master_state.specs.Invariant.{NameBelow, IsCore, AreTallied}
 use Rattle.master_state.specs.Loading.{restored_data}
 use Rattle.master_state.specs.Log.{fail_config, opening_of, log_of, images_of}
 use Rattle.master_state.proofs.Refusals.{has_homes, sizes_of}
+use Rattle.master_state.proofs.Tallying.{none_right, tallied_more}
 use Rattle.segment.proofs.UnitLemmas.{head_few}
+use Rattle.tally.specs.declared.tallies.Tally.{Tally}
+use Rattle.tally.specs.Rows.{WithOne, of_nothing}
 
 -- its digest lists no other segments, nor lengths of them
 pub lone_has : (format safe : ℕ) → HasLens (lone_start 1 format safe)
@@ -128,3 +131,8 @@ module _ (c : Config) (safe : ℕ)
         frozen = 0;
         next = 2;
       }
+
+-- its tally is right: it has neither objects nor tombstones
+pub tallied_first : (c : Config) (safe : ℕ) (rows : List Tally) → WithOne (of_nothing 1) [] rows
+    → AreTallied (restored_data c safe) rows
+tallied_first c safe rows with = tallied_more (restored_data c safe) 1 [] rows refl with (none_right _ _ _ _ refl)

@@ -5,7 +5,7 @@ use Rattle.std.specs.Option.{option_map, option_map_or}
 use Rattle.log_head.specs.declared.head.UnitEnd.{UnitEnd}
 use Rattle.log_head.specs.Head.{everywhere}
 use Rattle.log_head.specs.Log.{units_from}
-use Rattle.log_head.specs.log_model.Data.{records_before}
+use Rattle.log_head.specs.log_laws.Heads.{records_before}
 use Rattle.master_state.specs.Data.{MasterData}
 use Rattle.master_state.specs.Log.{durable_now}
 use Rattle.entry.specs.Text.{text_of}

@@ -16,7 +16,7 @@ use Rattle.cleaner.specs.declared.fitting.PassSize.{PassSize}
 use Rattle.cleaner.specs.declared.pass.Pass.{Pass as OpenPass}
 use Rattle.cleaner.specs.compactor.Kept.{has_id}
 use Rattle.log_head.specs.Head.{digest_of}
-use Rattle.log_head.specs.log_model.Ids.{has}
+use Rattle.log_head.specs.log_laws.Ids.{has}
 use Rattle.master_state.specs.declared.step.Refusal.{Refusal}
 use Rattle.master_state.specs.declared.step.Refusal.TheVariants.{Full, SegmentsSpent, Pass}
 use Rattle.master_state.specs.Budget.{may_clean}

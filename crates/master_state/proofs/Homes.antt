@@ -7,7 +7,7 @@ use Rattle.std.proofs.lemmas.Bool.{eqb-true, eqb-false, lt-ltb}
 use Rattle.std.proofs.lemmas.Bool.Decides.{nat_tests}
 use Rattle.std.proofs.lemmas.Nat.{mod_below}
 use Rattle.std.proofs.Math.Nat.{add-mod_left, mod-eq_of_lt, mod-add-mod}
-use Rattle.log_head.specs.log_model.Ids.{has, without}
+use Rattle.log_head.specs.log_laws.Ids.{has, without}
 use Rattle.master_state.specs.declared.config.Config.{Config}
 use Rattle.master_state.specs.Config.{config_fault}
 use Rattle.master_state.specs.Invariant.{AreApart}

@@ -18,8 +18,9 @@ pub mod Calm
 pub mod FreeVictims
 pub mod PassIds
 pub mod SurvivorLens
+pub mod Tallying
 pub use Rattle.cleaner.proofs as cleaner
-pub use Rattle.failover_clean.proofs.clean_model
-pub use Rattle.failover_clean.proofs.failover_model
-pub use Rattle.failover_clean.proofs.failover_bytes
-pub use Rattle.failover_clean.proofs as failover_clean
+pub use Rattle.tally.proofs as tally
+pub use Rattle.log_memory.proofs.log_laws
+pub use Rattle.log_memory.proofs.log_bytes
+pub use Rattle.log_memory.proofs as log_memory

@@ -24,9 +24,9 @@ use Rattle.log_head.specs.declared.head.Roll.{Roll}
 use Rattle.log_head.specs.Head.{digest_of}
 use Rattle.log_head.specs.Log.{head_of}
 use Rattle.log_head.proofs.RollLog.{digest_is}
-use Rattle.log_head.specs.log_model.Data.{Start, ids_of, digest_for, start_entries}
-use Rattle.log_head.proofs.log_model.Lengths.{ids_listed}
-use Rattle.log_head.specs.log_model.Ids.{has, all_inserted}
+use Rattle.log_head.specs.log_laws.Heads.{Start, ids_of, digest_for, start_entries}
+use Rattle.log_head.proofs.log_laws.ListedIds.{ids_listed}
+use Rattle.log_head.specs.log_laws.Ids.{has, all_inserted}
 use Rattle.master_state.specs.Budget.{newest_digest, survivors_of}
 use Rattle.master_state.specs.Data.{MasterData}
 use Rattle.master_state.specs.Images.{new_image_or}

@@ -31,8 +31,8 @@ use Rattle.log_head.specs.Log.{head_of, start_of}
 use Rattle.log_head.specs.Steps.{counts_without}
 use Rattle.log_head.proofs.HeadLog.{image_lost}
 use Rattle.log_head.proofs.Losses.{lost_valid}
-use Rattle.log_head.specs.log_model.Data.{start_entries}
-use Rattle.log_head.specs.log_model.Ids.{has, all_inserted}
+use Rattle.log_head.specs.log_laws.Heads.{start_entries}
+use Rattle.log_head.specs.log_laws.Ids.{has, all_inserted}
 use Rattle.master_state.specs.declared.config.Config.{Config}
 use Rattle.master_state.specs.declared.failover.Failover.{Failover}
 use Rattle.master_state.specs.declared.waiting.Waiting.{Waiting}

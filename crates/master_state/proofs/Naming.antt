@@ -3,7 +3,7 @@ use Rattle.std.proofs.Common.{◌≡◌, ◌⊎◌, inl, inr, ℕ, ◌<◌, Bool
 use Rattle.std.proofs.Common.{arith}
 use Rattle.std.specs.Prelude.{Option, Some, None, IfSome, unwrap_or, nat_lt, if◌then◌else◌}
 use Rattle.std.proofs.lemmas.Bool.{eqb-true}
-use Rattle.failover_clean.proofs.clean_model.CommitDigest.{all_out}
+use Rattle.log_memory.proofs.log_laws.CommitDigest.{all_out}
 use Rattle.cleaner.specs.declared.pass.Pass.{Pass as OpenPass}
 use Rattle.cleaner.specs.Passes.{survivor_ids}
 use Rattle.entry.specs.declared.key.Key.{Key}
@@ -17,7 +17,7 @@ use Rattle.images.specs.Image.{Image}
 use Rattle.images.specs.Sorted.{segment_of}
 use Rattle.log_head.specs.declared.head.Roll.{Roll}
 use Rattle.log_head.specs.Log.{head_of}
-use Rattle.log_head.specs.log_model.Ids.{inserted, all_inserted}
+use Rattle.log_head.specs.log_laws.Ids.{inserted, all_inserted}
 use Rattle.master_state.specs.Budget.{survivors_of}
 use Rattle.master_state.specs.Data.{MasterData}
 use Rattle.master_state.specs.Images.{new_image_or}

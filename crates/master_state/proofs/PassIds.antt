@@ -11,7 +11,7 @@ use Rattle.entry.specs.declared.entry.Entry.{Entry}
 use Rattle.entry.specs.Bag.{IsAmong}
 use Rattle.entry.proofs.BagLemmas.{among_push}
 use Rattle.entry.proofs.ListLemmas.{all_weaker}
-use Rattle.failover_clean.proofs.clean_model.KeptEntries.{is_has}
+use Rattle.log_memory.proofs.log_laws.KeptEntries.{is_has}
 use Rattle.cleaner.specs.declared.pass.Pass.{Pass}
 use Rattle.cleaner.specs.Passes.{images_in, AreIds}
 use Rattle.cleaner.specs.compactor.Kept.{has_id}
@@ -22,9 +22,9 @@ use Rattle.log_head.specs.declared.head.Roll.{Roll}
 use Rattle.log_head.specs.Head.{digest_of}
 use Rattle.log_head.specs.Log.{head_of, start_of}
 use Rattle.log_head.proofs.RollLog.{digest_is}
-use Rattle.log_head.proofs.log_model.Lengths.{ids_listed}
-use Rattle.log_head.specs.log_model.Data.{ids_of}
-use Rattle.log_head.specs.log_model.Ids.{has, all_inserted}
+use Rattle.log_head.proofs.log_laws.ListedIds.{ids_listed}
+use Rattle.log_head.specs.log_laws.Heads.{ids_of}
+use Rattle.log_head.specs.log_laws.Ids.{has, all_inserted}
 use Rattle.master_state.specs.Budget.{newest_digest, survivors_of}
 use Rattle.master_state.specs.Causes.{is_head}
 use Rattle.master_state.specs.Data.{MasterData}

@@ -11,7 +11,7 @@ use Rattle.cleaner.specs.Passes.{images_in, survivor_ids, rest_of, is_at_end, is
 use Rattle.cleaner.specs.Seals.{first_lacking}
 use Rattle.cleaner.proofs.Ends.{rest_same}
 use Rattle.cleaner.proofs.RoomLaws.{rooms_stay}
-use Rattle.failover_clean.specs.clean_model.Intact.{BeginAsSurvivor}
+use Rattle.log_memory.specs.log_laws.Intact.{BeginAsSurvivor}
 use Rattle.entry.specs.declared.entry.Entry.{Entry}
 use Rattle.entry.specs.declared.key.Key.{Key}
 use Rattle.entry.specs.Bag.{IsAmong}
@@ -22,8 +22,8 @@ use Rattle.images.specs.Image.{Image}
 use Rattle.images.specs.Sorted.{replicas_of}
 use Rattle.log_head.specs.declared.head.Roll.{Roll}
 use Rattle.log_head.specs.Log.{head_of}
-use Rattle.log_head.specs.log_model.Data.{Start, ids_of}
-use Rattle.log_head.specs.log_model.Ids.{has}
+use Rattle.log_head.specs.log_laws.Heads.{Start, ids_of}
+use Rattle.log_head.specs.log_laws.Ids.{has}
 use Rattle.master_state.specs.declared.config.Config.{Config}
 use Rattle.master_state.specs.Budget.{whole_seglets, free_seglets, newest_digest, most_segments}
 use Rattle.master_state.specs.Data.{MasterData}

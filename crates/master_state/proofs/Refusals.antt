@@ -27,7 +27,7 @@ use Rattle.log_head.specs.declared.next.Next.{Next}
 use Rattle.log_head.specs.declared.next.Next.TheVariants as next
 use Rattle.log_head.specs.Head.{HeadValue, is_open}
 use Rattle.log_head.specs.Next.{IsNextPush}
-use Rattle.log_head.specs.log_model.Data.{fewest}
+use Rattle.log_head.specs.log_laws.Heads.{fewest}
 use Rattle.master_state.specs.Log.{state_now}
 use Rattle.master_state.specs.Data.{MasterData}
 use Rattle.log_head.proofs.Heads.{fewest_all, fewest_at}

@@ -6,7 +6,7 @@ use Rattle.std.specs.List.{AllByRecursion, range_with_len}
 use Rattle.std.specs.List.Sorted.{IsStrictlyIncreasing}
 use Rattle.std.proofs.lemmas.Bool.{ltb-true, ltb-false, lt-ltb, le-ltb, eqb-true}
 use Rattle.std.proofs.lemmas.Bool.Decides.{nat_tests}
-use Rattle.log_head.specs.log_model.Ids.{has, inserted, all_inserted, without}
+use Rattle.log_head.specs.log_laws.Ids.{has, inserted, all_inserted, without}
 
 -- each id is below all that come after it
 abbrev pub Rise : List ℕ → Type 0

@@ -8,7 +8,7 @@ use Rattle.std.proofs.lemmas.List.{length-append}
 use Rattle.std.proofs.lemmas.Option.{same_Some}
 use Rattle.cleaner.specs.declared.pass.Pass.{Pass}
 use Rattle.cleaner.specs.Passes.{images_in}
-use Rattle.failover_clean.specs.clean_model.Intact.{BeginAsSurvivor}
+use Rattle.log_memory.specs.log_laws.Intact.{BeginAsSurvivor}
 use Rattle.entry.specs.declared.digest.Listed.{Listed}
 use Rattle.entry.specs.declared.entry.Entry.{Entry}
 use Rattle.entry.specs.declared.entry.Entry.TheVariants.{Header}
@@ -23,7 +23,7 @@ use Rattle.entry.proofs.SpellingLemmas.{length-header}
 use Rattle.images.specs.Image.{Image}
 use Rattle.images.specs.Sorted.{segment_of}
 use Rattle.log_head.specs.declared.head.Roll.{Roll}
-use Rattle.log_head.specs.log_model.Ids.{has}
+use Rattle.log_head.specs.log_laws.Ids.{has}
 use Rattle.master_state.specs.Budget.{survivors_of}
 use Rattle.master_state.specs.Data.{MasterData}
 use Rattle.master_state.specs.Images.{new_image_or}

@@ -18,7 +18,7 @@ use Rattle.versioned_map.specs.declared.command.Command.TheVariants.{Get, Put, D
 use Rattle.versioned_map.specs.Command.{command_key}
 use Rattle.versioned_map.specs.Represents.{unit_of}
 use Rattle.versioned_map.specs.Versioned.{is_spent}
-use Rattle.log_head.specs.log_model.Data.{fewest}
+use Rattle.log_head.specs.log_laws.Heads.{fewest}
 use Rattle.log_head.specs.declared.head.Roll.{Roll}
 use Rattle.log_head.specs.Head.{HeadValue, is_open, digest_of}
 use Rattle.master_state.specs.declared.step.Refusal.{Refusal}

@@ -4,8 +4,8 @@ use Rattle.cleaner.specs.declared.pass.Pass.{Pass}
 use Rattle.entry.specs.declared.entry.Object.{Object}
 use Rattle.images.specs.Image.{Image}
 use Rattle.versioned_map.specs.declared.command.Record.{Record}
-use Rattle.log_head.specs.log_model.Data.{Start}
-use Rattle.log_head.specs.log_model.Steps.{first_start}
+use Rattle.log_head.specs.log_laws.Heads.{Start}
+use Rattle.log_head.specs.log_laws.HeadSteps.{first_start}
 use Rattle.log_head.specs.Head.{HeadValue}
 use Rattle.log_head.specs.Steps.{fresh_head}
 use Rattle.master_state.specs.declared.config.Config.{Config}

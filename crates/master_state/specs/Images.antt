@@ -3,12 +3,12 @@ use Rattle.std.specs.Prelude.{◌==◌, ◌&&◌, ℕ, List, [], map, filter, no
 use Rattle.std.specs.Prelude.{if◌then◌else◌}
 use Rattle.cleaner.specs.declared.pass.Pass.{Pass}
 use Rattle.cleaner.specs.Passes.{survivor_ids}
-use Rattle.failover_clean.specs.clean_model.Intact.{survivor_entries}
+use Rattle.log_memory.specs.log_laws.Intact.{survivor_entries}
 use Rattle.entry.specs.declared.entry.Entry.{Entry}
 use Rattle.images.specs.Image.{Image, closed_image, whole_image}
 use Rattle.images.specs.Sorted.{segment_of, added}
 use Rattle.images.specs.Steps.{trimmed}
-use Rattle.log_head.specs.log_model.Ids.{has}
+use Rattle.log_head.specs.log_laws.Ids.{has}
 use Rattle.master_state.specs.declared.config.Config.{Config}
 use Rattle.master_state.specs.declared.waiting.Waiting.{Waiting}
 use Rattle.log_head.specs.declared.head.Roll.{Roll}

@@ -2,7 +2,7 @@
 use Rattle.std.specs.Prelude.{◌≡◌, ℕ, ◌^◌, ◌+◌, ◌<◌, ◌≤◌, ◌==◌, List, [], ◌∷◌, length, map, true, false, Some, None}
 use Rattle.std.specs.Prelude.{IfSome, IsSome}
 use Rattle.std.specs.Prelude.{if◌then◌else◌}
-use Rattle.failover_clean.specs.clean_model.Intact.{BeginAsSurvivor}
+use Rattle.log_memory.specs.log_laws.Intact.{BeginAsSurvivor}
 use Rattle.cleaner.specs.declared.pass.Pass.{Pass as OpenPass}
 use Rattle.cleaner.specs.declared.survivors.Survivors.{Survivors}
 use Rattle.cleaner.specs.KeptLengths.{HasRoomsIn}
@@ -12,7 +12,7 @@ use Rattle.entry.specs.declared.entry.Tombstone.{Tombstone}
 use Rattle.entry.specs.declared.entry.Entry.{Entry}
 use Rattle.entry.specs.declared.entry.Entry.TheVariants as entry
 use Rattle.entry.specs.Bag.{IsAmong}
-use Rattle.log_head.specs.log_model.Ids.{has, all_inserted, without}
+use Rattle.log_head.specs.log_laws.Ids.{has, all_inserted, without}
 use Rattle.entry.specs.declared.key.Key.{Key}
 use Rattle.std.specs.List.{AllByRecursion}
 use Rattle.entry.specs.Text.{text_of, IsSegment}
@@ -25,8 +25,8 @@ use Rattle.versioned_map.specs.History.{IsLegal}
 use Rattle.log_head.specs.Head.{HeadValue, IsHeadValue, digest_of}
 use Rattle.log_head.specs.declared.head.Roll.{Roll}
 use Rattle.log_head.specs.Log.{head_of, start_of, IsImageOf, IsNewImage}
-use Rattle.log_head.specs.log_model.Data.{ids_of}
-use Rattle.log_head.specs.log_model.Log.{AreBelow}
+use Rattle.log_head.specs.log_laws.Heads.{ids_of}
+use Rattle.log_head.specs.log_laws.Rising.{AreBelow}
 use Rattle.master_state.specs.declared.config.Config.{Config}
 use Rattle.master_state.specs.declared.failover.Failover.{Failover}
 use Rattle.master_state.specs.declared.failover.Part.TheVariants as part
@@ -37,6 +37,8 @@ use Rattle.master_state.specs.Config.{config_fault}
 use Rattle.master_state.specs.Data.{MasterData}
 use Rattle.cleaner.specs.compactor.Places.{keys_in}
 use Rattle.master_state.specs.Index.{LiesFound}
+use Rattle.tally.specs.Rows.{AreRight}
+use Rattle.tally.specs.declared.tallies.Tally.{Tally}
 use Rattle.master_state.specs.Log.{opening_of, is_opened, is_headless, state_now, images_of, find, log_set_ids}
 
 -- The index leads from each key to the object that the versioned map has of it, and from no other key to an object. The
@@ -198,3 +200,7 @@ pub record IsCore (d : MasterData) : Type 0 where
   pub budget : used_seglets d ≤ d.config.seglets
   pub legal : IsLegal (opening_of d) d.history
   pub index : IsIndex d
+
+-- what is counted of segments is right
+abbrev pub AreTallied : MasterData → List Tally → Type 0
+AreTallied d rows = AreRight (log_set_ids d) d.index (images_of d) rows

@@ -1,6 +1,6 @@
 -- What a master's backups answered, as the model of the log counts it.
 use Rattle.std.specs.Prelude.{ℕ, zero, suc, ◌+◌, ◌==◌, List, [], ◌∷◌, Bool, if◌then◌else◌}
-use Rattle.failover_clean.specs.failover_model.Steps.{with_taken, with_count}
+use Rattle.log_memory.specs.log_laws.Steps.{with_taken, with_count}
 use Rattle.master_state.specs.declared.ledger.Posting.{Posting}
 use Rattle.master_state.specs.declared.ledger.Posting.TheVariants as posting
 use Rattle.master_state.specs.Data.{MasterData}

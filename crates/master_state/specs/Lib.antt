@@ -15,7 +15,7 @@ pub mod Loading
 pub mod Sizes
 pub use Rattle.cleaner.specs.compactor
 pub use Rattle.cleaner.specs as cleaner
-pub use Rattle.failover_clean.specs.clean_model
-pub use Rattle.failover_clean.specs.failover_model
-pub use Rattle.failover_clean.specs.failover_bytes
-pub use Rattle.failover_clean.specs as failover_clean
+pub use Rattle.tally.specs as tally
+pub use Rattle.log_memory.specs.log_laws
+pub use Rattle.log_memory.specs.log_bytes
+pub use Rattle.log_memory.specs as log_memory

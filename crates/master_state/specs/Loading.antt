@@ -9,10 +9,10 @@ use Rattle.places.specs.declared.place.Place.{Place}
 use Rattle.log_head.specs.declared.next.Next.{Next}
 use Rattle.log_head.specs.Log.{head_of}
 use Rattle.log_head.specs.Steps.{lone_start, fresh_head, with_unit_end, settled}
-use Rattle.log_head.specs.log_model.Log.{IsWhole}
-use Rattle.failover_clean.specs.failover_model.Data.{Calm}
-use Rattle.failover_clean.specs.failover_model.Steps.{adopted}
-use Rattle.failover_clean.specs.Loading.{with_object, MayLoad}
+use Rattle.log_head.specs.log_laws.Rising.{IsWhole}
+use Rattle.log_memory.specs.log_laws.Data.{Calm}
+use Rattle.log_memory.specs.log_laws.Steps.{adopted}
+use Rattle.log_memory.specs.Loading.{with_object, MayLoad}
 use Rattle.versioned_map.specs.declared.command.Command.TheVariants.{Put}
 use Rattle.versioned_map.specs.declared.command.If.TheVariants.{Any}
 use Rattle.master_state.specs.declared.config.Config.{Config}

@@ -11,14 +11,15 @@ use Rattle.segment.specs.Bytes.{standing_at}
 use Rattle.versioned_map.specs.declared.command.Command.{Command}
 use Rattle.versioned_map.specs.Command.{command_key}
 use Rattle.versioned_map.specs.Versioned.{State}
-use Rattle.log_head.specs.log_model.Data.{records_before}
-use Rattle.failover_clean.specs.clean_model.Memory.{Place as EntryPlace}
-use Rattle.log_head.specs.log_model.Data.{Start}
-use Rattle.log_head.specs.log_model.Ids.{without}
-use Rattle.failover_clean.specs.failover_model.Data.{Head as FailHead, FailConfig, Mode, Calm, Rolls, Mends, Opens, Closes, Repairs}
-use Rattle.failover_clean.specs.failover_model.Data.{FailData, state_of}
-use Rattle.failover_clean.specs.failover_model.Steps.{no_head}
-use Rattle.failover_clean.specs.Memory.{Spot, FailMemory}
+use Rattle.log_head.specs.log_laws.Heads.{records_before}
+use Rattle.log_memory.specs.log_laws.Memory.{Place as EntryPlace}
+use Rattle.log_head.specs.log_laws.Heads.{Start}
+use Rattle.log_head.specs.log_laws.Ids.{without}
+use Rattle.log_memory.specs.log_laws.Data.{Head as FailHead, FailConfig, Mode, Calm, Rolls, Mends, Opens, Closes}
+use Rattle.log_memory.specs.log_laws.Data.{Repairs}
+use Rattle.log_memory.specs.log_laws.Data.{FailData, state_of}
+use Rattle.log_memory.specs.log_laws.Steps.{no_head}
+use Rattle.log_memory.specs.Memory.{Spot, FailMemory}
 use Rattle.log_head.specs.declared.head.Roll.{Roll}
 use Rattle.log_head.specs.Head.{HeadValue, everywhere}
 use Rattle.log_head.specs.Log.{head_of, start_of}

@@ -4,10 +4,10 @@ use Rattle.std.specs.Prelude.{◌≡◌, ◌⊎◌, ℕ, suc, ◌+◌, ◌≤◌
 use Rattle.std.specs.Prelude.{Bool, false, true, not, nat_lt, is_none, is_some, Option, Some, None}
 use Rattle.std.specs.Prelude.{if◌then◌else◌}
 use Rattle.std.specs.Option.{option_map, option_map_or}
-use Rattle.failover_clean.specs.clean_model.Intact.{IsCommit}
-use Rattle.failover_clean.specs.failover_model.Data.{Rolls}
-use Rattle.failover_clean.specs.failover_model.Steps.{applied, MayApply, next_start, rolling}
-use Rattle.failover_clean.specs.Steps.{commit_start, ids_taken}
+use Rattle.log_memory.specs.log_laws.Intact.{IsCommit}
+use Rattle.log_memory.specs.log_laws.Data.{Rolls}
+use Rattle.log_memory.specs.log_laws.Steps.{applied, MayApply, next_start, rolling}
+use Rattle.log_memory.specs.Steps.{commit_start, ids_taken}
 use Rattle.cleaner.specs.declared.pass.Copied.{Copied}
 use Rattle.cleaner.specs.declared.pass.Copied.TheVariants as copied
 use Rattle.cleaner.specs.declared.pass.Cursor.{Cursor}
@@ -32,7 +32,7 @@ use Rattle.log_head.specs.Steps.{with_closed_replica, with_whole_replica, lost}
 use Rattle.log_head.specs.Log.{head_of, start_of}
 use Rattle.log_head.specs.Steps.{old_image, start_after}
 use Rattle.log_head.specs.Next.{replica_of, segment_of}
-use Rattle.log_head.specs.log_model.Data.{Start, start_entries}
+use Rattle.log_head.specs.log_laws.Heads.{Start, start_entries}
 use Rattle.replica.specs.declared.op.TakeFault.{TakeFault}
 use Rattle.replica.specs.declared.op.TakeFault.TheVariants as take_fault
 use Rattle.versioned_map.specs.declared.command.Command.{Command}

@@ -1,7 +1,7 @@
 //! What a master knows of the backups that failed, and of the failover that is open.
 
 ghost use Rattle.std.specs.Prelude.{◌≡◌, ◌<◌, ◌∷◌, [], length, true};
-ghost use Rattle.log_head.specs.log_model.Ids.{has};
+ghost use Rattle.log_head.specs.log_laws.Ids.{has};
 
 use arrayvec::ArrayVec;
 use segment::Segment;

@@ -3,7 +3,7 @@
 ghost use Rattle.std.specs.Prelude.{◌≡◌, List, [], ◌∷◌};
 ghost use Rattle.std.specs.Borrow.{ftrue};
 ghost use Rattle.master_state.specs.declared.ledger.Posting.{Posting as PostingValue};
-ghost use Rattle.log_head.specs.log_model.Data.{Start};
+ghost use Rattle.log_head.specs.log_laws.Heads.{Start};
 ghost use Rattle.master_state.specs.Steps.{new_heads_in};
 
 use log_head::Head;

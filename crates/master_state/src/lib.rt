@@ -5,7 +5,7 @@
 //! invariant. `specs/Log.antt` says which log a core has, `specs/Causes.antt` why a step is refused, and
 //! `specs/Steps.antt` what an accepted step makes of a core.
 //!
-//! The steps themselves are in crates above: `master_commands`, `master_rolls`, `master_space` and `master_mending`.
+//! The steps themselves are in crates above: `master_commands`, `master_rolls`, `master_space` and `master_failover`.
 //! This crate has what they share: how much memory is counted, when a roll may begin, and what a fault leaves.
 #![tactic(auto)]
 

@@ -3,7 +3,7 @@
 ghost use Rattle.std.specs.Prelude.{◌≡◌, ◌+◌, ◌<◌, ◌≤◌, length, map, filter, true, false, None, Some, IfSome};
 ghost use Rattle.std.specs.List.{AllByRecursion};
 ghost use Rattle.images.specs.Images.{ImagesValue};
-ghost use Rattle.log_head.specs.log_model.Ids.{has};
+ghost use Rattle.log_head.specs.log_laws.Ids.{has};
 ghost use Rattle.master_state.specs.Config.{config_fault};
 ghost use Rattle.master_state.specs.Invariant.{IsCore};
 ghost use Rattle.master_state.specs.Log.{working};
@@ -28,8 +28,8 @@ impl Core {
             && self.failed.count() as u64 + self.config.replicas < self.config.backups
     }
 
-    /// Counts this backup as failed and begins a failover. The head of a roll that was under way is abandoned. The call
-    /// takes no memory, so it can't fail.
+    /// Counts this backup as failed and begins a failover. The head of a roll that was under way is abandoned. No
+    /// segment is counted any more. The call takes no memory, so it can't fail.
     pub fn lose(&mut self, backup: u64)
         requires may { may_lose self.old ≡ true }
         requires there { backup < self.old.config.backups }
@@ -51,6 +51,7 @@ impl Core {
         if let Some(pass) = &mut self.pass {
             pass.is_committing = false;
         }
+        self.tallies.clear();
         self.failed.add(backup);
         self.failover = Some(Failover {
             part: Part::Mends,

@@ -1,6 +1,6 @@
 //! What a master knows: how a core begins, what it shows, and what a fault of a take makes of it.
 
-ghost use Rattle.std.specs.Prelude.{◌≡◌, ◌<◌, None, IfOk, OnErr, IsSome};
+ghost use Rattle.std.specs.Prelude.{◌≡◌, ◌<◌, [], None, IfOk, OnErr, IsSome};
 ghost use Rattle.std.specs.Option.{option_map};
 ghost use Rattle.entry.specs.Text.{text_of};
 ghost use Rattle.log_head.specs.Head.{digest_of};
@@ -9,14 +9,15 @@ ghost use Rattle.master_state.specs.Config.{config_fault};
 ghost use Rattle.std.specs.Result.{result_err};
 ghost use Rattle.master_state.specs.Data.{fresh_data};
 ghost use Rattle.master_state.specs.Invariant.{IsCore};
-ghost use Rattle.failover_clean.specs.failover_model.Steps.{restored};
+ghost use Rattle.log_memory.specs.log_laws.Steps.{restored};
 ghost use Rattle.master_state.specs.Loading.{restored_data, IsBare};
 ghost use Rattle.master_state.specs.Log.{fail_config, log_of, durable_now, image_of, home};
 ghost use Rattle.master_state.specs.Steps.{failed_data, refusal_of, halted, backup_of, ledger_after};
 ghost use Rattle.master_state.specs.Ledger.{posted, ended_with};
 ghost use Rattle.log_head.specs.Next.{replica_of, segment_of};
 ghost use Rattle.std.specs.Prelude.{ℕ, suc, ◌==◌, false};
-ghost use Rattle.log_head.specs.log_model.Ids.{has};
+ghost use Rattle.log_head.specs.log_laws.Ids.{has};
+ghost use Rattle.tally.specs.Rows.{WithOne, of_nothing};
 
 use crate::config::Config;
 use crate::failover::{Failed, Failover};
@@ -34,6 +35,7 @@ use log_head::{Head, Next};
 use replica::TakeFault;
 use std::alloc::Global;
 use std::marker::Model;
+use tally::Tallies;
 
 /// What a master knows: its configuration, its images, its index, the safe version, its history, and how far it has
 /// cleaned. The crates above read and change the fields, and have to leave a core that has the invariant.
@@ -74,12 +76,14 @@ pub struct Core {
     pub abandoned: Abandoned,
     /// The bytes of the live objects. `u64::MAX` stands for as many or more.
     pub live: u64,
+    /// How many bytes of each segment are kept. No contract of a step speaks of it: it only spares look-ups.
+    pub tallies: Tallies,
 }
 
 impl Model for Core {
     ghost use Rattle.std.specs.Prelude.{◌≡◌, ◌+◌, ◌<◌, ◌≤◌, IsSome, IfSome, true, length, vec_capacity};
     ghost use Rattle.master_state.specs.Data.{MasterData};
-    ghost use Rattle.master_state.specs.Invariant.{IsCore, AreImagesOf};
+    ghost use Rattle.master_state.specs.Invariant.{AreImagesOf, AreTallied, IsCore};
 
     ghost Value = { MasterData };
 
@@ -103,7 +107,7 @@ impl Model for Core {
     } };
 
     // While a roll is under way, `closed` has room for one more segment. While a pass commits, `waiting` has room for
-    // its victims.
+    // its victims. What is counted of segments is right.
     ghost invariant = { λ m. (IsSome m.head.roll → length m.closed.images < m.closed.room)
         × AreImagesOf m.config m.closed × IsCore (record {
           config = m.config;
@@ -124,7 +128,25 @@ impl Model for Core {
           live = m.live;
         })
         × IfSome m.pass (λ p. p.is_committing ≡ true
-        → length m.waiting.items + length p.victims ≤ vec_capacity m.waiting) };
+        → length m.waiting.items + length p.victims ≤ vec_capacity m.waiting)
+        × AreTallied (record {
+          config = m.config;
+          head = m.head;
+          closed = m.closed.images;
+          next = m.next_id;
+          index = m.index.held;
+          safe = m.safe;
+          history = m.history.records;
+          pass = m.pass;
+          waiting = m.waiting.items;
+          failed = m.failed;
+          failover = m.failover;
+          is_halted = m.is_halted;
+          origin = record { objects = m.loaded.objects; safe = m.first_safe };
+          ledger = m.ledger.postings;
+          abandoned = m.abandoned.heads;
+          live = m.live;
+        }) m.tallies };
 }
 
 impl Core {
@@ -182,6 +204,7 @@ impl Core {
             ledger: Ledger::empty(),
             abandoned: Abandoned::none(),
             live: 0,
+            tallies: first_tallies(alloc),
         };
         core.show_valid();
         Ok(core)
@@ -409,4 +432,14 @@ impl Core {
         let bytes = Vec::from_slice(self.alloc, image.bytes())?;
         Ok(Some(Row::new(bytes)))
     }
+}
+
+/// What is counted of the first head, which has neither objects nor tombstones.
+fn first_tallies(alloc: Global) -> Tallies
+    ensures { WithOne (of_nothing 1) [] result }
+{
+    let mut tallies = Tallies::new(alloc);
+    tallies.reserve(1);
+    tallies.begin(1);
+    tallies
 }

@@ -4,14 +4,14 @@ use Rattle.backup.specs.State.{fleet_state}
 use Rattle.replica.specs.declared.op.TakeFault.{TakeFault}
 use Rattle.replica.specs.declared.op.TakeFault.TheVariants as take_fault
 use Rattle.replica.specs.Picture.{FleetState}
-use Rattle.node.specs.master.master_state.Data.{MasterData}
-use Rattle.node.specs.master.master_state.Steps.{halted}
-use Rattle.node.specs.master.Valid.{IsValid}
-use Rattle.node.specs.master.World.{retired_data}
-use Rattle.node.specs.declared.node.Node.{Node}
-use Rattle.node.specs.declared.node.Node.TheVariants.{Up, Down, Changing}
-use Rattle.node.specs.Lives.{Left, left_now}
-use Rattle.node.specs.Served.{IsOf, IsLeftOf}
+use Rattle.cluster.specs.master.master_state.Data.{MasterData}
+use Rattle.cluster.specs.master.master_state.Steps.{halted}
+use Rattle.cluster.specs.master.Valid.{IsValid}
+use Rattle.cluster.specs.master.World.{retired_data}
+use Rattle.cluster.specs.declared.node.Node.{Node}
+use Rattle.cluster.specs.declared.node.Node.TheVariants.{Up, Down, Changing}
+use Rattle.cluster.specs.Lives.{Left, left_now}
+use Rattle.cluster.specs.Served.{IsOf, IsLeftOf}
 
 valid_halted : (d : MasterData) (f : FleetState) → IsValid (halted d) f → IsValid d f
 valid_halted d f valid = record {

@@ -5,32 +5,32 @@ use Rattle.std.specs.Option.{option_map}
 use Rattle.backup.specs.State.{fleet_state}
 use Rattle.backup.specs.declared.fleet.MemoryFleet.{MemoryFleet}
 use Rattle.command_line.specs.declared.settings.Options.{Options}
-use Rattle.node.specs.master.Registry.{AreUnraisedAbove}
-use Rattle.node.specs.master.World.{MasterValue, World, world}
-use Rattle.node.specs.master.master_state.declared.config.Config.{Config}
-use Rattle.node.specs.master.master_state.Data.{MasterData}
-use Rattle.node.specs.recovery.declared.recovery.RecoveryFault.TheVariants as fault
-use Rattle.node.specs.recovery.Succession.{IsSuccessor}
-use Rattle.node.specs.recovery.recovery_plan.declared.fault.PlanFault.TheVariants as plan_fault
-use Rattle.node.specs.replay.claims.declared.rebuilt.Rebuilt.{Rebuilt}
-use Rattle.node.specs.replay.Adopting.{IsAdopted, IsAdoptedOn}
+use Rattle.cluster.specs.master.Registry.{AreUnraisedAbove}
+use Rattle.cluster.specs.master.World.{MasterValue, World, world}
+use Rattle.cluster.specs.master.master_state.declared.config.Config.{Config}
+use Rattle.cluster.specs.master.master_state.Data.{MasterData}
+use Rattle.cluster.specs.recovery.declared.recovery.RecoveryFault.TheVariants as fault
+use Rattle.cluster.specs.recovery.Succession.{IsSuccessor}
+use Rattle.cluster.specs.recovery.recovery_plan.declared.fault.PlanFault.TheVariants as plan_fault
+use Rattle.cluster.specs.replay.claims.declared.rebuilt.Rebuilt.{Rebuilt}
+use Rattle.cluster.specs.replay.Adopting.{IsAdopted, IsAdoptedOn}
 use Rattle.replica.specs.declared.op.TakeFault.{TakeFault}
 use Rattle.replica.specs.Picture.{FleetState}
 use Rattle.replica.specs.Retire.{Retires}
 use Rattle.replica.specs.Take.{limited, no_limit}
 use Rattle.replica.proofs.Retiring.{retire_spares}
-use Rattle.node.specs.answers.declared.answer.Answer.{Answer}
-use Rattle.node.specs.answers.declared.answer.Answer.TheVariants as answer
-use Rattle.node.specs.declared.node.Node.{Node}
-use Rattle.node.specs.declared.node.Node.TheVariants.{Up, Down, Changing}
+use Rattle.cluster.specs.answers.declared.answer.Answer.{Answer}
+use Rattle.cluster.specs.answers.declared.answer.Answer.TheVariants as answer
+use Rattle.cluster.specs.declared.node.Node.{Node}
+use Rattle.cluster.specs.declared.node.Node.TheVariants.{Up, Down, Changing}
 use Rattle.next_master.specs.Configuration.{config_of}
 use Rattle.next_master.specs.Recoveries.{Asked, Ends, EndsFreeing, FindsNothing, Frees, HasNoOther, IsDownOn}
 use Rattle.next_master.specs.Recoveries.{IsTakenOver, MakesLimit, StandsAfter, adopted_answer, after_answer}
 use Rattle.next_master.specs.Recoveries.{fault_answer}
-use Rattle.node.specs.Lives.{Left, Position}
-use Rattle.node.specs.Served.{IsNodeAt, IsOf, fleet_of, is_up}
-use Rattle.node.proofs.LeastHeads.{IsUnraisedAbove, in_world, unraised_more, with_fleet}
-use Rattle.node.proofs.of_recovery.Following.{adopted_still}
+use Rattle.cluster.specs.Lives.{Left, Position}
+use Rattle.cluster.specs.Served.{IsNodeAt, IsOf, fleet_of, is_up}
+use Rattle.cluster.proofs.LeastHeads.{IsUnraisedAbove, in_world, unraised_more, with_fleet}
+use Rattle.cluster.proofs.of_recovery.Following.{adopted_still}
 use Rattle.next_master.proofs.Retired.{others_gone, retire_keeps_end, spent_retire}
 
 -- ---- where a node stands

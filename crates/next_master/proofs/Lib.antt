@@ -6,5 +6,5 @@ pub mod HowItEnds
 pub mod NextConfig
 pub mod WhatIsNeeded
 pub mod NextLife
-pub use Rattle.node.proofs.of_driving
-pub use Rattle.node.proofs as of_node
+pub use Rattle.cluster.proofs.of_driving
+pub use Rattle.cluster.proofs as of_cluster

@@ -5,19 +5,22 @@ use Rattle.std.proofs.lemmas.Bool.{le-leb, eq-eqb, ne_eqb}
 use Rattle.command_line.specs.declared.settings.Options.{Options}
 use Rattle.entry.specs.Format.{is_within}
 use Rattle.packing.specs.Limits.{is_limit}
-use Rattle.node.specs.master.master_state.declared.config.Config.{Config}
-use Rattle.node.specs.master.master_state.declared.config.ConfigFault.{ConfigFault}
-use Rattle.node.specs.master.master_state.declared.config.ConfigFault.TheVariants.{BadBackups, BadStep, BadSegment, BadSeglet}
-use Rattle.node.specs.master.master_state.declared.config.ConfigFault.TheVariants.{BadBudget, BadTablets, BadHistory, BadFormat}
-use Rattle.node.specs.master.master_state.declared.config.ConfigFault.TheVariants.{BadLive}
-use Rattle.node.specs.master.master_state.Config.{config_fault, has_backups, has_budget, has_format, has_history, has_live}
-use Rattle.node.specs.master.master_state.Config.{has_seglet, has_segment, has_step, has_tablets}
-use Rattle.node.specs.master.master_state.Config.{sizes_of as sizes_of_config}
-use Rattle.node.proofs.of_master.master_state.Refusals.{sizes_of}
+use Rattle.cluster.specs.master.master_state.declared.config.Config.{Config}
+use Rattle.cluster.specs.master.master_state.declared.config.ConfigFault.{ConfigFault}
+use Rattle.cluster.specs.master.master_state.declared.config.ConfigFault.TheVariants.{BadBackups, BadStep, BadSegment}
+use Rattle.cluster.specs.master.master_state.declared.config.ConfigFault.TheVariants.{BadSeglet}
+use Rattle.cluster.specs.master.master_state.declared.config.ConfigFault.TheVariants.{BadBudget, BadTablets, BadHistory}
+use Rattle.cluster.specs.master.master_state.declared.config.ConfigFault.TheVariants.{BadFormat}
+use Rattle.cluster.specs.master.master_state.declared.config.ConfigFault.TheVariants.{BadLive}
+use Rattle.cluster.specs.master.master_state.Config.{config_fault, has_backups, has_budget, has_format, has_history}
+use Rattle.cluster.specs.master.master_state.Config.{has_live}
+use Rattle.cluster.specs.master.master_state.Config.{has_seglet, has_segment, has_step, has_tablets}
+use Rattle.cluster.specs.master.master_state.Config.{sizes_of as sizes_of_config}
+use Rattle.cluster.proofs.of_master.master_state.Refusals.{sizes_of}
 use Rattle.next_master.specs.Configuration.{config_of, later_format, later_options, later_seglets, AreSizes}
 use Rattle.next_master.specs.Configuration.{MayBegin}
 use Rattle.next_master.specs.declared.later.Later.{Later}
-use Rattle.node.specs.Told.{IsNextConfig}
+use Rattle.cluster.specs.Told.{IsNextConfig}
 
 -- of the same format or of format 2, with any seglets, and otherwise of the same options
 pub next_config_is : (later : Later) (options : Options) (master : ℕ) (config : Config)

@@ -10,36 +10,36 @@ use Rattle.command_line.specs.declared.settings.Options.{Options}
 use Rattle.entry.specs.Bag.{IsAmong}
 use Rattle.lines.specs.Grammar.{Recover}
 use Rattle.lines.specs.declared.line.ReplayOrder.{ReplayOrder}
-use Rattle.node.specs.replay.claims.declared.rebuilt.Rebuilt.{Rebuilt}
+use Rattle.cluster.specs.replay.claims.declared.rebuilt.Rebuilt.{Rebuilt}
 use Rattle.replica.specs.declared.holding.Holding.{Holding}
 use Rattle.replica.specs.declared.op.TakeFault.{TakeFault}
 use Rattle.replica.specs.declared.op.TakeFault.TheVariants as take_fault
 use Rattle.replica.specs.Picture.{Replica, Picture, FleetState, AreHeld}
 use Rattle.versioned_map.specs.declared.command.Record.{Record}
-use Rattle.node.specs.master.Valid.{IsValid}
-use Rattle.node.specs.master.World.{MasterValue, World, world}
-use Rattle.node.specs.master.master_state.declared.config.Config.{Config}
-use Rattle.node.specs.master.master_state.declared.step.Refusal.{Refusal}
-use Rattle.node.specs.master.master_state.declared.step.Refusal.TheVariants as refusal
-use Rattle.node.specs.master.master_state.Data.{MasterData}
-use Rattle.node.specs.answers.declared.answer.Answer.{Answer}
-use Rattle.node.specs.answers.declared.answer.Answer.TheVariants as answer
-use Rattle.node.specs.declared.node.Node.{Node}
-use Rattle.node.specs.declared.node.Node.TheVariants.{Up, Down}
-use Rattle.node.specs.replay.Adopting.{IsAdopted, IsAdoptedOn}
+use Rattle.cluster.specs.master.Valid.{IsValid}
+use Rattle.cluster.specs.master.World.{MasterValue, World, world}
+use Rattle.cluster.specs.master.master_state.declared.config.Config.{Config}
+use Rattle.cluster.specs.master.master_state.declared.step.Refusal.{Refusal}
+use Rattle.cluster.specs.master.master_state.declared.step.Refusal.TheVariants as refusal
+use Rattle.cluster.specs.master.master_state.Data.{MasterData}
+use Rattle.cluster.specs.answers.declared.answer.Answer.{Answer}
+use Rattle.cluster.specs.answers.declared.answer.Answer.TheVariants as answer
+use Rattle.cluster.specs.declared.node.Node.{Node}
+use Rattle.cluster.specs.declared.node.Node.TheVariants.{Up, Down}
+use Rattle.cluster.specs.replay.Adopting.{IsAdopted, IsAdoptedOn}
 use Rattle.next_master.specs.Configuration.{config_of, later_options}
-use Rattle.node.specs.Lives.{life_to, HasLived, Left, left_now, Position}
+use Rattle.cluster.specs.Lives.{life_to, HasLived, Left, left_now, Position}
 use Rattle.next_master.specs.Numbers.{greatest_of}
 use Rattle.next_master.specs.Recoveries.{Adopts, BeginsNext, EndsFreeing, Frees, HasNoOther, IsCut, IsDeclined}
 use Rattle.next_master.specs.Recoveries.{IsDownOn, IsFoundIn, RetiresOthers, after_answer, fault_answer, standing_of}
-use Rattle.node.specs.replay.driving.Served.{IsSpent}
-use Rattle.node.specs.Served.{AnswersLine, IsLeftOf, IsNodeAt, IsOf, Refuses, fleet_of, life_of, refusal_answer}
+use Rattle.cluster.specs.replay.driving.Served.{IsSpent}
+use Rattle.cluster.specs.Served.{AnswersLine, IsLeftOf, IsNodeAt, IsOf, Refuses, fleet_of, life_of, refusal_answer}
 use Rattle.next_master.specs.Succession.{EndsRecovery}
-use Rattle.node.specs.Told.{HoldsLeft, IsUnadopted, Tells}
+use Rattle.cluster.specs.Told.{HoldsLeft, IsUnadopted, Tells}
 use Rattle.next_master.specs.declared.later.Later.{Later}
 use Rattle.next_master.proofs.NextConfig.{next_config_is}
 use Rattle.next_master.proofs.HowItEnds.{after_backups, after_least, after_picture, down_final, fleet_held}
-use Rattle.node.proofs.Standing.{legal_of}
+use Rattle.cluster.proofs.Standing.{legal_of}
 
 -- ---- numbers
 

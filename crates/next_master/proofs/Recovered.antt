@@ -11,38 +11,38 @@ use Rattle.lines.specs.declared.line.ReplayOrder.TheVariants.{Forward, Reverse, 
 use Rattle.entry.specs.declared.entry.Entry.{Entry}
 use Rattle.entry.specs.Bag.{IsAmong}
 use Rattle.entry.specs.Meaning.{IsMeaning, among, contents_of}
-use Rattle.node.specs.replay.claims.declared.rebuilt.Rebuilt.{Rebuilt}
+use Rattle.cluster.specs.replay.claims.declared.rebuilt.Rebuilt.{Rebuilt}
 use Rattle.replica.specs.declared.holding.Holding.{Holding}
 use Rattle.replica.specs.Picture.{FleetState, Shown, left_on, survivors, IsHeld, AreHeld}
 use Rattle.replica.specs.Choice.{IsShownChoice}
 use Rattle.replica.specs.Survival.{IsHomeLeft, HeadSurvives, BothSurvive}
-use Rattle.node.specs.recovery.recovery_plan.declared.fault.PlanFault.TheVariants as plan_fault
-use Rattle.node.specs.master.log_model.Ids.{has}
-use Rattle.node.specs.master.failover_model.Data.{IsHome}
-use Rattle.node.proofs.of_master.failover_model.Lists.{without_has}
-use Rattle.node.specs.master.failover_bytes.Choice.{IsOpenedHead, IsNewestOpenedOrNone, newest_opened}
-use Rattle.node.specs.master.failover_bytes.Sound.{IsSoundInBytes}
-use Rattle.node.specs.master.master_state.declared.config.Config.{Config}
-use Rattle.node.specs.master.master_state.Data.{MasterData}
-use Rattle.node.specs.master.master_state.Log.{log_of, opening_of}
-use Rattle.node.specs.recovery.Orders.{Covers, NamesGroups}
-use Rattle.node.specs.replay.rebuilding.declared.order.GroupOrder.{GroupOrder}
+use Rattle.cluster.specs.recovery.recovery_plan.declared.fault.PlanFault.TheVariants as plan_fault
+use Rattle.cluster.specs.master.log_laws.Ids.{has}
+use Rattle.cluster.specs.master.log_laws.Data.{IsHome}
+use Rattle.cluster.proofs.of_master.log_laws.Lists.{without_has}
+use Rattle.cluster.specs.master.log_bytes.Choice.{IsOpenedHead, IsNewestOpenedOrNone, newest_opened}
+use Rattle.cluster.specs.master.log_bytes.Sound.{IsSoundInBytes}
+use Rattle.cluster.specs.master.master_state.declared.config.Config.{Config}
+use Rattle.cluster.specs.master.master_state.Data.{MasterData}
+use Rattle.cluster.specs.master.master_state.Log.{log_of, opening_of}
+use Rattle.cluster.specs.recovery.Orders.{Covers, NamesGroups}
+use Rattle.cluster.specs.replay.rebuilding.declared.order.GroupOrder.{GroupOrder}
 use Rattle.tablet_will.specs.declared.part.Part.{Part}
-use Rattle.node.specs.recovery.Headline.{IsLoss, IsMapAfter, IsNoMemory}
-use Rattle.node.specs.recovery.Recovered.{Shows, IsRecovered, IsRebuiltFrom, IsRefusedFrom, IsSomeLoss, IsSomePrefix}
-use Rattle.node.specs.recovery.recovery_plan.Planned.{IsPlanFault, NamesLoss}
-use Rattle.node.specs.recovery.declared.recovery.RecoveryFault.{RecoveryFault}
-use Rattle.node.specs.recovery.declared.recovery.RecoveryFault.TheVariants as fault
-use Rattle.node.proofs.of_recovery.Choices.{bag-of-plan, surviving-choice}
-use Rattle.node.proofs.of_recovery.Counting.{orders_name}
-use Rattle.node.specs.answers.declared.answer.Answer.TheVariants as answer
-use Rattle.node.specs.declared.node.Node.{Node}
-use Rattle.node.specs.declared.node.Node.TheVariants.{Down}
+use Rattle.cluster.specs.recovery.Headline.{IsLoss, IsMapAfter, IsNoMemory}
+use Rattle.cluster.specs.recovery.Recovered.{Shows, IsRecovered, IsRebuiltFrom, IsRefusedFrom, IsSomeLoss, IsSomePrefix}
+use Rattle.cluster.specs.recovery.recovery_plan.Planned.{IsPlanFault, NamesLoss}
+use Rattle.cluster.specs.recovery.declared.recovery.RecoveryFault.{RecoveryFault}
+use Rattle.cluster.specs.recovery.declared.recovery.RecoveryFault.TheVariants as fault
+use Rattle.cluster.proofs.of_recovery.Choices.{bag-of-plan, surviving-choice}
+use Rattle.cluster.proofs.of_recovery.Counting.{orders_name}
+use Rattle.cluster.specs.answers.declared.answer.Answer.TheVariants as answer
+use Rattle.cluster.specs.declared.node.Node.{Node}
+use Rattle.cluster.specs.declared.node.Node.TheVariants.{Down}
 use Rattle.next_master.specs.Recoveries.{order_named}
-use Rattle.node.specs.Lives.{Left, is_left, IsHomeOf, Position}
-use Rattle.node.specs.Served.{IsLeftOf, IsNodeAt, life_of}
-use Rattle.node.specs.Told.{AsksTable, IsRecoveredAt, IsFoundAt, NamesLossOf, Tells}
-use Rattle.node.proofs.WhatIsLeft.{held_of_left, left_at}
+use Rattle.cluster.specs.Lives.{Left, is_left, IsHomeOf, Position}
+use Rattle.cluster.specs.Served.{IsLeftOf, IsNodeAt, life_of}
+use Rattle.cluster.specs.Told.{AsksTable, IsRecoveredAt, IsFoundAt, NamesLossOf, Tells}
+use Rattle.cluster.proofs.WhatIsLeft.{held_of_left, left_at}
 
 -- the inventory of what is left of a picture shows it
 pub shows_left : (hs : List Holding) (d : MasterData) (l : Left) (f : FleetState) (master : ℕ)

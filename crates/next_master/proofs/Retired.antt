@@ -12,7 +12,7 @@ use Rattle.replica.specs.Picture.{Replica, FleetState, is_same_place, with_repli
 use Rattle.replica.specs.Take.{effect, with_effect, Takes, Refuses}
 use Rattle.replica.specs.Retire.{freeing, TakesEach, Retires}
 use Rattle.next_master.specs.Recoveries.{HasNoOther}
-use Rattle.node.specs.replay.driving.Served.{IsSpent}
+use Rattle.cluster.specs.replay.driving.Served.{IsSpent}
 
 -- ---- one replica
 

@@ -5,16 +5,16 @@ use Rattle.backup.specs.declared.fleet.MemoryFleet.{MemoryFleet}
 use Rattle.command_line.specs.declared.settings.Options.{Options}
 use Rattle.lines.specs.Grammar.{Needs}
 use Rattle.replica.specs.Picture.{FleetState}
-use Rattle.node.specs.answers.declared.answer.Answer.{Answer}
-use Rattle.node.specs.answers.declared.answer.Answer.TheVariants as answer
-use Rattle.node.specs.master.master_state.declared.config.Config.{Config}
-use Rattle.node.specs.master.master_state.Data.{MasterData}
-use Rattle.node.specs.replay.Needs.{IsNeeded, NoneIsEnough}
-use Rattle.node.specs.replay.claims.declared.rebuilt.Rebuilt.{Rebuilt}
-use Rattle.node.specs.declared.node.Node.TheVariants.{Down}
-use Rattle.node.specs.Lives.{Position}
-use Rattle.node.specs.Served.{IsNodeAt, life_of}
-use Rattle.node.specs.Told.{NeedsFor, Tells}
+use Rattle.cluster.specs.answers.declared.answer.Answer.{Answer}
+use Rattle.cluster.specs.answers.declared.answer.Answer.TheVariants as answer
+use Rattle.cluster.specs.master.master_state.declared.config.Config.{Config}
+use Rattle.cluster.specs.master.master_state.Data.{MasterData}
+use Rattle.cluster.specs.replay.Needs.{IsNeeded, NoneIsEnough}
+use Rattle.cluster.specs.replay.claims.declared.rebuilt.Rebuilt.{Rebuilt}
+use Rattle.cluster.specs.declared.node.Node.TheVariants.{Down}
+use Rattle.cluster.specs.Lives.{Position}
+use Rattle.cluster.specs.Served.{IsNodeAt, life_of}
+use Rattle.cluster.specs.Told.{NeedsFor, Tells}
 use Rattle.next_master.specs.Configuration.{config_of}
 use Rattle.next_master.specs.declared.later.Later.{Later}
 use Rattle.next_master.specs.Recoveries.{Asked, FindsNothing, IsFoundIn, NeedsOn}

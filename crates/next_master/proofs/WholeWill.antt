@@ -2,13 +2,15 @@
 use Rattle.std.proofs.Common.{[], ◌≡◌, ◌∷◌, ℕ, List, Bool, true, false, refl, ap}
 use Rattle.std.specs.Prelude.{None, Some, not, if◌then◌else◌, Option}
 use Rattle.entry.specs.Tablet.{are_tablets}
-use Rattle.node.specs.master.master_state.Config.{config_fault, has_backups, has_step, has_seglet, has_segment, has_budget}
-use Rattle.node.specs.master.master_state.Config.{has_tablets}
-use Rattle.node.specs.master.master_state.declared.config.ConfigFault.{ConfigFault}
-use Rattle.node.specs.master.master_state.declared.config.ConfigFault.TheVariants.{BadBackups, BadStep, BadSegment, BadSeglet}
-use Rattle.node.specs.master.master_state.declared.config.ConfigFault.TheVariants.{BadBudget, BadTablets}
+use Rattle.cluster.specs.master.master_state.Config.{config_fault, has_backups, has_step, has_seglet, has_segment}
+use Rattle.cluster.specs.master.master_state.Config.{has_budget}
+use Rattle.cluster.specs.master.master_state.Config.{has_tablets}
+use Rattle.cluster.specs.master.master_state.declared.config.ConfigFault.{ConfigFault}
+use Rattle.cluster.specs.master.master_state.declared.config.ConfigFault.TheVariants.{BadBackups, BadStep, BadSegment}
+use Rattle.cluster.specs.master.master_state.declared.config.ConfigFault.TheVariants.{BadSeglet}
+use Rattle.cluster.specs.master.master_state.declared.config.ConfigFault.TheVariants.{BadBudget, BadTablets}
 use Rattle.entry.specs.declared.tablet.Tablet.{Tablet}
-use Rattle.node.specs.master.master_state.declared.config.Config.{Config}
+use Rattle.cluster.specs.master.master_state.declared.config.Config.{Config}
 use Rattle.tablet_will.specs.declared.part.Part.{Part}
 use Rattle.tablet_will.specs.Rule.{parts_by_rule}
 use Rattle.next_master.specs.Configuration.{one_partition}

@@ -4,8 +4,8 @@ use Rattle.std.specs.Prelude.{Some, None}
 use Rattle.entry.specs.declared.tablet.Tablet.{Tablet}
 use Rattle.tablet_will.specs.declared.part.Part.{Part}
 use Rattle.command_line.specs.declared.settings.Options.{Options}
-use Rattle.node.specs.master.master_state.declared.config.Config.{Config}
-use Rattle.node.specs.master.master_state.Config.{config_fault}
+use Rattle.cluster.specs.master.master_state.declared.config.Config.{Config}
+use Rattle.cluster.specs.master.master_state.Config.{config_fault}
 use Rattle.next_master.specs.declared.later.Later.{Later}
 use Rattle.places.specs.Secrets.{fast_hasher}
 

@@ -3,8 +3,8 @@ pub mod Limits
 pub mod Numbers
 pub mod Succession
 pub mod Recoveries
-pub use Rattle.node.specs.master
-pub use Rattle.node.specs.driving
-pub use Rattle.node.specs.recovery
-pub use Rattle.node.specs.answers
-pub use Rattle.node.specs as node
+pub use Rattle.cluster.specs.master
+pub use Rattle.cluster.specs.driving
+pub use Rattle.cluster.specs.recovery
+pub use Rattle.cluster.specs.answers
+pub use Rattle.cluster.specs as cluster

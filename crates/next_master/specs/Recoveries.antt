@@ -7,41 +7,41 @@ use Rattle.command_line.specs.declared.settings.Options.{Options}
 use Rattle.lines.specs.Grammar.{LineValue, Recover}
 use Rattle.lines.specs.declared.line.ReplayOrder.{ReplayOrder}
 use Rattle.lines.specs.declared.line.ReplayOrder.TheVariants as replay_order
-use Rattle.node.specs.master.Registry.{IsUnraised}
-use Rattle.node.specs.master.Valid.{IsValid}
-use Rattle.node.specs.master.World.{MasterValue, World, retired_data}
-use Rattle.node.specs.master.master_state.declared.config.Config.{Config}
-use Rattle.node.specs.master.master_state.declared.step.Refusal.{Refusal}
-use Rattle.node.specs.master.master_state.declared.step.Refusal.TheVariants.{Spent}
-use Rattle.node.specs.master.master_state.Data.{MasterData}
-use Rattle.node.specs.replay.rebuilding.declared.order.GroupOrder.{GroupOrder}
-use Rattle.node.specs.replay.rebuilding.declared.order.GroupOrder.TheVariants as group_order
-use Rattle.node.specs.recovery.declared.recovery.RecoveryFault.{RecoveryFault}
-use Rattle.node.specs.recovery.Drilled.{IsOfHeld}
-use Rattle.node.specs.recovery.Succession.{IsSuccessor}
-use Rattle.node.specs.replay.claims.declared.rebuilt.Rebuilt.{Rebuilt}
-use Rattle.node.specs.replay.Adopting.{IsAdopted, IsAdoptedOn, DeclinesList}
+use Rattle.cluster.specs.master.Registry.{IsUnraised}
+use Rattle.cluster.specs.master.Valid.{IsValid}
+use Rattle.cluster.specs.master.World.{MasterValue, World, retired_data}
+use Rattle.cluster.specs.master.master_state.declared.config.Config.{Config}
+use Rattle.cluster.specs.master.master_state.declared.step.Refusal.{Refusal}
+use Rattle.cluster.specs.master.master_state.declared.step.Refusal.TheVariants.{Spent}
+use Rattle.cluster.specs.master.master_state.Data.{MasterData}
+use Rattle.cluster.specs.replay.rebuilding.declared.order.GroupOrder.{GroupOrder}
+use Rattle.cluster.specs.replay.rebuilding.declared.order.GroupOrder.TheVariants as group_order
+use Rattle.cluster.specs.recovery.declared.recovery.RecoveryFault.{RecoveryFault}
+use Rattle.cluster.specs.recovery.Drilled.{IsOfHeld}
+use Rattle.cluster.specs.recovery.Succession.{IsSuccessor}
+use Rattle.cluster.specs.replay.claims.declared.rebuilt.Rebuilt.{Rebuilt}
+use Rattle.cluster.specs.replay.Adopting.{IsAdopted, IsAdoptedOn, DeclinesList}
 use Rattle.replica.specs.declared.op.TakeFault.{TakeFault}
 use Rattle.replica.specs.declared.op.TakeFault.TheVariants as take_fault
 use Rattle.replica.specs.Picture.{FleetState, shown_of}
 use Rattle.replica.specs.Retire.{Retires}
 use Rattle.replica.specs.Take.{limited, no_limit}
 use Rattle.tablet_will.specs.declared.part.Part.{Part}
-use Rattle.node.specs.answers.declared.answer.Answer.{Answer}
-use Rattle.node.specs.answers.declared.answer.Answer.TheVariants.{Recovered, NotRecovered, NotRetired, NumbersSpent}
-use Rattle.node.specs.answers.declared.answer.Answer.TheVariants.{Stopped}
-use Rattle.node.specs.answers.declared.answer.Answer.TheVariants as answers
-use Rattle.node.specs.declared.node.Node.{Node}
-use Rattle.node.specs.declared.node.Node.TheVariants.{Up, Down}
+use Rattle.cluster.specs.answers.declared.answer.Answer.{Answer}
+use Rattle.cluster.specs.answers.declared.answer.Answer.TheVariants.{Recovered, NotRecovered, NotRetired, NumbersSpent}
+use Rattle.cluster.specs.answers.declared.answer.Answer.TheVariants.{Stopped}
+use Rattle.cluster.specs.answers.declared.answer.Answer.TheVariants as answers
+use Rattle.cluster.specs.declared.node.Node.{Node}
+use Rattle.cluster.specs.declared.node.Node.TheVariants.{Up, Down}
 use Rattle.next_master.specs.Configuration.{config_of, later_options}
 use Rattle.next_master.specs.declared.later.Later.{Later}
 use Rattle.next_master.specs.declared.recovering.Request.{Request}
-use Rattle.node.specs.Lives.{Left, left_now, Position}
+use Rattle.cluster.specs.Lives.{Left, left_now, Position}
 use Rattle.next_master.specs.Numbers.{IsNextNumber}
-use Rattle.node.specs.replay.driving.Served.{IsSpent}
-use Rattle.node.specs.Served.{AnswersLine, IsNodeAt, IsOf, fleet_of, is_up, life_of, refusal_answer, world_of}
+use Rattle.cluster.specs.replay.driving.Served.{IsSpent}
+use Rattle.cluster.specs.Served.{AnswersLine, IsNodeAt, IsOf, fleet_of, is_up, life_of, refusal_answer, world_of}
 use Rattle.next_master.specs.Succession.{Standing, Succeeds}
-use Rattle.node.specs.Told.{AsksTable, IsFoundAt, NeedsFor, Tells}
+use Rattle.cluster.specs.Told.{AsksTable, IsFoundAt, NeedsFor, Tells}
 
 -- ---- what is asked
 

@@ -6,13 +6,13 @@ use Rattle.entry.specs.Meaning.{contents_of}
 use Rattle.lines.specs.Grammar.{LineValue}
 use Rattle.versioned_map.specs.History.{IsLegal}
 use Rattle.versioned_map.specs.Versioned.{State}
-use Rattle.node.specs.master.master_state.declared.config.Config.{Config}
-use Rattle.node.specs.master.master_state.Data.{MasterData}
-use Rattle.node.specs.replay.claims.declared.rebuilt.Rebuilt.{Rebuilt}
-use Rattle.node.specs.answers.declared.answer.Answer.{Answer}
-use Rattle.node.specs.answers.declared.answer.Answer.TheVariants as answer
-use Rattle.node.specs.Lives.{Life, life_to, HasLived, Left, IsLeftBy, IsLeftBySpent, Position}
-use Rattle.node.specs.Told.{IsFoundAt, IsNextConfig, IsRecover}
+use Rattle.cluster.specs.master.master_state.declared.config.Config.{Config}
+use Rattle.cluster.specs.master.master_state.Data.{MasterData}
+use Rattle.cluster.specs.replay.claims.declared.rebuilt.Rebuilt.{Rebuilt}
+use Rattle.cluster.specs.answers.declared.answer.Answer.{Answer}
+use Rattle.cluster.specs.answers.declared.answer.Answer.TheVariants as answer
+use Rattle.cluster.specs.Lives.{Life, life_to, HasLived, Left, IsLeftBy, IsLeftBySpent, Position}
+use Rattle.cluster.specs.Told.{IsFoundAt, IsNextConfig, IsRecover}
 
 -- where a script stands: its master's configuration, the life of that master, and where it stands in this life
 pub record Standing : Type 0 where

@@ -1,7 +1,7 @@
 //! What masters that start later have in place of the options of the command line.
 
 ghost use Rattle.std.specs.Prelude.{◌≡◌, ◌&&◌, ◌↔◌, IsTrue, true, None, Some};
-ghost use Rattle.node.specs.master.master_state.Config.{config_fault, has_budget, has_live};
+ghost use Rattle.cluster.specs.master.master_state.Config.{config_fault, has_budget, has_live};
 ghost use Rattle.next_master.specs.Configuration.{config_of, later_format, later_options, later_seglets, no_later};
 ghost use Rattle.next_master.specs.Configuration.{AreSizes, MayBegin};
 

@@ -7,7 +7,7 @@
 //! seglets a new master needs to adopt it. `configuration` and `whole_will` make the configuration of a master and its
 //! first will from the options of the command line. `later_options` says which options later masters have, and
 //! `can_begin` whether these are within their limits. `with_limit` puts the greatest limit of live bytes into options
-//! that ask for it. The crate stands on `node` and `recovery`.
+//! that ask for it. The crate stands on `cluster` and `recovery`.
 #![tactic(auto)]
 
 mod later;
@@ -16,10 +16,10 @@ mod needing;
 mod recovering;
 mod setup;
 
+pub use cluster;
+pub use cluster::{answers, driving, master, recovery, replay};
 pub use later::{Later, can_begin, later_options};
 pub use limits::with_limit;
 pub use needing::node_needs;
-pub use node;
-pub use node::{answers, driving, master, recovery, replay};
 pub use recovering::{Recovery, Request, next_number, recover_node};
 pub use setup::{configuration, whole_will};

@@ -3,19 +3,19 @@
 ghost use Rattle.std.specs.Prelude.{◌≡◌, IfSome};
 ghost use Rattle.backup.specs.State.{fleet_state};
 ghost use Rattle.lines.specs.Grammar.{Needs};
-ghost use Rattle.node.specs.Lives.{Position};
-ghost use Rattle.node.specs.Served.{AnswersLine, IsNodeAt, fleet_of};
-ghost use Rattle.node.specs.master.Registry.{AreUnraisedAbove};
-ghost use Rattle.node.specs.master.master_state.Data.{MasterData};
-ghost use Rattle.node.specs.recovery.Orders.{Covers};
+ghost use Rattle.cluster.specs.Lives.{Position};
+ghost use Rattle.cluster.specs.Served.{AnswersLine, IsNodeAt, fleet_of};
+ghost use Rattle.cluster.specs.master.Registry.{AreUnraisedAbove};
+ghost use Rattle.cluster.specs.master.master_state.Data.{MasterData};
+ghost use Rattle.cluster.specs.recovery.Orders.{Covers};
 ghost use Rattle.next_master.specs.Configuration.{config_of, later_options, tables_to, MayBegin};
 ghost use Rattle.next_master.specs.Recoveries.{ShowsNeeds, asked_for};
 
 use crate::recovering::{Request, find_inheritance};
+use cluster::Node;
+use cluster::answers::Answer;
+use cluster::replay::seglets_needed;
 use lines::ReplayOrder;
-use node::Node;
-use node::answers::Answer;
-use node::replay::seglets_needed;
 use std::alloc::Global;
 use std::sync::Wait;
 use std::thread::Threads;

@@ -1,14 +1,14 @@
 //! Makes a master's configuration from the options of the command line.
 
 ghost use Rattle.std.specs.Prelude.{◌≡◌, ◌<◌, None, IfOk, OnErr};
-ghost use Rattle.node.specs.master.master_state.Config.{config_fault};
-ghost use Rattle.node.specs.recovery.Orders.{Covers};
+ghost use Rattle.cluster.specs.master.master_state.Config.{config_fault};
+ghost use Rattle.cluster.specs.recovery.Orders.{Covers};
 ghost use Rattle.next_master.specs.Configuration.{config_of, tables_to};
 ghost use Rattle.next_master.specs.Configuration.{one_partition};
 
+use cluster::master::{Config, KeyHasher};
 use command_line::Options;
 use entry::{NoMemory, Tablet, Tablets};
-use node::master::{Config, KeyHasher};
 use std::alloc::Global;
 use tablet_will::{Will, WillFault, make_will};
 

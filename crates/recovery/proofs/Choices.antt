@@ -12,9 +12,9 @@ use Rattle.recovery_plan.specs.declared.chosen.Plan.{Plan}
 use Rattle.recovery_plan.specs.Good.{IsGood}
 use Rattle.recovery_plan.specs.Planned.{IsChoiceOf, IsPlanOf, AgreeOnDigest}
 use Rattle.recovery_plan.proofs.Plans.{all-map}
-use Rattle.replay.specs.master.log_model.Sound.{IsTextOfSegment}
-use Rattle.replay.specs.master.failover_model.Data.{FailData}
-use Rattle.replay.specs.master.failover_bytes.Sound.{IsLeftChoice, IsSoundInBytes}
+use Rattle.replay.specs.master.log_laws.ReplicaBytes.{IsTextOfSegment}
+use Rattle.replay.specs.master.log_laws.Data.{FailData}
+use Rattle.replay.specs.master.log_bytes.Sound.{IsLeftChoice, IsSoundInBytes}
 use Rattle.recovery.specs.Recovered.{Shows}
 
 -- ---- bags

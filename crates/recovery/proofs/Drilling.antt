@@ -7,9 +7,9 @@ use Rattle.claims.specs.declared.rebuilt.Rebuilt.{Rebuilt}
 use Rattle.replica.specs.declared.holding.Holding.{Holding}
 use Rattle.replica.specs.Picture.{FleetState, Shown, left_on, shown_of, survivors, IsHeld}
 use Rattle.replica.specs.Survival.{BothSurvive}
-use Rattle.replay.specs.master.failover_model.Data.{IsHome}
-use Rattle.replay.specs.master.failover_bytes.Choice.{IsOpenedHead, IsNewestOpenedOrNone, newest_opened}
-use Rattle.replay.specs.master.failover_bytes.Sound.{IsSoundInBytes}
+use Rattle.replay.specs.master.log_laws.Data.{IsHome}
+use Rattle.replay.specs.master.log_bytes.Choice.{IsOpenedHead, IsNewestOpenedOrNone, newest_opened}
+use Rattle.replay.specs.master.log_bytes.Sound.{IsSoundInBytes}
 use Rattle.replay.specs.master.master_state.declared.config.Config.{Config}
 use Rattle.replay.specs.master.master_state.declared.step.Refusal.{Refusal}
 use Rattle.replay.specs.master.master_state.declared.step.Step.{Step}

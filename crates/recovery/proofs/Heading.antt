@@ -13,8 +13,8 @@ use Rattle.rebuilding.specs.declared.order.GroupOrder.TheVariants.{Forward, Reve
 use Rattle.versioned_map.specs.declared.command.Record.{Record}
 use Rattle.versioned_map.specs.History.{IsLegal}
 use Rattle.versioned_map.specs.Versioned.{State}
-use Rattle.replay.specs.master.failover_model.Data.{IsHome, durable_of}
-use Rattle.replay.specs.master.failover_bytes.Choice.{newest_opened}
+use Rattle.replay.specs.master.log_laws.Data.{IsHome, durable_of}
+use Rattle.replay.specs.master.log_bytes.Choice.{newest_opened}
 use Rattle.replay.specs.master.master_state.declared.config.Config.{Config}
 use Rattle.replay.specs.master.master_state.declared.step.Refusal.{Refusal}
 use Rattle.replay.specs.master.master_state.declared.step.Refusal.TheVariants as refusal

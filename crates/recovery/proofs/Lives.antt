@@ -14,7 +14,7 @@ use Rattle.versioned_map.specs.Versioned.{State, is_met, with_contents, after_co
 use Rattle.versioned_map.specs.Versioned.{after_delete, after}
 use Rattle.entry.proofs.KeyOrder.{key_eq_tells}
 use Rattle.versioned_map.proofs.Keys.{at_key, at_other}
-use Rattle.replay.specs.master.failover_model.Data.{FailData, state_after}
+use Rattle.replay.specs.master.log_laws.Data.{FailData, state_after}
 use Rattle.recovery.specs.Recovered.{IsRecovered}
 use Rattle.recovery.specs.Lives.{Life, taken_over, first_log, logs_of, AreLives, IsSameOrNewer, VersionsRise}
 

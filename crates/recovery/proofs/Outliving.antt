@@ -10,7 +10,7 @@ use Rattle.versioned_map.specs.declared.command.Command.TheVariants.{Get, Put, D
 use Rattle.versioned_map.specs.History.{commands_of}
 use Rattle.versioned_map.specs.Versioned.{State, is_met, after_command, after_put, after_delete, after}
 use Rattle.versioned_map.proofs.Keys.{at_other}
-use Rattle.replay.specs.master.failover_model.Data.{FailData, state_after}
+use Rattle.replay.specs.master.log_laws.Data.{FailData, state_after}
 use Rattle.recovery.specs.Lives.{Life, first_log, AreLives, Spares, AllSpare, recovered_of, AcknowledgedOutlive}
 
 module _ (k : Key) where

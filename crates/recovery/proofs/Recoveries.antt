@@ -23,9 +23,9 @@ use Rattle.recovery_plan.specs.declared.fault.PlanFault.TheVariants as plan_faul
 use Rattle.recovery_plan.specs.Planned.{IsPlan, IsChoiceOf, IsPlanOf, IsFirstBad, IsPlanFault, NamesLoss}
 use Rattle.entry.proofs.BagLemmas.{among_right}
 use Rattle.versioned_map.specs.History.{commands_of}
-use Rattle.replay.specs.master.failover_model.Data.{FailData, IsHome, state_after}
-use Rattle.replay.specs.master.failover_bytes.Choice.{IsOpenedHead, IsNewestOpenedOrNone}
-use Rattle.replay.specs.master.failover_bytes.Sound.{IsSoundInBytes}
+use Rattle.replay.specs.master.log_laws.Data.{FailData, IsHome, state_after}
+use Rattle.replay.specs.master.log_bytes.Choice.{IsOpenedHead, IsNewestOpenedOrNone}
+use Rattle.replay.specs.master.log_bytes.Sound.{IsSoundInBytes}
 use Rattle.versioned_map.specs.Versioned.{IsSafeAfter}
 use Rattle.versioned_map.proofs.Meanings.{one_contents}
 use Rattle.recovery.specs.Headline.{IsLoss, IsNoMemory}

@@ -5,9 +5,9 @@ use Rattle.std.proofs.lemmas.List.{append-nil, append_assoc}
 use Rattle.replica.specs.declared.op.TakeFault.TheVariants as take_fault
 use Rattle.replica.specs.Picture.{FleetState}
 use Rattle.versioned_map.specs.declared.command.Record.{Record}
-use Rattle.replay.specs.master.failover_model.Data.{FailData}
-use Rattle.replay.specs.master.failover_model.Shown.{Op, On, Raise}
-use Rattle.replay.specs.master.failover_bytes.Ops.{TakesOp, RefusesOp, act_for}
+use Rattle.replay.specs.master.log_laws.Data.{FailData}
+use Rattle.replay.specs.master.log_laws.Shown.{Op, On, Raise}
+use Rattle.replay.specs.master.log_bytes.Ops.{TakesOp, RefusesOp, act_for}
 use Rattle.replay.specs.master.master_state.declared.config.Config.{Config}
 use Rattle.replay.specs.master.master_state.declared.step.Refusal.{Refusal}
 use Rattle.replay.specs.master.master_state.declared.step.Refusal.TheVariants as refusal

@@ -5,7 +5,7 @@ use Rattle.claims.specs.declared.rebuilt.Rebuilt.{Rebuilt}
 use Rattle.rebuilding.specs.declared.order.GroupOrder.{GroupOrder}
 use Rattle.replica.specs.declared.holding.Holding.{Holding}
 use Rattle.replica.specs.Picture.{AreHeld, left_on}
-use Rattle.replay.specs.master.failover_model.Data.{durable_of}
+use Rattle.replay.specs.master.log_laws.Data.{durable_of}
 use Rattle.replay.specs.master.master_state.declared.step.Refusal.{Refusal}
 use Rattle.replay.specs.master.master_state.declared.step.Step.{Step}
 use Rattle.replay.specs.master.master_state.declared.step.StepAnswer.{StepAnswer}

@@ -5,8 +5,8 @@ use Rattle.claims.specs.declared.rebuilt.Rebuilt.{Rebuilt}
 use Rattle.replica.specs.declared.holding.Holding.{Holding}
 use Rattle.replica.specs.Picture.{FleetState, Shown, AreHeld, shown_of, survivors}
 use Rattle.replica.specs.Survival.{BothSurvive}
-use Rattle.replay.specs.master.failover_model.Data.{IsHome, durable_of}
-use Rattle.replay.specs.master.failover_bytes.Choice.{newest_opened}
+use Rattle.replay.specs.master.log_laws.Data.{IsHome, durable_of}
+use Rattle.replay.specs.master.log_bytes.Choice.{newest_opened}
 use Rattle.replay.specs.master.master_state.declared.step.Refusal.{Refusal}
 use Rattle.replay.specs.master.master_state.declared.step.Step.{Step}
 use Rattle.replay.specs.master.master_state.declared.step.StepAnswer.{StepAnswer}

@@ -8,7 +8,7 @@ use Rattle.versioned_map.specs.declared.command.Command.{Command}
 use Rattle.versioned_map.specs.declared.command.Command.TheVariants.{Get, Put, Delete}
 use Rattle.versioned_map.specs.History.{commands_of}
 use Rattle.versioned_map.specs.Versioned.{State}
-use Rattle.replay.specs.master.failover_model.Data.{FailData, state_after}
+use Rattle.replay.specs.master.log_laws.Data.{FailData, state_after}
 use Rattle.recovery.specs.Recovered.{IsRecovered}
 
 -- one life: its log, and what was recovered at its end, which is the map after some number of its commands

@@ -14,9 +14,9 @@ use Rattle.claims.specs.Rebuilt.{IsRebuilt}
 use Rattle.rebuilding.specs.Rebuilds.{IsRebuildFault, NamesEach, count_of}
 use Rattle.rebuilding.specs.Turns.{replayed}
 use Rattle.rebuilding.specs.Orders.{order_for}
-use Rattle.replay.specs.master.failover_model.Data.{FailData, IsHome, durable_of}
-use Rattle.replay.specs.master.failover_bytes.Choice.{IsOpenedHead, IsNewestOpenedOrNone}
-use Rattle.replay.specs.master.failover_bytes.Sound.{IsSoundInBytes}
+use Rattle.replay.specs.master.log_laws.Data.{FailData, IsHome, durable_of}
+use Rattle.replay.specs.master.log_bytes.Choice.{IsOpenedHead, IsNewestOpenedOrNone}
+use Rattle.replay.specs.master.log_bytes.Sound.{IsSoundInBytes}
 use Rattle.recovery.specs.declared.recovery.RecoveryFault.{RecoveryFault}
 use Rattle.recovery.specs.declared.recovery.RecoveryFault.TheVariants as fault
 use Rattle.rebuilding.specs.declared.order.GroupOrder.{GroupOrder}

@@ -4,7 +4,7 @@
 //! `recover` promises this for each sound state of a master of which an inventory shows a part. `run_drill` promises
 //! it for a whole life: any steps of any master, its end, and the recovery from the backups that are kept. Any will
 //! may divide the segments, and their groups may be replayed in any order. Both promises rest on the definitions of
-//! `failover_bytes` and `failover_model` alone: what a sound picture is, and which commands are durable.
+//! `log_bytes` and `log_laws` alone: what a sound picture is, and which commands are durable.
 //! `specs/Recovered.antt` defines what comes back, and `specs/Orders.antt` which wills cover the tablets.
 #![tactic(auto)]
 

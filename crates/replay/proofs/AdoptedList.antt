@@ -8,8 +8,8 @@ use Rattle.entry.specs.declared.entry.Object.{Object}
 use Rattle.entry.specs.declared.key.Key.{Key}
 use Rattle.entry.specs.Meaning.{contents_of}
 use Rattle.replica.specs.Picture.{FleetState}
-use Rattle.driving.specs.master.log_model.Data.{fewest}
-use Rattle.driving.specs.master.log_model.Steps.{no_units}
+use Rattle.driving.specs.master.log_laws.Heads.{fewest}
+use Rattle.driving.specs.master.log_laws.HeadSteps.{no_units}
 use Rattle.driving.specs.master.log_head.Head.{HeadValue, is_open}
 use Rattle.driving.specs.master.log_head.Steps.{settled}
 use Rattle.driving.proofs.of_master.log_head.Rolls.{zeros_length}

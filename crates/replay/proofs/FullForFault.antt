@@ -8,9 +8,9 @@ use Rattle.replica.specs.declared.op.TakeFault.TheVariants as take_fault
 use Rattle.replica.specs.Op.{OpValue}
 use Rattle.replica.specs.Picture.{Replica, FleetState}
 use Rattle.replica.specs.Take.{effect, taken, with_effect}
-use Rattle.driving.specs.master.log_model.Ops.{op_of}
-use Rattle.driving.specs.master_core.failover_model.Shown.{Op, On, Raise}
-use Rattle.driving.specs.master_core.failover_bytes.Ops.{RefusesOp, TakesOp, log_op_for}
+use Rattle.driving.specs.master.log_laws.Ops.{op_of}
+use Rattle.driving.specs.master_core.log_laws.Shown.{Op, On, Raise}
+use Rattle.driving.specs.master_core.log_bytes.Ops.{RefusesOp, TakesOp, log_op_for}
 use Rattle.driving.specs.master_core.master_state.declared.config.Config.{Config}
 use Rattle.driving.specs.master_core.master_state.declared.step.Refusal.{Refusal}
 use Rattle.driving.specs.master_core.master_state.declared.step.Refusal.TheVariants as refusal

@@ -17,7 +17,7 @@ use Rattle.packing.proofs.Packed.{may_roll as may_roll_at}
 use Rattle.packing.proofs.Packed.{never_full}
 use Rattle.driving.specs.master.log_head.Head.{is_open}
 use Rattle.driving.specs.master.log_head.Steps.{lone_start}
-use Rattle.driving.specs.master.log_model.Data.{digest_for, start_entries}
+use Rattle.driving.specs.master.log_laws.Heads.{digest_for, start_entries}
 use Rattle.driving.specs.master_core.master_state.declared.config.Config.{Config}
 use Rattle.driving.specs.master_core.master_state.declared.failover.Failover.{Failover}
 use Rattle.driving.specs.master_core.master_state.declared.step.Refusal.TheVariants as refusal

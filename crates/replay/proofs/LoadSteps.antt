@@ -5,8 +5,8 @@ use Rattle.std.proofs.lemmas.List.{append-nil}
 use Rattle.entry.specs.declared.entry.Object.{Object}
 use Rattle.replica.specs.declared.op.TakeFault.TheVariants as take_fault
 use Rattle.replica.specs.Picture.{FleetState}
-use Rattle.driving.specs.master_core.failover_model.Shown.{Op}
-use Rattle.driving.specs.master_core.failover_bytes.Ops.{RefusesOp, TakesOp}
+use Rattle.driving.specs.master_core.log_laws.Shown.{Op}
+use Rattle.driving.specs.master_core.log_bytes.Ops.{RefusesOp, TakesOp}
 use Rattle.driving.specs.master_core.master_state.declared.step.Refusal.{Refusal}
 use Rattle.driving.specs.master_core.master_state.declared.step.Refusal.TheVariants as refusal
 use Rattle.driving.specs.master_core.master_state.declared.step.Step.TheVariants.{Push, BeginRoll}

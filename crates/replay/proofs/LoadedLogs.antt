@@ -28,8 +28,8 @@ use Rattle.driving.specs.master.log_head.declared.next.Next.TheVariants as next
 use Rattle.driving.specs.master.log_head.Head.{digest_of, digest_in}
 use Rattle.driving.specs.master.log_head.Steps.{start_after, in_force}
 use Rattle.driving.specs.master.log_head.Steps.{with_new_replica}
-use Rattle.driving.specs.master.log_model.Data.{Start, start_entries, digest_for, digest_with, ids_of}
-use Rattle.driving.proofs.of_master.log_model.Lengths.{ids_listed}
+use Rattle.driving.specs.master.log_laws.Heads.{Start, start_entries, digest_for, digest_with, ids_of}
+use Rattle.driving.proofs.of_master.log_laws.ListedIds.{ids_listed}
 use Rattle.driving.proofs.of_master.log_head.Digests.{without_none}
 use Rattle.driving.specs.master_core.cleaner.declared.pass.Pass.{Pass}
 use Rattle.driving.specs.master_core.cleaner.Passes.{is_ready as is_ready_pass}

@@ -6,7 +6,7 @@ use Rattle.lines.specs.declared.command.CommandLine.TheVariants as command
 use Rattle.lines.specs.declared.line.Line.{Line}
 use Rattle.lines.specs.declared.line.Line.TheVariants as line
 use Rattle.lines.specs.Grammar.{shown_command, shown_line}
-use Rattle.next_master.specs.node.Told.{command_of}
+use Rattle.next_master.specs.cluster.Told.{command_of}
 use Rattle.lines.specs.Grammar.{LineValue, Format, Seglets}
 use Rattle.script.specs.Runs.{Allows, IsOfFleet}
 use Rattle.script.specs.Turns.{RefusesLine}
@@ -46,6 +46,7 @@ has_no_command (line.Begin segments) other = refl
 has_no_command line.Copy other = refl
 has_no_command line.Seal other = refl
 has_no_command line.Free other = refl
+has_no_command (line.Tend steps) other = refl
 has_no_command (line.Clients clients rounds passes) other = refl
 
 -- the line of a command names no backup

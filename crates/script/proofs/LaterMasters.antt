@@ -9,10 +9,10 @@ use Rattle.next_master.specs.master.master_state.Data.{MasterData}
 use Rattle.next_master.specs.master.Registry.{AreUnraisedAbove}
 use Rattle.next_master.specs.answers.declared.answer.Answer.{Answer}
 use Rattle.next_master.proofs.of_driving.LeastHeads.{until_leaves}
-use Rattle.next_master.specs.node.Lives.{Position}
-use Rattle.next_master.specs.node.Served.{IsNodeAt, fleet_of}
-use Rattle.next_master.proofs.of_node.LeastHeads.{in_world, made_unraised, stands_up_to}
-use Rattle.node_lines.proofs.Lines.{line_unraised as node_unraised}
+use Rattle.next_master.specs.cluster.Lives.{Position}
+use Rattle.next_master.specs.cluster.Served.{IsNodeAt, fleet_of}
+use Rattle.next_master.proofs.of_cluster.LeastHeads.{in_world, made_unraised, stands_up_to}
+use Rattle.cluster_lines.proofs.Lines.{line_unraised as node_unraised}
 use Rattle.next_master.specs.Configuration.{config_of, later_options}
 use Rattle.next_master.proofs.HowItEnds.{ends_unraised}
 use Rattle.script.specs.declared.session.Session.{Session}

@@ -5,5 +5,5 @@ pub mod Commanding
 pub mod LaterMasters
 pub mod Tried
 pub mod Turning
-pub use Rattle.node_lines.proofs.of_locked_log
+pub use Rattle.cluster_lines.proofs.of_locked_log
 pub use Rattle.next_master.proofs as of_next_master

@@ -12,16 +12,18 @@ use Rattle.next_master.specs.answers.declared.answer.Answer.{Answer}
 use Rattle.history.specs.Seats.{AreAccepted}
 use Rattle.next_master.specs.answers.declared.answer.Answer.TheVariants as answer
 use Rattle.next_master.specs.recovery.Headline.{IsMapAfter}
-use Rattle.next_master.specs.node.Counted.{AreCounted}
-use Rattle.next_master.specs.node.Lives.{Life, life_to, Left, IsLeftBy, IsLeftBySpent, Position}
+use Rattle.next_master.specs.cluster.Counted.{AreCounted}
+use Rattle.next_master.specs.cluster.Lives.{Life, life_to, Left, IsLeftBy, IsLeftBySpent, Position}
 use Rattle.next_master.specs.master.master_state.declared.step.Refusal.{Refusal}
 use Rattle.next_master.specs.master.master_state.declared.step.Step.{Step}
 use Rattle.next_master.specs.master.master_state.declared.step.StepAnswer.{StepAnswer}
 use Rattle.next_master.specs.master.master_state.declared.step.Step.TheVariants as step
 use Rattle.next_master.specs.master.master_state.declared.step.StepAnswer.TheVariants as step_answer
-use Rattle.next_master.specs.node.Told.{IsRecordAt, IsIn, IsCause, IsImageAt, IsPushedAt, IsRecoveredAt, IsUnadopted, Tells}
-use Rattle.next_master.specs.node.Told.{IsStepAt, IsRollAt, IsCleanAt, IsStepRefusal, IsDigestAt, IsLiveAt, IsRoomAt}
-use Rattle.next_master.specs.node.Told.{IsNeededAt, IsWillAt, AreHeldAt}
+use Rattle.next_master.specs.cluster.Told.{IsRecordAt, IsIn, IsCause, IsImageAt, IsPushedAt, IsRecoveredAt, IsUnadopted}
+use Rattle.next_master.specs.cluster.Told.{Tells}
+use Rattle.next_master.specs.cluster.Told.{IsStepAt, IsRollAt, IsCleanAt, IsTendAt, IsStepRefusal, IsDigestAt}
+use Rattle.next_master.specs.cluster.Told.{IsLiveAt, IsRoomAt}
+use Rattle.next_master.specs.cluster.Told.{IsNeededAt, IsWillAt, AreHeldAt}
 
 -- ---- a longer history tells the same
 
@@ -64,6 +66,7 @@ module _ (config : Config) (life : Life) where
   rises at line (answer.Sealed backup) next t = as_before at next t.3
   rises at line (answer.Freed segment backup) next t = as_before at next t.3
   rises at line (answer.Cleaned survivors head) next t = as_before at next t.2
+  rises at line (answer.Tended made) next t = as_before at next t.2
   rises at line (answer.Counted clients rounds calls) next t = t.2.more
   rises at line (answer.Log ids) next t = as_before at next t.3
   rises at line (answer.Room used free) next t = as_before at next t.3
@@ -248,6 +251,11 @@ module _ (config : Config) (opening : State) (history more : List Record) where
       subst (λ (l : Life). IsCleanAt config l t.1.0 (Ok (survivors, head)))
           (same_front at.made within) t.1.2,
     ),
+    t.2,
+  )
+  tells_longer at line (answer.Tended made) next within after t = (
+    t.0,
+    (t.1.0, t.1.1, subst (λ (l : Life). IsTendAt config l t.1.0 (Ok made)) (same_front at.made within) t.1.2),
     t.2,
   )
   tells_longer at line (answer.Counted clients rounds calls) next within after t =

@@ -8,7 +8,7 @@ use Rattle.next_master.specs.master.master_state.declared.config.Config.{Config}
 use Rattle.next_master.specs.master.master_state.Data.{MasterData}
 use Rattle.tablet_will.specs.declared.part.Part.{Part}
 use Rattle.next_master.specs.answers.declared.answer.Answer.{Answer}
-use Rattle.next_master.specs.node.declared.node.Node.{Node}
+use Rattle.next_master.specs.cluster.declared.node.Node.{Node}
 use Rattle.command_line.specs.declared.settings.Options.{Options}
 use Rattle.script.specs.declared.session.LineFault.{LineFault}
 use Rattle.script.specs.declared.session.Session.{Session}
@@ -16,18 +16,18 @@ use Rattle.next_master.specs.recovery.Orders.{Covers}
 use Rattle.next_master.specs.Configuration.{config_of, later_options, tables_to, no_later, MayBegin}
 use Rattle.next_master.specs.declared.later.Later.{Later}
 use Rattle.next_master.specs.master.master_state.Config.{config_fault}
-use Rattle.next_master.specs.node.Lives.{Left, at_start}
-use Rattle.next_master.specs.node.Served.{DividesAnew, AnswersLine, IsOf, is_up}
+use Rattle.next_master.specs.cluster.Lives.{Left, at_start}
+use Rattle.next_master.specs.cluster.Served.{DividesAnew, AnswersLine, IsOf, is_up}
 use Rattle.script.specs.Sessions.{IsToldOf, KeepsWord, RenewsOptions, SessionAnswers, SessionShows, Stands}
 use Rattle.script.specs.Sessions.{BeginsSession, MakesWill as MakesWillOf, later_after}
-use Rattle.next_master.specs.node.Told.{AsksTable, command_of}
+use Rattle.next_master.specs.cluster.Told.{AsksTable, command_of}
 use Rattle.backup.specs.declared.fleet.MemoryFleet.{MemoryFleet}
 use Rattle.next_master.specs.master.World.{MasterValue}
 use Rattle.next_master.specs.master.master_state.declared.step.Refusal.{Refusal}
 use Rattle.next_master.specs.answers.declared.answer.Answer.TheVariants as answer
-use Rattle.next_master.specs.node.declared.node.Node.TheVariants.{Up, Down, Changing}
+use Rattle.next_master.specs.cluster.declared.node.Node.TheVariants.{Up, Down, Changing}
 use Rattle.next_master.proofs.NextConfig.{checked_as, later_twice}
-use Rattle.next_master.proofs.of_node.Standing.{is_down_some, stays_told}
+use Rattle.next_master.proofs.of_cluster.Standing.{is_down_some, stays_told}
 use Rattle.lines.specs.declared.line.ReplayOrder.{ReplayOrder}
 use Rattle.next_master.specs.recovery.declared.recovery.RecoveryFault.TheVariants as fault
 use Rattle.next_master.specs.recovery.recovery_plan.declared.fault.PlanFault.TheVariants as plan_fault

@@ -7,7 +7,7 @@ use Rattle.replica.specs.Picture.{FleetState}
 use Rattle.versioned_map.specs.declared.command.Record.{Record}
 use Rattle.next_master.specs.answers.declared.answer.Answer.{Answer}
 use Rattle.next_master.specs.answers.declared.answer.Answer.TheVariants as answer
-use Rattle.next_master.specs.node.Lives.{Life}
+use Rattle.next_master.specs.cluster.Lives.{Life}
 use Rattle.script.specs.Telling.{Told, GoesOn, Moves, AreTelling}
 use Rattle.next_master.specs.Succession.{Standing, EndsRecovery, Succeeds}
 use Rattle.script.proofs.LongerLives.{rises, tells_longer}

@@ -4,13 +4,13 @@ use Rattle.std.specs.Prelude.{ℕ, Some, None}
 use Rattle.lines.specs.Grammar.{LineValue}
 use Rattle.versioned_map.specs.declared.command.Command.{Command}
 use Rattle.next_master.specs.answers.declared.answer.Answer.{Answer}
-use Rattle.next_master.specs.node.declared.node.Node.{Node}
-use Rattle.next_master.specs.node.Told.{command_of}
+use Rattle.next_master.specs.cluster.declared.node.Node.{Node}
+use Rattle.next_master.specs.cluster.Told.{command_of}
 use Rattle.next_master.specs.answers.declared.answer.Answer.TheVariants as answers
-use Rattle.next_master.specs.node.declared.tried.Tried.TheVariants as tried
-use Rattle.next_master.specs.node.Waits.{MakesTry, Serves}
-use Rattle.node_lines.proofs.Lines.{command_makes}
-use Rattle.next_master.proofs.of_node.Tries.{tried_makes, waited_makes}
+use Rattle.next_master.specs.cluster.declared.tried.Tried.TheVariants as tried
+use Rattle.next_master.specs.cluster.Waits.{MakesTry, Serves}
+use Rattle.cluster_lines.proofs.Lines.{command_makes}
+use Rattle.next_master.proofs.of_cluster.Tries.{tried_makes, waited_makes}
 use Rattle.script.specs.declared.session.Session.{Session}
 use Rattle.script.specs.Sessions.{AnswersAfterRoll, SessionAnswers, TriesCommand}
 use Rattle.next_master.specs.Configuration.{MayBegin}

@@ -28,19 +28,19 @@ use Rattle.next_master.specs.answers.Errors.{AppendsFront}
 use Rattle.command_line.specs.declared.settings.Options.{Options}
 use Rattle.lines.specs.Grammar.{LineValue, Recover}
 use Rattle.next_master.specs.Configuration.{config_of, MayBegin}
-use Rattle.next_master.specs.node.Lives.{Life, Position, at_start}
+use Rattle.next_master.specs.cluster.Lives.{Life, Position, at_start}
 use Rattle.script.specs.Sessions.{RunsLine, BeginsSession, IsCovered, AreLaterUnraised, Stands}
 use Rattle.next_master.specs.Recoveries.{standing_of}
-use Rattle.next_master.specs.node.Served.{AnswersLine, IsNodeAt, life_of}
+use Rattle.next_master.specs.cluster.Served.{AnswersLine, IsNodeAt, life_of}
 use Rattle.next_master.specs.answers.Texts.{answer_text}
 use Rattle.next_master.specs.Succession.{Standing, Succeeds}
 use Rattle.script.specs.Telling.{at_first, Moves, AreTelling, TellLives, Told}
-use Rattle.next_master.specs.node.Told.{Tells}
+use Rattle.next_master.specs.cluster.Told.{Tells}
 use Rattle.script.specs.Turns.{RunsText, IsPrinted, PrintsText, TakesTurn, IsNoMore}
 use Rattle.script.proofs.Sessions.{begins_later, options_kept, options_renewed, options_stay, renewed_begins, told_of}
 use Rattle.script.proofs.LaterMasters.{begins_unraised, line_numbers, line_unraised}
 use Rattle.script.proofs.Succeeding.{nothing_more, telling_longer, telling_more, with_more}
-use Rattle.next_master.proofs.of_node.Standing.{legal_of, same_opening}
+use Rattle.next_master.proofs.of_cluster.Standing.{legal_of, same_opening}
 use Rattle.entry.specs.Meaning.{contents_of}
 
 -- ---- a line that was run

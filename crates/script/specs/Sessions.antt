@@ -15,24 +15,24 @@ use Rattle.next_master.specs.master.World.{World}
 use Rattle.next_master.specs.answers.declared.answer.Answer.{Answer}
 use Rattle.next_master.specs.answers.declared.answer.Answer.TheVariants.{Counted, NumbersSpent}
 use Rattle.next_master.specs.answers.declared.answer.Answer.TheVariants as answers
-use Rattle.next_master.specs.node.declared.node.Node.{Node}
+use Rattle.next_master.specs.cluster.declared.node.Node.{Node}
 use Rattle.script.specs.declared.outcome.Outcome.{Outcome}
 use Rattle.script.specs.declared.outcome.Outcome.TheVariants as outcome
 use Rattle.script.specs.declared.session.Session.{Session}
 use Rattle.next_master.specs.Configuration.{config_of, later_options, tables_to, one_partition, no_later, MayBegin}
 use Rattle.next_master.specs.declared.later.Later.{Later}
-use Rattle.next_master.specs.node.Lives.{Position, at_start}
+use Rattle.next_master.specs.cluster.Lives.{Position, at_start}
 use Rattle.next_master.specs.recovery.Orders.{Covers}
 use Rattle.next_master.specs.driving.Rolls.{PushesUntil}
-use Rattle.next_master.specs.node.Told.{command_of, HasLimits}
+use Rattle.next_master.specs.cluster.Told.{command_of, HasLimits}
 use Rattle.next_master.specs.answers.declared.limits.Limits.{Limits}
-use Rattle.next_master.specs.node.Served.{AnswersLine, IsNodeAt, world_of, fleet_of, is_up, HandsOver}
-use Rattle.node_lines.specs.Lines.{MakesLine}
+use Rattle.next_master.specs.cluster.Served.{AnswersLine, IsNodeAt, world_of, fleet_of, is_up, HandsOver}
+use Rattle.cluster_lines.specs.Lines.{MakesLine}
 use Rattle.lines.specs.declared.line.ReplayOrder.{ReplayOrder}
 use Rattle.lines.specs.declared.line.ReplayOrder.TheVariants.{Forward}
 use Rattle.next_master.specs.Numbers.{AreSpent, IsNextNumber, Renumbers}
-use Rattle.next_master.specs.node.declared.tried.Tried.{Tried}
-use Rattle.next_master.specs.node.Waits.{IsReplyAt, MakesTryAfterRoll, TriesLine, WaitsForRoll}
+use Rattle.next_master.specs.cluster.declared.tried.Tried.{Tried}
+use Rattle.next_master.specs.cluster.Waits.{IsReplyAt, MakesTryAfterRoll, TriesLine, WaitsForRoll}
 use Rattle.next_master.specs.Recoveries.{Asked, Ends, MakesLimit, Recovers, ShowsNeeds, ask, order_named}
 
 -- ---- where a session stands

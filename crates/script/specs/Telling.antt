@@ -3,9 +3,9 @@ use Rattle.std.specs.Prelude.{[], ◌≡◌, ◌⊎◌, ℕ, List, ◌∷◌}
 use Rattle.lines.specs.Grammar.{LineValue}
 use Rattle.next_master.specs.master.master_state.declared.config.Config.{Config}
 use Rattle.next_master.specs.answers.declared.answer.Answer.{Answer}
-use Rattle.next_master.specs.node.Lives.{Life, at_start}
+use Rattle.next_master.specs.cluster.Lives.{Life, at_start}
 use Rattle.versioned_map.specs.Represents.{empty_state}
-use Rattle.next_master.specs.node.Told.{Tells}
+use Rattle.next_master.specs.cluster.Told.{Tells}
 use Rattle.next_master.specs.Succession.{Standing, IsTold, Succeeds}
 
 -- a line that was run: its text without the line feed, what it says, and what it answered

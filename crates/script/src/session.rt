@@ -8,7 +8,7 @@ ghost use Rattle.versioned_map.specs.declared.command.Reply.{Reply as ReplyValue
 ghost use Rattle.next_master.specs.answers.declared.answer.Answer.{Answer as AnswerValue};
 ghost use Rattle.next_master.specs.answers.Errors.{IsHanded};
 ghost use Rattle.next_master.specs.answers.Texts.{reply_text};
-ghost use Rattle.next_master.specs.node.Waits.{IsReplyAt};
+ghost use Rattle.next_master.specs.cluster.Waits.{IsReplyAt};
 ghost use Rattle.lines.specs.Grammar.{Begin, Clean, Clients, Recover, IsLine, IsOrder, shown_command, shown_line};
 ghost use Rattle.lines.specs.Grammar.{Format, Needs, Seglets, Will as WillLine};
 ghost use Rattle.lines.specs.Numbers.{numbers_of};
@@ -19,25 +19,25 @@ ghost use Rattle.script.specs.Runs.{IsOfFleet};
 ghost use Rattle.script.specs.declared.session.Session.{Session as SessionValue};
 ghost use Rattle.script.specs.Sessions.{RunsLine, SessionRecovers, IsPrintedAs, TriesCommand};
 ghost use Rattle.script.specs.Sessions.{BeginsSession, SessionAnswers, Stands};
-ghost use Rattle.next_master.specs.node.Told.{command_of};
+ghost use Rattle.next_master.specs.cluster.Told.{command_of};
 ghost use Rattle.script.specs.Turns.{HasValue, RefusesLine};
 ghost use Rattle.script.specs.Sessions.{AnswersAfterRoll};
 
 use crate::outcome::Outcome;
 use backup::MemoryFleet;
+use cluster_lines::store_clients::Workload;
+use cluster_lines::{Served, serve_clients};
 use command_line::Options;
 use entry::{KeyRef, MAX_VALUE_LEN, NoMemory, Row};
 use lines::{CommandLine, KeyWord, Line, Numbers, ReplayOrder};
 use next_master::answers::{Answer, Limits, WriteFailed};
+use next_master::cluster::{Node, Tried};
 use next_master::driving::push_all;
 use next_master::master::{CommandRef, If, Master, Refusal, Step, ValueRef};
-use next_master::node::{Node, Tried};
 use next_master::recovery::{PlanFault, RecoveryFault};
 use next_master::{
     Later, Request, can_begin, configuration, later_options, node_needs, recover_node, whole_will,
 };
-use node_lines::store_clients::Workload;
-use node_lines::{Served, serve_clients};
 use std::alloc::Global;
 use std::io::Write;
 use std::sync::Wait;
@@ -192,6 +192,7 @@ impl Session {
             Line::Copy => Ok(self.node.step(Step::Copy)),
             Line::Seal => Ok(self.node.step(Step::Seal)),
             Line::Free => Ok(self.node.step(Step::Free)),
+            Line::Tend { steps } => Ok(self.node.tend(steps)),
             Line::Log => Ok(self.node.log()),
             Line::Room => Ok(self.node.room()),
             Line::Live => Ok(self.node.live()),

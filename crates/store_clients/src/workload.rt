@@ -2,7 +2,7 @@
 
 ghost use Rattle.std.specs.Prelude.{◌≡◌, ◌≤◌, ◌<◌, ◌*◌, ◌+◌, ◌++◌, ◌^◌, List, IfOk, OnOk, IsTrue, None};
 ghost use Rattle.std.specs.Prelude.{length, drop, take, replicate};
-ghost use Rattle.counted_calls.specs.master.failover_model.Data.{durable_of};
+ghost use Rattle.counted_calls.specs.master.log_laws.Data.{durable_of};
 ghost use Rattle.counted_calls.specs.master.master_state.Log.{log_of};
 ghost use Rattle.counted_calls.specs.locked_log.Made.{IsMade, made_now};
 ghost use Rattle.counted_calls.specs.locked_log.store_seat.Seats.{SeatValue};

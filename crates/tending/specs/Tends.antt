@@ -1,6 +1,6 @@
 -- What a cleaner makes of a master and its fleet, a few steps at a time.
-use Rattle.std.specs.Prelude.{◌≡◌, ◌⊎◌, ℕ, zero, suc, ◌<◌, ◌≤◌, false, Some, None}
-use Rattle.driving.specs.master.master_space.Choosing.{pending_step}
+use Rattle.std.specs.Prelude.{◌≡◌, ◌⊎◌, ℕ, zero, suc, ◌<◌, ◌≤◌, true, false, Some, None, Result, Ok, Err}
+use Rattle.driving.specs.master.master_space.Choosing.{next_step, pending_step}
 use Rattle.driving.specs.master.master_state.declared.step.Refusal.{Refusal}
 use Rattle.driving.specs.master.master_state.declared.step.Refusal.TheVariants.{NoMemory}
 use Rattle.driving.specs.master.master_state.declared.step.Step.{Step}
@@ -10,6 +10,8 @@ use Rattle.driving.specs.master.master_state.Data.{MasterData}
 use Rattle.driving.specs.master.Steps.{Declines}
 use Rattle.driving.specs.master.World.{World}
 use Rattle.driving.specs.Rolls.{Advances, is_lost}
+use Rattle.tending.specs.declared.policy.Policy.{Policy}
+use Rattle.tending.specs.Low.{is_low}
 
 -- a segment is compacted, or a pass begins
 abbrev pub IsBegin : Step → Type 0
@@ -43,3 +45,10 @@ abbrev pub TendsUntil : ℕ → World → Refusal → World → Type 0
 TendsUntil most old r new = (count : ℕ) × (count < most) × (mid : World) × AreTended count old mid
     × (((step : Step) × IsTendStep mid.knows step × Declines mid step r new × (is_lost r ≡ false))
     ⊎ ((r ≡ NoMemory) × (new ≡ mid)))
+
+-- What a cleaner makes of a master. It made so many steps, and fewer than were asked for only if nothing has to begin
+-- or no pass may begin. Or it was refused.
+abbrev pub Tends : Policy → ℕ → World → Result ℕ Refusal → World → Type 0
+Tends policy most old (Ok made) new = IsTended most made old new
+    × (made < most → is_low policy new.knows ≡ true → next_step new.knows ≡ None)
+Tends policy most old (Err r) new = TendsUntil most old r new

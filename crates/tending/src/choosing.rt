@@ -2,11 +2,12 @@
 
 ghost use Rattle.std.specs.Prelude.{◌≡◌, None, IfOk, IfSome};
 ghost use Rattle.driving.specs.master.master_space.Choosing.{next_step, pending_step};
+ghost use Rattle.driving.specs.master.World.{world};
 ghost use Rattle.tending.specs.Low.{MayRest};
 ghost use Rattle.tending.specs.Tends.{IsBegin};
 
 use crate::policy::{Policy, product, room_of};
-use crate::weighing::{Weight, weigh_all};
+use crate::weighing::{Weight, count_all, weigh_all};
 use driving::master::{Master, Step};
 use entry::{NoMemory, Row};
 use replica::Fleet;
@@ -17,9 +18,10 @@ fn best_of(policy: &Policy, weights: &[Weight]) -> Option<u64> {
     let mut best = None;
     let mut best_gain: u64 = 0;
     let mut best_cost: u64 = 1;
+    let listed = weights.len() as u64;
     for weight in weights {
-        let gain = policy.gain(weight);
-        let cost = weight.kept().saturating_add(1);
+        let gain = policy.gain(weight, listed);
+        let cost = weight.kept.saturating_add(1);
         if product(gain, best_cost) > product(best_gain, cost) {
             best = Some(weight.id);
             best_gain = gain;
@@ -43,7 +45,7 @@ fn kept_by(weights: &[Weight], ids: &[u64]) -> u64 {
     let mut kept: u64 = 0;
     for weight in weights {
         if ids.contains(&weight.id) {
-            kept = kept.saturating_add(weight.kept());
+            kept = kept.saturating_add(weight.kept);
         }
     }
     kept
@@ -124,15 +126,29 @@ fn begin_pass<F: Fleet>(
     Ok(Step::BeginClean(Row::new(chosen)))
 }
 
-/// What begins if nothing is under way. Nothing changes.
-pub(crate) fn begin<F: Fleet>(master: &Master<F>, policy: &Policy) -> Result<Option<Step>, NoMemory>
-    requires { pending_step master.now.knows ≡ None }
+/// What begins if nothing is under way. It counts segments, and changes nothing else.
+pub(crate) fn begin<F: Fleet>(
+    master: &mut Master<F>,
+    policy: &Policy,
+) -> Result<Option<Step>, NoMemory>
+    requires { pending_step master.old.knows ≡ None }
     ensures some { IfOk result (λ step. IfSome step IsBegin) }
-    ensures none { IfOk result (λ step. step ≡ None → MayRest policy.now master.now.knows) }
+    ensures none { IfOk result (λ step. step ≡ None → MayRest policy.now master.new.knows) }
+    ensures same { world F.state master.new ≡ world F.state master.old }
 {
     if !policy.is_low(master)? {
         return Ok(None);
     }
+    count_all(master)?;
+    begin_by(master, policy)
+}
+
+/// What begins if nothing is under way and memory is short or the digest crowded. Nothing changes.
+fn begin_by<F: Fleet>(master: &Master<F>, policy: &Policy) -> Result<Option<Step>, NoMemory>
+    requires { pending_step master.now.knows ≡ None }
+    ensures some { IfOk result (λ step. IfSome step IsBegin) }
+    ensures none { IfOk result (λ step. step ≡ None → MayRest policy.now master.now.knows) }
+{
     let chosen = master.choose()?;
     let weights = weigh_all(master, *chosen.allocator())?;
     let best = best_of(policy, weights.as_slice());

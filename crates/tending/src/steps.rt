@@ -4,7 +4,7 @@ ghost use Rattle.std.specs.Prelude.{◌≡◌, ◌<◌, [], None, true, IfOk, If
 ghost use Rattle.driving.specs.master.World.{world};
 ghost use Rattle.driving.specs.master.Keeps.{Keeps};
 ghost use Rattle.driving.specs.master.master_space.Choosing.{next_step, pending_step};
-ghost use Rattle.driving.specs.Served.{LivesOn};
+ghost use Rattle.driving.specs.Served.{IsSpent, LivesOn};
 ghost use Rattle.tending.specs.Low.{is_low, MayRest};
 ghost use Rattle.tending.specs.Tends.{IsTendStep, IsTended, TendsUntil};
 
@@ -14,10 +14,11 @@ use driving::master::{Master, Refusal, Step};
 use entry::NoMemory;
 use replica::Fleet;
 
-/// The next step of the cleaner, if there is one. Nothing changes.
-fn next<F: Fleet>(master: &Master<F>, policy: &Policy) -> Result<Option<Step>, NoMemory>
-    ensures some { IfOk result (λ step. IfSome step (IsTendStep master.now.knows)) }
-    ensures none { IfOk result (λ step. step ≡ None → MayRest policy.now master.now.knows) }
+/// The next step of the cleaner, if there is one. It counts segments, and changes nothing else.
+fn next<F: Fleet>(master: &mut Master<F>, policy: &Policy) -> Result<Option<Step>, NoMemory>
+    ensures some { IfOk result (λ step. IfSome step (IsTendStep master.new.knows)) }
+    ensures none { IfOk result (λ step. step ≡ None → MayRest policy.now master.new.knows) }
+    ensures same { world F.state master.new ≡ world F.state master.old }
 {
     match master.pending_step() {
         Some(step) => Ok(Some(step)),
@@ -32,13 +33,15 @@ fn next<F: Fleet>(master: &Master<F>, policy: &Policy) -> Result<Option<Step>, N
 /// After any other refusal, what was done stays done.
 ///
 /// Cost: a step is one entry, one op of one backup, one segment that is compacted, or one pass that begins. Whatever
-/// begins is chosen by a walk over the log, which looks up each object.
+/// begins is chosen by what is counted of the segments. After a commit their tombstones are counted anew, by a walk
+/// over the segments that have some.
 pub fn tend<F: Fleet>(master: &mut Master<F>, policy: &Policy, most: u64) -> Result<u64, Refusal>
     ensures tended { IfOk result (λ made.
         IsTended most made (world F.state master.old) (world F.state master.new)) }
     ensures refused { IfErr result (λ r. TendsUntil most (world F.state master.old) r (world F.state master.new)) }
     ensures goes_on { LivesOn master.old.knows master.new.knows [] }
     ensures keeps { Keeps most (world F.state master.old) (world F.state master.new) }
+    ensures spent { IfErr result (λ r. r ≡ Refusal.Spent → IsSpent (F.state master.new.fleet)) }
     ensures able { IfOk result (λ made.
         made < most → is_low policy.now master.new.knows ≡ true → next_step master.new.knows ≡ None) }
 {

@@ -10,7 +10,7 @@ use tending::driving::{push_all, roll_all};
 use tending::{Policy, tend};
 
 /// A command on a key of table 1.
-enum Ask {
+pub enum Ask {
     /// A put of 40 bytes.
     Put(&'static [u8]),
     Delete(&'static [u8]),
@@ -39,7 +39,7 @@ fn try_once(alloc: Global, master: &mut Master<MemoryFleet>, ask: &Ask) -> Resul
 }
 
 /// The same, after a roll if the head has no room.
-fn serve(alloc: Global, master: &mut Master<MemoryFleet>, ask: &Ask) -> Result<(), Refusal> {
+pub fn serve(alloc: Global, master: &mut Master<MemoryFleet>, ask: &Ask) -> Result<(), Refusal> {
     if let Err(refusal) = try_once(alloc, master, ask) {
         if refusal != Refusal::Rolling {
             return Err(refusal);
@@ -90,10 +90,10 @@ fn is_so(alloc: Global, row: &Row) -> bool {
 }
 
 /// Four keys, again and again.
-const OVERWRITES: &[Ask] = &[Put(b"a"), Put(b"b"), Put(b"c"), Put(b"d")];
+pub const OVERWRITES: &[Ask] = &[Put(b"a"), Put(b"b"), Put(b"c"), Put(b"d")];
 
 /// One key that comes and goes.
-const TURNS: &[Ask] = &[Put(b"a"), Delete(b"a")];
+pub const TURNS: &[Ask] = &[Put(b"a"), Delete(b"a")];
 
 const ROWS: &[Row] = &[
     (OVERWRITES, 400, 0, 0, Some(Refusal::Full)),

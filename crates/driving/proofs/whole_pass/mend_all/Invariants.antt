@@ -1,5 +1,5 @@
 use Rattle.std.proofs.Common.{ℕ, []}
-use Rattle.master.specs.master_mending.Left.{left_now}
+use Rattle.master.specs.master_failover.Left.{left_now}
 use Rattle.master.specs.World.{world}
 use Rattle.driving.specs.Cleans.{AreMended}
 use Rattle.driving.specs.Served.{LivesOn}

@@ -1,7 +1,7 @@
 use Rattle.std.proofs.Common.{ap, ◌∙◌, arith}
 use Rattle.entry.specs.Limits.{ids_in}
 use Rattle.entry.proofs.ListLemmas.{all_push}
-use Rattle.log_model.proofs.Lengths.{ids_push}
+use Rattle.log_laws.proofs.ListedIds.{ids_push}
 use Rattle.log_head.proofs.Waiting.{first_of, behind_rise, behind_less, first_comes, none_comes, listed_behind}
 use Rattle.log_head.proofs.rolling.+list_before.Goals as goal
 

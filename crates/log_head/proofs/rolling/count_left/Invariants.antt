@@ -1,6 +1,6 @@
 use Rattle.std.proofs.Common.{◌≡◌, ◌+◌, ◌≤◌, length, drop}
 use Rattle.entry.specs.View.{shown_ids}
-use Rattle.log_model.specs.Ids.{without}
+use Rattle.log_laws.specs.Ids.{without}
 use Rattle.log_head.proofs.rolling.count_left.Given as goal
 
 abbrev pub invariant-loop-place : goal.invariant-loop-place

@@ -3,7 +3,7 @@ use Rattle.entry.specs.Limits.{ids_in}
 use Rattle.entry.specs.Text.{listed_ids}
 use Rattle.entry.specs.View.{shown_digest, shown_ids}
 use Rattle.entry.proofs.LengthLemmas.{length-ids_in}
-use Rattle.log_model.specs.Ids.{all_inserted, without}
+use Rattle.log_laws.specs.Ids.{all_inserted, without}
 use Rattle.log_head.specs.Head.{digest_of}
 use Rattle.log_head.proofs.Digests.{IsPushed, waits_fits, pushed_fits, pushed_all, pushed_victim, id_fits, pushed_other}
 use Rattle.log_head.proofs.Digests.{pushed_begins, digest_some, digest_none, alone}

@@ -1,7 +1,7 @@
 use Rattle.std.proofs.Common.{◌≡◌, ◌∷◌, [], true, List, ℕ, length, ◌∙◌, sym, ap, subst, arith}
 use Rattle.std.proofs.lemmas.List.{length-append}
 use Rattle.entry.specs.Text.{ends_with, listed_ids}
-use Rattle.log_model.proofs.Lengths.{ids_digest}
+use Rattle.log_laws.proofs.ListedIds.{ids_digest}
 use Rattle.log_head.specs.Steps.{others_after}
 use Rattle.log_head.proofs.Rolls.{ends_with_push}
 use Rattle.log_head.proofs.rolling.next_image.Goals as goal

@@ -5,7 +5,7 @@ use Rattle.entry.specs.Limits.{ids_in}
 use Rattle.entry.specs.Text.{listed_ids, listed_len}
 use Rattle.entry.specs.View.{shown_digest, shown_ids}
 use Rattle.entry.proofs.LengthLemmas.{length-ids_in}
-use Rattle.log_model.specs.Ids.{all_inserted, without}
+use Rattle.log_laws.specs.Ids.{all_inserted, without}
 use Rattle.log_head.specs.Head.{digest_in}
 use Rattle.log_head.specs.Steps.{IsLen}
 use Rattle.log_head.proofs.Digests.{digest_some, waits_fits, pushed_fits, pushed_all, id_fits}

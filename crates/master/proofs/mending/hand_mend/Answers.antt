@@ -4,11 +4,11 @@ use Rattle.replica.specs.Op.{OpValue, shown_op}
 use Rattle.replica.specs.Picture.{FleetState}
 use Rattle.replica.specs.Take.{Takes, Refuses}
 use Rattle.replica.specs.declared.op.TakeFault.{TakeFault}
-use Rattle.log_head.specs.log_model.Ids.{has}
-use Rattle.master_core.specs.failover_model.Shown.{Op}
-use Rattle.master_core.specs.failover_bytes.Ops.{TakesOp}
-use Rattle.master_core.specs.master_mending.declared.mending.Mend.{Mend}
-use Rattle.master_core.specs.master_mending.Mending.{IsLater, backup_for, mended_data}
+use Rattle.log_head.specs.log_laws.Ids.{has}
+use Rattle.master_core.specs.log_laws.Shown.{Op}
+use Rattle.master_core.specs.log_bytes.Ops.{TakesOp}
+use Rattle.master_core.specs.master_failover.declared.mending.Mend.{Mend}
+use Rattle.master_core.specs.master_failover.Mending.{IsLater, backup_for, mended_data}
 use Rattle.master_core.specs.master_state.declared.step.StepAnswer.{StepAnswer}
 use Rattle.master_core.specs.master_state.Data.{MasterData}
 use Rattle.master_core.specs.master_state.Invariant.{IsCore}

@@ -2,7 +2,7 @@ use Rattle.std.proofs.Common.{inr, ℕ, sym, subst}
 use Rattle.replica.specs.Picture.{FleetState}
 use Rattle.replica.specs.Registry.{Raises, RefusesRaise}
 use Rattle.replica.specs.declared.op.TakeFault.{TakeFault}
-use Rattle.master_core.specs.master_mending.declared.mending.Mend.TheVariants as mend
+use Rattle.master_core.specs.master_failover.declared.mending.Mend.TheVariants as mend
 use Rattle.master_core.specs.master_state.Data.{MasterData}
 use Rattle.master_core.specs.master_state.Invariant.{IsCore}
 use Rattle.master.specs.Invariant.{StaysServed}

@@ -12,21 +12,22 @@ use Rattle.replica.specs.Take.{Refuses}
 use Rattle.replica.specs.declared.op.TakeFault.TheVariants as take_fault
 use Rattle.log_head.specs.declared.head.Roll.{Roll}
 use Rattle.log_head.specs.Head.{IsHeadValue}
-use Rattle.master_core.specs.master_mending.declared.mending.Mend.TheVariants as mend
-use Rattle.master_core.specs.master_mending.declared.turning.NewHead.{NewHead}
-use Rattle.master_core.specs.master_mending.Mending.{IsNextMend, IsNewHead, MayPut, put_data, turned_data, mended_data}
-use Rattle.master_core.specs.master_mending.Mending.{backup_for}
-use Rattle.master_core.proofs.master_mending.Changed.{own}
-use Rattle.master_core.proofs.master_mending.TurnedCore.{turned_next, turned_is}
+use Rattle.master_core.specs.master_failover.declared.mending.Mend.TheVariants as mend
+use Rattle.master_core.specs.master_failover.declared.turning.NewHead.{NewHead}
+use Rattle.master_core.specs.master_failover.Mending.{IsNextMend, IsNewHead, MayPut, put_data, turned_data, mended_data}
+use Rattle.master_core.specs.master_failover.Mending.{backup_for}
+use Rattle.master_core.proofs.master_failover.Changed.{own}
+use Rattle.master_core.proofs.master_failover.TurnedCore.{turned_next, turned_is}
 use Rattle.master_core.specs.master_state.declared.step.Refusal.TheVariants.{Halted}
 use Rattle.master_core.specs.master_state.declared.step.Step.TheVariants.{Push}
 use Rattle.master_core.specs.master_state.contracts.state.Core.{the_view}
 use Rattle.master_core.specs.master_state.Budget.{is_ready, may_turn, victims_of, is_committing}
 use Rattle.master_core.specs.master_state.Data.{MasterData}
-use Rattle.master_core.specs.master_state.Invariant.{IsCore, AreImagesOf}
+use Rattle.master_core.specs.master_state.Invariant.{IsCore, AreImagesOf, AreTallied}
 use Rattle.master_core.specs.master_state.Log.{home}
 use Rattle.master_core.specs.master_state.Steps.{halted}
 use Rattle.master_core.proofs.master_state.Refusals.{sizes_of}
+use Rattle.master_core.proofs.master_state.Tallying.{none_right}
 use Rattle.master.specs.Invariant.{StaysServed}
 use Rattle.master.specs.Mends.{first_open, OpensFirst}
 use Rattle.master.specs.Steps.{Declines}
@@ -110,6 +111,16 @@ module _ (g : given.Over) (c : goal.After-reserve-2 g) where
   })
   core_then = subst IsCore (λ i. record v { closed = sym images i; waiting = sym items i }) core
 
+  tallied_then : AreTallied (record (the_view c.core.inside) {
+    closed = c.reserve.new.self.images;
+    waiting = c.reserve-2.new.self.items;
+  }) c.core.inside.tallies
+  tallied_then =
+      subst (λ (xs : List Image). AreTallied (record (the_view c.core.inside) {
+        closed = xs;
+        waiting = c.reserve-2.new.self.items;
+      }) c.core.inside.tallies) (sym images) c.core.invariant.4
+
 pub invariant_of-core-in_err-reserve-2 : goal.invariant_of-core-in_err-reserve-2
 invariant_of-core-in_err-reserve-2 g c =
     let t = (goal.at.invariant_of-core-in_err-reserve-2 g c).After-reserve-2 in (
@@ -117,6 +128,7 @@ invariant_of-core-in_err-reserve-2 g c =
       sizes g t,
       core_then g t,
       none_commits c.core.inside.pass _ _ (mends g t).1,
+      tallied_then g t,
     )
 
 pub invariant_of-core-in_err-is_taken : goal.invariant_of-core-in_err-is_taken
@@ -126,6 +138,7 @@ invariant_of-core-in_err-is_taken g c =
       sizes g t,
       core_then g t,
       none_commits c.core.inside.pass _ _ (mends g t).1,
+      tallied_then g t,
     )
 
 -- ---- the new head
@@ -277,6 +290,7 @@ invariant_of-core-then-not-is_taken g c =
       rw (c.mark.ensures) (marked_room c.core.inside.pass c.is_ready-is_commit.result c.victims_of_commit-victims.result
           _ _ (victims g k) (let enough = c.in_ok-reserve-2.ensures.ok in
           let same = ap length c.reserve-2.ensures.items in omega (arith, enough, same))),
+      none_right _ _ _ _ c.clear.ensures,
     )
 
 pub invariant_of-core-else-not-is_taken : goal.invariant_of-core-else-not-is_taken
@@ -288,6 +302,7 @@ invariant_of-core-else-not-is_taken g c =
       rw (c.mark.ensures) (marked_room c.core.inside.pass c.is_ready-is_commit.result c.victims_of_commit-victims.result
           _ _ (victims g k) (let enough = c.in_ok-reserve-2.ensures.ok in
           let same = ap length c.reserve-2.ensures.items in omega (arith, enough, same))),
+      none_right _ _ _ _ c.clear.ensures,
     )
 
 -- ---- nobody knows whether it was

@@ -7,9 +7,9 @@ use Rattle.log_head.specs.declared.next.Next.{Next}
 use Rattle.log_head.specs.Head.{HeadValue}
 use Rattle.log_head.specs.Next.{IsNextPush, replica_of, segment_of, op_of}
 use Rattle.log_head.proofs.NextOps.{next_has_op}
-use Rattle.log_head.specs.log_model.Ids.{has}
-use Rattle.log_head.specs.log_model.Ops.{op_of as log_op_of}
-use Rattle.master_core.specs.failover_bytes.Ops.{log_op_for}
+use Rattle.log_head.specs.log_laws.Ids.{has}
+use Rattle.log_head.specs.log_laws.Ops.{op_of as log_op_of}
+use Rattle.master_core.specs.log_bytes.Ops.{log_op_for}
 use Rattle.master_core.specs.master_state.declared.step.StepAnswer.{StepAnswer}
 use Rattle.master_core.specs.master_state.declared.step.Step.TheVariants.{Push}
 use Rattle.master_core.specs.master_state.declared.step.Refusal.{Refusal}

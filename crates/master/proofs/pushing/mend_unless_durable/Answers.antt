@@ -1,5 +1,5 @@
 use Rattle.std.proofs.Common.{◌≤◌, arith}
-use Rattle.master_core.specs.failover_model.Data.{durable_of}
+use Rattle.master_core.specs.log_laws.Data.{durable_of}
 use Rattle.master_core.specs.master_state.Log.{log_of}
 use Rattle.master.proofs.PushedFor.{served_count}
 use Rattle.master.proofs.pushing.mend_unless_durable.Goals.{in-Ok, in-Err}

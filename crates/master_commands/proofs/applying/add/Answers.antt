@@ -7,7 +7,8 @@ use Rattle.master_commands.specs.declared.change.Change.{Change}
 use Rattle.log_head.specs.Head.{HeadValue, IsHeadValue}
 use Rattle.master_state.specs.declared.step.StepAnswer.TheVariants.{Applied}
 use Rattle.master_state.specs.Causes.{command_refusal, is_empty, live_now}
-use Rattle.master_commands.specs.Change.{unit_of_change, IsJudged, IsSought}
+use Rattle.master_commands.specs.Change.{unit_of_change, had_now, IsJudged, IsSought}
+use Rattle.master_commands.specs.Counts.{IsCounted}
 use Rattle.master_state.specs.Steps.{appended, reply_now, Applies, MayApplyNow}
 use Rattle.master_state.specs.contracts.state.Core.{the_view}
 use Rattle.master_state.specs.Data.{MasterData}
@@ -15,7 +16,7 @@ use Rattle.versioned_map.specs.Command.{command_key}
 use Rattle.master_state.specs.Images.{images_among}
 use Rattle.master_state.specs.compactor.Places.{keys_in}
 use Rattle.master_commands.proofs.Indexed.{IsMovedBy, moved_by}
-use Rattle.master_state.specs.Invariant.{IsCore}
+use Rattle.master_state.specs.Invariant.{AreTallied, IsCore}
 use Rattle.std.specs.Prelude.{IsSome}
 use Rattle.std.proofs.lemmas.Result.{err_from_is_err_and}
 use Rattle.master_state.proofs.Refusals.{sizes_of, few_records, is_admitted, passed_early}
@@ -24,7 +25,8 @@ use Rattle.master_commands.proofs.Changes.{put_is_some}
 use Rattle.history.specs.Packing.{IsReplyTo}
 use Rattle.history.specs.View.{shown_command, shown_reply, shown_record}
 use Rattle.master_state.specs.Log.{state_now}
-use Rattle.master_commands.proofs.Adding.{same_appended, found_then, added, fits, may, added_core, added_applies}
+use Rattle.master_commands.proofs.Adding.{same_appended, image_appended, found_then, added, fits, may, added_core, added_applies}
+use Rattle.master_commands.proofs.Tallied.{change_tallied}
 use Rattle.master_commands.proofs.applying.add.Goals as goal
 use Rattle.master_commands.proofs.applying.add.Goals.{After-push, After-from_residual}
 
@@ -139,6 +141,29 @@ module _ (c : goal.After-push) where
       (added_core d c.core.invariant.2 command change dead judged c.args.accepted.now.seat there.0
       c.enact.new.index.held passed there.1 moved head)
 
+  had : c.args.judged.now.had ≡ had_now d command
+  had = rw (← c.core.view_is) at c.requires.had
+
+  counted : IsCounted command change dead c.args.judged.now.had d.head.id c.core.inside.tallies c.count.new.tallies
+  counted =
+      let unit = unit_of_change dead command change in
+      subst (λ (id : ℕ). IsCounted command change dead c.args.judged.now.had id c.core.inside.tallies c.count.new.tallies)
+      (c.id-head.ensures.id ∙ ap (λ (h : HeadValue). h.id) head_is
+      ∙ (same_appended d.head (length d.history) unit).0)
+      c.count.ensures
+
+  tallied : AreTallied left c.count.new.tallies
+  tallied =
+      let unit = unit_of_change dead command change in
+      let same = same_appended d.head (length d.history) unit in
+      let there = c.in_ok-enact.ensures.index in
+      let was = c.args.judged.now.held in
+      subst (λ (m : MasterData). AreTallied m c.count.new.tallies) knows
+      (change_tallied d c.core.invariant.2 (appended d.head (length d.history) unit) unit same.0 same.2
+      (image_appended d.head (length d.history) unit) head command change was.place there.0 c.args.judged.now.had
+      c.enact.new.index.held c.core.inside.tallies c.count.new.tallies judged.change_of refl there.1 moved
+      (found_then d c.core.invariant.2 command change dead judged was sought head) had counted c.core.invariant.4)
+
   applies : Applies d c.args.accepted.now.seat command (Applied (length d.history) (reply_now d command)) left
   applies =
       let there = c.in_ok-enact.ensures.index in
@@ -155,8 +180,13 @@ module _ (c : goal.After-push) where
 
 pub invariant_of-core-2 : goal.invariant_of-core-2
 invariant_of-core-2 c =
-    let t = (goal.at.invariant_of-core-2 c).After-push in
-    (λ some. c.core.invariant.0 (subst IsSome (roll_then t) some), c.core.invariant.1, core t, c.core.invariant.3)
+    let t = (goal.at.invariant_of-core-2 c).After-push in (
+      λ some. c.core.invariant.0 (subst IsSome (roll_then t) some),
+      c.core.invariant.1,
+      core t,
+      c.core.invariant.3,
+      tallied t,
+    )
 
 pub returns-clause-added : goal.returns-clause-added
 returns-clause-added c =
@@ -199,6 +229,7 @@ invariant_of-core c = (
   c.core.invariant.1,
   subst IsCore (unchanged c) c.core.invariant.2,
   c.core.invariant.3,
+  subst (λ (m : MasterData). AreTallied m c.core.inside.tallies) (unchanged c) c.core.invariant.4,
 )
 
 pub returns-in_err-enact-clause-refused : goal.returns-in_err-enact-clause-refused

@@ -46,6 +46,7 @@ invariant_of-core-2 c =
       read_core (d t) c.core.invariant.2 (k t) c.args.seat (passed t) c.record_get.new.history.records (held t)
           c.in_ok-record_get.ensures.added (present t).stands,
       c.core.invariant.3,
+      c.core.invariant.4,
     )
 
 pub returns-clause-added : goal.returns-clause-added
@@ -80,6 +81,7 @@ invariant_of-core c =
       subst (λ (records : List Record). IsCore (with t records)) (sym c.in_err-record_get.ensures.refused)
           c.core.invariant.2,
       c.core.invariant.3,
+      c.core.invariant.4,
     )
 
 pub returns-in_err-record_get-clause-refused : goal.returns-in_err-record_get-clause-refused

@@ -55,9 +55,9 @@ returns-in_err-fit-clause-refused c =
     let is : IsChangeNow d k c.in-Ok.change =
     subst (λ (s : ℕ). IsChangeOf s (held_now d k) k c.in-Ok.change) safe
     (c.in-Ok.ensures.done (held_now d k) version) in
-    let live = live_then d k c.in-Ok.change c.core.inside.live c.bytes_of.result c.live_after-live.result is
+    let live = live_then d k c.in-Ok.change c.core.inside.live c.bytes_of-had.result c.live_after-live.result is
     (ap (λ (m : MasterData). m.live) c.core.view_is)
-    (c.bytes_of.ensures ∙ ap (bytes_of (command_key k)) c.look_up-found.ensures.object) c.live_after-live.ensures in
+    (c.bytes_of-had.ensures ∙ ap (bytes_of (command_key k)) c.look_up-found.ensures.object) c.live_after-live.ensures in
     let within : is_overcommitted d (live_now d k) ≡ false =
     ap (is_overcommitted d) (sym live) ∙ sym c.is_overcommitted.ensures ∙ c.if-is_overcommitted.false in
     rw (failed.1, failed.2) (refused_late d k _ early is.not_spent within
@@ -74,9 +74,9 @@ returns-clause-passed c =
     let is : IsChangeNow d k c.in-Ok.change =
     subst (λ (s : ℕ). IsChangeOf s (held_now d k) k c.in-Ok.change) safe
     (c.in-Ok.ensures.done (held_now d k) version) in
-    let live = live_then d k c.in-Ok.change c.core.inside.live c.bytes_of.result c.live_after-live.result is
+    let live = live_then d k c.in-Ok.change c.core.inside.live c.bytes_of-had.result c.live_after-live.result is
     (ap (λ (m : MasterData). m.live) c.core.view_is)
-    (c.bytes_of.ensures ∙ ap (bytes_of (command_key k)) c.look_up-found.ensures.object) c.live_after-live.ensures in
+    (c.bytes_of-had.ensures ∙ ap (bytes_of (command_key k)) c.look_up-found.ensures.object) c.live_after-live.ensures in
     let within : is_overcommitted d (live_now d k) ≡ false =
     ap (is_overcommitted d) (sym live) ∙ sym c.is_overcommitted.ensures ∙ c.if-is_overcommitted.false in
     refused_late d k None early is.not_spent within (sym (c.fit.ensures is) ∙ ap result_err c.in_ok-fit.was)
@@ -93,6 +93,11 @@ returns-clause-judged c =
     (c.in-Ok.ensures.done (held_now d k) version) in
     record { lies = c.place_of-place.ensures.segment ∙ ap segment_at c.look_up-found.ensures.place; change_of = is }
 
+pub returns-clause-had : goal.returns-clause-had
+returns-clause-had c =
+    let k = shown_command c.args.command.now in
+    c.bytes_of-had.ensures ∙ ap (bytes_of (command_key k)) c.look_up-found.ensures.object
+
 pub returns-clause-live : goal.returns-clause-live
 returns-clause-live c =
     let d = c.args.core.now in
@@ -103,9 +108,9 @@ returns-clause-live c =
     let is : IsChangeNow d k c.in-Ok.change =
     subst (λ (s : ℕ). IsChangeOf s (held_now d k) k c.in-Ok.change) safe
     (c.in-Ok.ensures.done (held_now d k) version) in
-    live_then d k c.in-Ok.change c.core.inside.live c.bytes_of.result c.live_after-live.result is
+    live_then d k c.in-Ok.change c.core.inside.live c.bytes_of-had.result c.live_after-live.result is
     (ap (λ (m : MasterData). m.live) c.core.view_is)
-    (c.bytes_of.ensures ∙ ap (bytes_of (command_key k)) c.look_up-found.ensures.object) c.live_after-live.ensures
+    (c.bytes_of-had.ensures ∙ ap (bytes_of (command_key k)) c.look_up-found.ensures.object) c.live_after-live.ensures
 
 pub returns-then-is_overcommitted-clause-refused : goal.returns-then-is_overcommitted-clause-refused
 returns-then-is_overcommitted-clause-refused c =
@@ -119,9 +124,9 @@ returns-then-is_overcommitted-clause-refused c =
     (c.in-Ok.ensures.done (held_now d k) version) in
     let early : early_refusal d k ≡ None = sym c.admit.ensures ∙ ap result_err c.in_ok-admit.was in
     let live =
-    live_then d k c.in-Ok.change c.core.inside.live c.bytes_of.result c.live_after-live.result is
+    live_then d k c.in-Ok.change c.core.inside.live c.bytes_of-had.result c.live_after-live.result is
     (ap (λ (m : MasterData). m.live) c.core.view_is)
-    (c.bytes_of.ensures ∙ ap (bytes_of (command_key k)) c.look_up-found.ensures.object) c.live_after-live.ensures in
+    (c.bytes_of-had.ensures ∙ ap (bytes_of (command_key k)) c.look_up-found.ensures.object) c.live_after-live.ensures in
     let over : is_overcommitted d (live_now d k) ≡ true =
     ap (is_overcommitted d) (sym live) ∙ sym c.is_overcommitted.ensures ∙ c.if-is_overcommitted.true in
     refused_over d k early is.not_spent over

@@ -1,6 +1,6 @@
 use Rattle.std.proofs.Common.{◌≡◌, ℕ, suc, ◌+◌, ◌-◌, ◌++◌, ap, ◌∙◌, arith}
 use Rattle.std.specs.List.{range_with_len}
-use Rattle.master_state.specs.clean_model.Intact.{survivor_entries}
+use Rattle.master_state.specs.log_laws.Intact.{survivor_entries}
 use Rattle.images.specs.Image.{whole_image}
 use Rattle.images.specs.Images.{ImagesValue}
 use Rattle.master_state.specs.Images.{survivor_images}

@@ -1,7 +1,7 @@
 use Rattle.std.proofs.Common.{ap, subst, sym, ◌∙◌}
 use Rattle.std.specs.Prelude.{◌&&◌}
 use Rattle.command_line.specs.declared.settings.Options.{Options}
-use Rattle.node.specs.master.master_state.Config.{config_fault, has_budget, has_live}
+use Rattle.cluster.specs.master.master_state.Config.{config_fault, has_budget, has_live}
 use Rattle.next_master.specs.Configuration.{config_of, later_options, AreSizes}
 use Rattle.next_master.proofs.NextConfig.{later_sizes, later_tested, may_begin}
 use Rattle.next_master.proofs.later.can_begin.Goals as goal

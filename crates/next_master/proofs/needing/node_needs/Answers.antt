@@ -3,14 +3,14 @@ use Rattle.std.specs.Prelude.{IfSome}
 use Rattle.backup.specs.State.{fleet_state}
 use Rattle.lines.specs.Grammar.{Needs}
 use Rattle.lines.specs.declared.line.ReplayOrder.TheVariants.{Forward}
-use Rattle.node.specs.master.Registry.{AreUnraisedAbove}
-use Rattle.node.specs.master.master_state.declared.config.Config.{Config}
-use Rattle.node.specs.answers.declared.answer.Answer.TheVariants as answer
-use Rattle.node.specs.declared.node.Node.{Node}
-use Rattle.node.specs.declared.node.Node.TheVariants.{Down}
-use Rattle.node.specs.Served.{AnswersLine, fleet_of}
-use Rattle.node.specs.Told.{NeedsFor}
-use Rattle.node.proofs.Standing.{stays_told, up_told}
+use Rattle.cluster.specs.master.Registry.{AreUnraisedAbove}
+use Rattle.cluster.specs.master.master_state.declared.config.Config.{Config}
+use Rattle.cluster.specs.answers.declared.answer.Answer.TheVariants as answer
+use Rattle.cluster.specs.declared.node.Node.{Node}
+use Rattle.cluster.specs.declared.node.Node.TheVariants.{Down}
+use Rattle.cluster.specs.Served.{AnswersLine, fleet_of}
+use Rattle.cluster.specs.Told.{NeedsFor}
+use Rattle.cluster.proofs.Standing.{stays_told, up_told}
 use Rattle.next_master.specs.Configuration.{config_of, later_options}
 use Rattle.next_master.specs.Recoveries.{asked_for}
 use Rattle.next_master.proofs.HowItEnds.{down_on, up_at}

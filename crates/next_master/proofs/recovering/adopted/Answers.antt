@@ -2,8 +2,8 @@ use Rattle.std.proofs.Common.{refl, sym, ap}
 use Rattle.std.specs.Prelude.{Some}
 use Rattle.backup.specs.State.{fleet_state}
 use Rattle.replica.specs.Picture.{FleetState}
-use Rattle.node.specs.Served.{refusal_answer}
-use Rattle.node.proofs.Steps.{unspent_answer}
+use Rattle.cluster.specs.Served.{refusal_answer}
+use Rattle.cluster.proofs.Steps.{unspent_answer}
 use Rattle.next_master.proofs.recovering.adopted.Goals as goal
 
 pub returns-in-Spent : goal.returns-in-Spent

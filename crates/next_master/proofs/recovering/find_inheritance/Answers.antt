@@ -1,16 +1,16 @@
 use Rattle.std.proofs.Common.{◌≡◌, ℕ, suc, max, List, refl, sym, ap, subst, inl, inr, ◌∙◌, rules, arith}
 use Rattle.backup.specs.State.{fleet_state}
 use Rattle.command_line.specs.declared.settings.Options.{Options}
-use Rattle.node.specs.master.master_state.declared.config.Config.{Config}
+use Rattle.cluster.specs.master.master_state.declared.config.Config.{Config}
 use Rattle.replica.specs.declared.holding.Holding.{Holding}
-use Rattle.node.specs.answers.declared.answer.Answer.{Answer}
-use Rattle.node.specs.declared.node.Node.TheVariants.{Down}
-use Rattle.node.specs.recovery.Recovered.{IsRebuiltFrom, IsRefusedFrom}
+use Rattle.cluster.specs.answers.declared.answer.Answer.{Answer}
+use Rattle.cluster.specs.declared.node.Node.TheVariants.{Down}
+use Rattle.cluster.specs.recovery.Recovered.{IsRebuiltFrom, IsRefusedFrom}
 use Rattle.next_master.specs.Configuration.{config_of, later_options}
 use Rattle.next_master.specs.Numbers.{greatest_of}
 use Rattle.next_master.specs.Recoveries.{FindsNothing, ask, order_named}
-use Rattle.node.specs.Served.{life_of}
-use Rattle.node.specs.Told.{Tells}
+use Rattle.cluster.specs.Served.{life_of}
+use Rattle.cluster.specs.Told.{Tells}
 use Rattle.next_master.proofs.NextLife.{next_unused}
 use Rattle.next_master.proofs.Recovered.{loss_told, names_groups, table_found, want_told}
 use Rattle.next_master.proofs.recovering.find_inheritance.Goals as goal

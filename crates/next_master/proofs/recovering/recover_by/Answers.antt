@@ -1,6 +1,6 @@
 use Rattle.std.proofs.Common.{IfOk, IfErr, subst}
-use Rattle.node.specs.recovery.Recovered.{IsRebuiltFrom, IsRefusedFrom, IsSomeLoss}
-use Rattle.node.specs.replay.rebuilding.declared.order.GroupOrder.{GroupOrder}
+use Rattle.cluster.specs.recovery.Recovered.{IsRebuiltFrom, IsRefusedFrom, IsSomeLoss}
+use Rattle.cluster.specs.replay.rebuilding.declared.order.GroupOrder.{GroupOrder}
 use Rattle.next_master.proofs.recovering.recover_by.Goals as goal
 
 pub returns-in-Threads-clause-refused : goal.returns-in-Threads-clause-refused

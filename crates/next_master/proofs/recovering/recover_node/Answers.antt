@@ -3,20 +3,20 @@ use Rattle.std.specs.Prelude.{None, IfSome}
 use Rattle.backup.specs.State.{fleet_state}
 use Rattle.lines.specs.Grammar.{Recover}
 use Rattle.lines.specs.declared.line.ReplayOrder.TheVariants.{Forward}
-use Rattle.node.specs.master.Registry.{AreUnraisedAbove}
-use Rattle.node.specs.master.master_state.declared.config.Config.{Config}
+use Rattle.cluster.specs.master.Registry.{AreUnraisedAbove}
+use Rattle.cluster.specs.master.master_state.declared.config.Config.{Config}
 use Rattle.replica.specs.Picture.{FleetState}
-use Rattle.node.specs.answers.declared.answer.Answer.TheVariants as answer
-use Rattle.node.specs.declared.node.Node.{Node}
-use Rattle.node.specs.declared.node.Node.TheVariants.{Down}
+use Rattle.cluster.specs.answers.declared.answer.Answer.TheVariants as answer
+use Rattle.cluster.specs.declared.node.Node.{Node}
+use Rattle.cluster.specs.declared.node.Node.TheVariants.{Down}
 use Rattle.next_master.specs.Configuration.{config_of}
 use Rattle.next_master.specs.Numbers.{AreSpent, IsNextNumber}
 use Rattle.next_master.specs.Recoveries.{IsDeclined, IsTakenOver}
-use Rattle.node.specs.Served.{AnswersLine, IsOf, fleet_of, world_of}
+use Rattle.cluster.specs.Served.{AnswersLine, IsOf, fleet_of, world_of}
 use Rattle.next_master.proofs.NextLife.{cut_told, declined_told, has_backups, not_of_cut}
 use Rattle.next_master.proofs.NextLife.{not_of_refusal, recovered_told}
 use Rattle.next_master.proofs.HowItEnds.{cut_over, down_on, taken_over, up_at}
-use Rattle.node.proofs.Standing.{stays_told, up_told}
+use Rattle.cluster.proofs.Standing.{stays_told, up_told}
 use Rattle.next_master.proofs.NextConfig.{checked_later}
 use Rattle.next_master.proofs.recovering.recover_node.Goals as goal
 

@@ -3,16 +3,16 @@ use Rattle.std.specs.Prelude.{None, Some, Ok, Err}
 use Rattle.replica.specs.declared.op.TakeFault.{TakeFault}
 use Rattle.std.proofs.lemmas.Option.{same_Some}
 use Rattle.backup.specs.State.{fleet_state}
-use Rattle.node.specs.master.Valid.{IsValid}
-use Rattle.node.specs.master.World.{World, world, retired_data}
-use Rattle.node.specs.master.master_state.Data.{MasterData}
-use Rattle.node.specs.answers.declared.answer.Answer.TheVariants.{NotRetired}
-use Rattle.node.specs.declared.node.Node.{Node}
-use Rattle.node.specs.declared.node.Node.TheVariants.{Up}
+use Rattle.cluster.specs.master.Valid.{IsValid}
+use Rattle.cluster.specs.master.World.{World, world, retired_data}
+use Rattle.cluster.specs.master.master_state.Data.{MasterData}
+use Rattle.cluster.specs.answers.declared.answer.Answer.TheVariants.{NotRetired}
+use Rattle.cluster.specs.declared.node.Node.{Node}
+use Rattle.cluster.specs.declared.node.Node.TheVariants.{Up}
 use Rattle.next_master.specs.Recoveries.{EndsFreeing, HasNoOther}
-use Rattle.node.specs.Served.{IsOf, world_of}
+use Rattle.cluster.specs.Served.{IsOf, world_of}
 use Rattle.next_master.proofs.NextLife.{cut_freeing, cut_spent, unspent_fault}
-use Rattle.node.specs.Lives.{left_now}
+use Rattle.cluster.specs.Lives.{left_now}
 use Rattle.next_master.proofs.Halted.{valid_cut, left_cut}
 use Rattle.next_master.proofs.Retired.{others_gone, spent_retire}
 use Rattle.next_master.proofs.recovering.retire.Goals as goal

@@ -1,12 +1,13 @@
 use Rattle.std.proofs.Common.{◌≡◌, ◌+◌, inl}
-use Rattle.std.proofs.Common.{subst}
+use Rattle.std.proofs.Common.{subst, sym}
 use Rattle.std.specs.Prelude.{Option, IfSome, Ok}
-use Rattle.driving.specs.master.World.{world}
+use Rattle.driving.specs.master.World.{World, world}
 use Rattle.driving.specs.master.master_state.declared.step.Step.{Step}
 use Rattle.driving.specs.master.master_state.declared.step.StepAnswer.{StepAnswer}
 use Rattle.driving.proofs.Losses.{goes_lost, goes_ok, unlost}
 use Rattle.tending.specs.Tends.{IsTendStep}
-use Rattle.tending.proofs.Tended.{IsSoFar, so_far_more, lives_then, keeps_one_more}
+use Rattle.driving.proofs.AnyStep.{step_spent}
+use Rattle.tending.proofs.Tended.{IsSoFar, no_record, so_far_more, lives_then, keeps_one_more}
 use Rattle.tending.proofs.steps.tend.Goals.{in-Err+in-Lost, in_default-step+in-Ok+in-Applied+in-Found-1}
 use Rattle.tending.proofs.steps.tend.Goals.{in_default-step+in-Ok+in-Applied+in-None-1}
 use Rattle.tending.proofs.steps.tend.Goals.{in_default-step+in-Ok+in-Extended-1}
@@ -15,17 +16,22 @@ use Rattle.tending.proofs.steps.tend.Goals as goal
 
 pub returns-in_default-refusal : goal.returns-in_default-refusal
 returns-in_default-refusal g c =
-    let is : IsTendStep c.loop-made.master.knows c.in-Some.step =
-    subst (λ (o : Option Step). IfSome o (λ (s : Step). IsTendStep c.loop-made.master.knows s)) c.in-Some.is
+    let old = world g.F.Fleet.state c.args.master.now in
+    let mid = world g.F.Fleet.state c.next.new.master in
+    let new = world g.F.Fleet.state c.step.new.self in
+    let is : IsTendStep c.next.new.master.knows c.in-Some.step =
+    subst (λ (o : Option Step). IfSome o (λ (s : Step). IsTendStep c.next.new.master.knows s)) c.in-Some.is
     c.in_ok-step.ensures.some in
+    let so : IsSoFar c.loop-made.made old mid =
+    subst (λ (w : World). IsSoFar c.loop-made.made old w) (sym c.next.ensures.same) c.loop-made.invariant in
     record {
       tended = tt;
       able = tt;
       refused = (
         c.loop-made.made,
         c.loop-made-test.true,
-        world g.F.Fleet.state c.loop-made.master,
-        c.loop-made.invariant.tended,
+        mid,
+        so.tended,
         inl (
           c.in-Some.step,
           is,
@@ -33,28 +39,30 @@ returns-in_default-refusal g c =
           unlost c.in-Err.refusal c.in_default-refusal.not-Lost,
         ),
       );
-      goes_on = lives_then c.loop-made.made (world g.F.Fleet.state c.args.master.now)
-          (world g.F.Fleet.state c.loop-made.master) (world g.F.Fleet.state c.step.new.self) c.in-Some.step
-          c.step.result c.loop-made.invariant is c.step.ensures.gives c.step.ensures.keeps;
-      keeps = keeps_one_more c.loop-made.made c.args.most (world g.F.Fleet.state c.args.master.now)
-          (world g.F.Fleet.state c.loop-made.master) (world g.F.Fleet.state c.step.new.self) c.loop-made-test.true
-          c.loop-made.invariant.keeps c.step.ensures.keeps;
+      goes_on = lives_then c.loop-made.made old mid new c.in-Some.step c.step.result so is c.step.ensures.gives
+          c.step.ensures.keeps;
+      keeps = keeps_one_more c.loop-made.made c.args.most old mid new c.loop-made-test.true so.keeps
+          c.step.ensures.keeps;
+      spent = λ spent. (step_spent c.in-Some.step (no_record c.next.new.master.knows c.in-Some.step is) mid new
+          c.in-Err.refusal c.in-Err.ensures.gives spent).0;
     }
 
 pub loop-made-preserved : goal.loop-made-preserved
 loop-made-preserved g c =
     let old = world g.F.Fleet.state c.args.master.now in
-    let mid = world g.F.Fleet.state c.loop-made.master in
+    let mid = world g.F.Fleet.state c.next.new.master in
     let new = world g.F.Fleet.state c.step.new.self in
-    let is : IsTendStep c.loop-made.master.knows c.in-Some.step =
-    subst (λ (o : Option Step). IfSome o (λ (s : Step). IsTendStep c.loop-made.master.knows s)) c.in-Some.is
+    let is : IsTendStep c.next.new.master.knows c.in-Some.step =
+    subst (λ (o : Option Step). IfSome o (λ (s : Step). IsTendStep c.next.new.master.knows s)) c.in-Some.is
     c.in_ok-step.ensures.some in
+    let so : IsSoFar c.loop-made.made old mid =
+    subst (λ (w : World). IsSoFar c.loop-made.made old w) (sym c.next.ensures.same) c.loop-made.invariant in
     let ok : (a : StepAnswer) → c.step.result ≡ Ok a → IsSoFar (c.loop-made.made + 1) old new = λ a r.
-    so_far_more c.loop-made.made old mid new c.in-Some.step c.step.result c.loop-made.invariant is
+    so_far_more c.loop-made.made old mid new c.in-Some.step c.step.result so is
     c.step.ensures.gives (goes_ok c.in-Some.step mid new c.step.result a r c.step.ensures.gives)
     c.step.ensures.keeps in
     elim c.match-step.branch [
-      | in-Err+in-Lost w ↦ so_far_more c.loop-made.made old mid new c.in-Some.step c.step.result c.loop-made.invariant
+      | in-Err+in-Lost w ↦ so_far_more c.loop-made.made old mid new c.in-Some.step c.step.result so
           is c.step.ensures.gives
           (goes_lost c.in-Some.step mid new w.in-Err.refusal w.in-Lost.field-0 w.in-Lost.is w.in-Err.ensures.gives)
           c.step.ensures.keeps

@@ -1,6 +1,6 @@
 use Rattle.std.proofs.Common.{◌≡◌, length, subst, sym, ap, ◌∙◌, arith}
 use Rattle.std.specs.Prelude.{vec_len}
-use Rattle.log_model.specs.Steps.{no_units}
+use Rattle.log_laws.specs.HeadSteps.{no_units}
 use Rattle.log_head.specs.contracts.head.Head.{the_view}
 use Rattle.log_head.specs.Head.{HeadValue, IsHeadValue}
 use Rattle.log_head.specs.Steps.{settled}

@@ -1,7 +1,7 @@
 use Rattle.std.proofs.Common.{◌≡◌, ◌+◌, ◌≤◌, length, sym, ap, subst, ◌∙◌, arith}
 use Rattle.std.specs.Prelude.{Some, IfSome, vec_len}
 use Rattle.log_head.specs.contracts.head.Head.{the_view}
-use Rattle.log_model.specs.Steps.{no_units}
+use Rattle.log_laws.specs.HeadSteps.{no_units}
 use Rattle.log_head.specs.declared.head.Roll.{Roll}
 use Rattle.log_head.specs.Head.{HeadValue, IsHeadValue}
 use Rattle.log_head.specs.Steps.{in_force, with_closed_replica, old_image}

@@ -1,10 +1,10 @@
 use Rattle.std.proofs.Common.{◌≡◌, ℕ, false, refl, sym, ap, subst, ◌∙◌}
 use Rattle.std.specs.Prelude.{Option, Some, None, IsSome, is_none, if◌then◌else◌}
 use Rattle.std.specs.Result.{result_err}
-use Rattle.log_head.specs.log_model.Ids.{has}
-use Rattle.log_head.specs.log_model.Ops.{op_of}
-use Rattle.master_core.specs.failover_model.Shown.{Free as FreeAct}
-use Rattle.master_core.specs.failover_bytes.Ops.{log_op_for}
+use Rattle.log_head.specs.log_laws.Ids.{has}
+use Rattle.log_head.specs.log_laws.Ops.{op_of}
+use Rattle.master_core.specs.log_laws.Shown.{Free as FreeAct}
+use Rattle.master_core.specs.log_bytes.Ops.{log_op_for}
 use Rattle.replica.specs.Op.{OpValue}
 use Rattle.replica.specs.Op as op
 use Rattle.replica.specs.Picture.{FleetState}

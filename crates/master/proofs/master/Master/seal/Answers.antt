@@ -2,11 +2,11 @@ use Rattle.std.proofs.Common.{◌≡◌, ℕ, refl, sym, ap, subst, ◌∙◌}
 use Rattle.std.specs.Prelude.{Option, Some, None, IfSome, IsSome, is_none, if◌then◌else◌}
 use Rattle.std.specs.Result.{result_err}
 use Rattle.entry.specs.Bag.{IsAmong}
-use Rattle.log_head.specs.log_model.Ids.{has}
-use Rattle.log_head.specs.log_model.Ops.{op_of}
-use Rattle.master_core.specs.failover_model.Shown.{Seal as SealAct}
-use Rattle.master_core.specs.failover_bytes.Ops.{log_op_for}
-use Rattle.master_core.specs.failover_clean.Memory.{text_in}
+use Rattle.log_head.specs.log_laws.Ids.{has}
+use Rattle.log_head.specs.log_laws.Ops.{op_of}
+use Rattle.master_core.specs.log_laws.Shown.{Seal as SealAct}
+use Rattle.master_core.specs.log_bytes.Ops.{log_op_for}
+use Rattle.master_core.specs.log_memory.Memory.{text_in}
 use Rattle.replica.specs.Op.{OpValue, shown_op}
 use Rattle.replica.specs.Picture.{FleetState}
 use Rattle.replica.specs.Take.{Takes, Refuses}

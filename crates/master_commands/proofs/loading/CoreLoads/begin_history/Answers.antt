@@ -6,7 +6,7 @@ use Rattle.master_state.specs.contracts.state.Core.{the_view}
 use Rattle.master_state.specs.declared.ledger.Posting.TheVariants as posting
 use Rattle.master_state.specs.Causes.{is_done}
 use Rattle.master_state.specs.Data.{MasterData}
-use Rattle.master_state.specs.Invariant.{IsCore}
+use Rattle.master_state.specs.Invariant.{AreTallied, IsCore}
 use Rattle.master_state.specs.Ledger.{posted}
 use Rattle.master_state.specs.Loading.{IsBare, Settles}
 use Rattle.master_commands.proofs.LoadedCore.{settled_core, settled_log}
@@ -43,9 +43,17 @@ module _ (c : After-begin_history) where
   roll_then : c.begin_history.new.self.roll ≡ d.head.roll
   roll_then = ap (λ (h : HeadValue). h.roll) c.begin_history.ensures.settled
 
+  tallied : AreTallied left c.self.inside.tallies
+  tallied = subst (λ (m : MasterData). AreTallied m c.self.inside.tallies) left_is c.self.invariant.4
+
 pub invariant_of-self : goal.invariant_of-self
-invariant_of-self c =
-    (λ some. c.self.invariant.0 (subst IsSome (roll_then c) some), c.self.invariant.1, core c, c.self.invariant.3)
+invariant_of-self c = (
+  λ some. c.self.invariant.0 (subst IsSome (roll_then c) some),
+  c.self.invariant.1,
+  core c,
+  c.self.invariant.3,
+  tallied c,
+)
 
 pub returns-clause-settled : goal.returns-clause-settled
 returns-clause-settled c =

@@ -1,4 +1,4 @@
-use Rattle.std.proofs.Common.{◌≡◌, None, length, sym, ap, subst, ◌∙◌}
+use Rattle.std.proofs.Common.{◌≡◌, ◌<◌, ℕ, None, length, refl, sym, ap, subst, ◌∙◌}
 use Rattle.std.specs.Prelude.{IsSome}
 use Rattle.std.specs.Result.{result_err}
 use Rattle.master_state.specs.compactor.Places.{keys_in}
@@ -12,13 +12,15 @@ use Rattle.master_commands.specs.declared.change.Change.TheVariants as change
 use Rattle.master_state.specs.Data.{MasterData}
 use Rattle.master_state.specs.Images.{images_among}
 use Rattle.master_commands.proofs.Indexed.{IsMovedBy}
-use Rattle.master_state.specs.Invariant.{IsCore}
+use Rattle.master_state.specs.Invariant.{AreTallied, IsCore}
 use Rattle.master_state.specs.Live.{object_bytes, with_bytes}
 use Rattle.master_commands.proofs.Changes.{length_object_entry}
 use Rattle.master_state.specs.Loading.{IsBare, IsNewObject, loaded_unit, load_refusal, Loads, MayLoadNow}
 use Rattle.master_commands.proofs.LoadedCore.{is_admitted, absent_then, loaded, may_load, loaded_core, loads}
+use Rattle.master_commands.proofs.Tallied.{object_tallied}
+use Rattle.tally.specs.Rows.{more, IsChangedAt}
 use Rattle.master_commands.proofs.loading.CoreLoads.load.Goals as goal
-use Rattle.master_commands.proofs.loading.CoreLoads.load.Goals.{After-with-self-inside}
+use Rattle.master_commands.proofs.loading.CoreLoads.load.Goals.{After-from_residual-in_err-append_object, After-with-self-inside}
 
 pub append_object-requires-clause-fits : goal.append_object-requires-clause-fits
 append_object-requires-clause-fits c =
@@ -69,9 +71,11 @@ module _ (c : goal.After-with-self-inside) where
     live = c.saturating_add-live.result;
   }
 
+  len : c.object_len-len.result ≡ object_bytes o.key o.value
+  len = c.object_len-len.ensures.len ∙ length_object_entry o.key o.version o.value
+
   live : c.saturating_add-live.result ≡ with_bytes d.live (object_bytes o.key o.value)
-  live = c.saturating_add-live.ensures
-      ∙ ap (with_bytes d.live) (c.object_len.ensures.len ∙ length_object_entry o.key o.version o.value)
+  live = c.saturating_add-live.ensures ∙ ap (with_bytes d.live) len
 
   knows : loaded d c.self.invariant.2 bare o is_new passed c.append_object.new.index.held head moved ≡ left
   knows = λ i. record d {
@@ -96,10 +100,51 @@ module _ (c : goal.After-with-self-inside) where
   roll_then : c.append_object.new.head.roll ≡ d.head.roll
   roll_then = ap (λ (h : HeadValue). h.roll) head_is
 
+  counted : IsChangedAt d.head.id (more (object_bytes o.key o.value) 0) c.self.inside.tallies c.grow.new.self
+  counted =
+      let id = c.id-head.ensures.id ∙ ap (λ (h : HeadValue). h.id) head_is in
+      subst (λ (n : ℕ). IsChangedAt d.head.id (more n 0) c.self.inside.tallies c.grow.new.self) len
+      (subst (λ (n : ℕ). IsChangedAt n (more c.object_len-len.result 0) c.self.inside.tallies c.grow.new.self) id
+      c.grow.ensures.grown)
+
+  tallied : AreTallied left c.grow.new.self
+  tallied =
+      subst (λ (m : MasterData). AreTallied m c.grow.new.self) knows
+      (object_tallied d c.self.invariant.2 (with_unit_end d.head 0 (loaded_unit o)) (loaded_unit o) refl refl refl head o
+      c.append_object.new.index.held c.self.inside.tallies c.grow.new.self refl moved
+      (absent_then d c.self.invariant.2 bare o is_new head) counted c.self.invariant.4)
+
+-- ---- the core as it was, where memory was refused
+
+module _ (c : goal.After-from_residual-in_err-append_object) where
+  abbrev was : MasterData
+  was = the_view c.self.inside
+
+  kept : (c.append_object.new.head ≡ was.head) × (c.append_object.new.index.held ≡ was.index)
+  kept = c.in_err-append_object.ensures.err
+
+  unchanged : was ≡ record was { head = c.append_object.new.head; index = c.append_object.new.index.held }
+  unchanged = λ i. record was { head = sym kept.0 i; index = sym kept.1 i }
+
+pub invariant_of-self : goal.invariant_of-self
+invariant_of-self c = (
+  subst (λ (h : HeadValue). IsSome h.roll → length c.self.inside.closed.images < c.self.inside.closed.room)
+      (sym (kept c).0) c.self.invariant.0,
+  c.self.invariant.1,
+  subst IsCore (unchanged c) c.self.invariant.2,
+  c.self.invariant.3,
+  subst (λ (m : MasterData). AreTallied m c.self.inside.tallies) (unchanged c) c.self.invariant.4,
+)
+
 pub invariant_of-self-2 : goal.invariant_of-self-2
 invariant_of-self-2 c =
-    let t = (goal.at.invariant_of-self-2 c).After-with-self-inside in
-    (λ some. c.self.invariant.0 (subst IsSome (roll_then t) some), c.self.invariant.1, core t, c.self.invariant.3)
+    let t = (goal.at.invariant_of-self-2 c).After-with-self-inside in (
+      λ some. c.self.invariant.0 (subst IsSome (roll_then t) some),
+      c.self.invariant.1,
+      core t,
+      c.self.invariant.3,
+      tallied t,
+    )
 
 pub returns-clause-loaded : goal.returns-clause-loaded
 returns-clause-loaded c =

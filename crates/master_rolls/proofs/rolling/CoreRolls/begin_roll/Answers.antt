@@ -1,21 +1,24 @@
-use Rattle.std.proofs.Common.{◌≡◌, ◌+◌, ◌*◌, ◌<◌, ◌++◌, ◌∷◌, [], Bool, ℕ, List, length, sym, ap, subst, ◌∙◌, arith}
+use Rattle.std.proofs.Common.{◌≡◌, ◌+◌, ◌*◌, ◌<◌, ◌≤◌, ◌++◌, ◌∷◌, [], Bool, true, ℕ, List, length, refl, sym, ap, subst}
+use Rattle.std.proofs.Common.{◌∙◌, vec_capacity, arith}
 use Rattle.std.specs.Prelude.{if◌then◌else◌}
-use Rattle.std.specs.Prelude.{None, IsSome}
+use Rattle.std.specs.Prelude.{Option, Some, None, IfSome, IsSome}
 use Rattle.std.specs.List.Sorted.{IsStrictlyIncreasing}
 use Rattle.std.specs.Result.{result_err}
+use Rattle.cleaner.specs.declared.pass.Pass.{Pass}
 use Rattle.entry.specs.Limits.{AreLengths}
 use Rattle.images.specs.Image.{Image}
 use Rattle.images.specs.Images.{ImagesValue}
-use Rattle.log_head.specs.Head.{IsHeadValue}
+use Rattle.log_head.specs.Head.{HeadValue, IsHeadValue}
 use Rattle.log_head.specs.Steps.{start_after, with_roll}
-use Rattle.log_head.specs.log_model.Data.{Start}
+use Rattle.log_head.specs.log_laws.Heads.{Start}
 use Rattle.master_state.specs.contracts.state.Core.{the_view}
+use Rattle.master_state.specs.declared.waiting.Waiting.{Waiting}
 use Rattle.master_state.specs.declared.ledger.Posting.TheVariants.{Began}
 use Rattle.master_state.specs.declared.step.StepAnswer.TheVariants.{Rolling}
 use Rattle.master_state.specs.Budget.{is_ready, victims_of, survivors_of}
 use Rattle.master_state.specs.Causes.{roll_refusal}
 use Rattle.master_state.specs.Data.{MasterData}
-use Rattle.master_state.specs.Invariant.{IsCore, AreImagesOf}
+use Rattle.master_state.specs.Invariant.{IsCore, AreImagesOf, AreTallied}
 use Rattle.master_state.specs.Ledger.{posted}
 use Rattle.master_state.specs.Steps.{BeginsRoll, MayRollNow, listed_in, start_now}
 use Rattle.std.proofs.lemmas.Grind.{div_ceil_times}
@@ -24,9 +27,10 @@ use Rattle.master_state.proofs.Refusals.{may_begin, sizes_of}
 use Rattle.master_rolls.proofs.RollLaws.{roll_begins, may_roll_now}
 use Rattle.master_rolls.proofs.NextIds.{next_rise, start_parts, start_others}
 use Rattle.master_rolls.proofs.RollStarts.{new_ids, new_count, pass_now, pass_marked, room_marked, unposted, rolled_core}
+use Rattle.master_rolls.proofs.RollStarts.{rolled_tallied}
 use Rattle.master_state.proofs.SurvivorLens.{entering_listed}
 use Rattle.master_rolls.proofs.rolling.CoreRolls.begin_roll.Goals as goal
-use Rattle.master_rolls.proofs.rolling.CoreRolls.begin_roll.Goals.{After-as_slice, After-mark}
+use Rattle.master_rolls.proofs.rolling.CoreRolls.begin_roll.Goals.{After-as_slice, After-mark, After-reserve-2}
 
 -- the images are the same beside their room
 kept_closed : (old mid new : ImagesValue) → mid ≡ record old { room = mid.room } → new ≡ mid
@@ -164,6 +168,11 @@ module _ (c : After-mark) where
       subst (λ (m : MasterData). BeginsRoll k (Rolling k.next) (posted m (Began k.next))) is
       (roll_begins k core' passed' valid)
 
+  tallied_then : AreTallied left c.self.inside.tallies
+  tallied_then =
+      subst (λ (m : MasterData). AreTallied m c.self.inside.tallies) is
+      (rolled_tallied k core' passed' valid c.self.inside.tallies c.self.invariant.4)
+
 pub invariant_of-self-2 : goal.invariant_of-self-2
 invariant_of-self-2 c = let m = (goal.at.invariant_of-self-2 c).After-mark in (
   λ some. room_then m some,
@@ -173,6 +182,7 @@ invariant_of-self-2 c = let m = (goal.at.invariant_of-self-2 c).After-mark in (
       (length c.reserve-2.new.self.items)
       _ c.leaving_victims-victims.ensures
       (let enough = c.in_ok-reserve-2.ensures.ok in let same = ap length c.reserve-2.ensures.items in omega arith)),
+  subst (AreTallied (left m)) (sym c.reserve-3.ensures) (tallied_then m),
 )
 
 pub returns-clause-begun : goal.returns-clause-begun
@@ -213,6 +223,8 @@ invariant_of-self c =
           record { segment = own.segment; seglet = own.seglet; seglets = own.seglets }),
       subst IsCore (λ i. record (the_view c.self.inside) { closed = sym images i }) c.self.invariant.2,
       c.self.invariant.3,
+      subst (λ (cs : List Image). AreTallied (record (the_view c.self.inside) { closed = cs }) c.self.inside.tallies)
+          (sym images) c.self.invariant.4,
     )
 
 pub returns-in_err-reserve-clause-err : goal.returns-in_err-reserve-clause-err
@@ -223,3 +235,84 @@ returns-in_err-reserve-clause-err c =
     let same : record (the_view c.self.inside) { closed = c.reserve.new.self.images } ≡ the_view c.self.inside =
     λ i. record (the_view c.self.inside) { closed = images i } in
     rw failed.1 (same ∙ c.self.view_is)
+
+-- ---- no memory: nothing has changed but what was reserved
+
+reserved : (P : MasterData → Type 0) (d : MasterData) (h : HeadValue) (cs : List Image) (ws : List Waiting)
+    → h ≡ d.head → cs ≡ d.closed → ws ≡ d.waiting → P d → P (record d { head = h; closed = cs; waiting = ws })
+reserved P d h cs ws head closed waiting all =
+    subst P (λ i. record d { head = sym head i; closed = sym closed i; waiting = sym waiting i }) all
+
+room_kept : (o : Option Pass) (n m room more : ℕ) → m ≡ n → room ≤ more
+    → IfSome o (λ (p : Pass). p.is_committing ≡ true → n + length p.victims ≤ room)
+    → IfSome o (λ (p : Pass). p.is_committing ≡ true → m + length p.victims ≤ more)
+room_kept None n m room more same le all = tt
+room_kept (Some p) n m room more same le all = λ commits. (let enough = all commits in omega arith)
+
+module _ (c : After-reserve-2) where
+  abbrev f : MasterData
+  f = the_view c.self.inside
+
+  images-r : c.reserve.new.self.images ≡ f.closed
+  images-r = ap (λ (v : ImagesValue). v.images) c.reserve.ensures.same
+
+  room-r : length c.reserve.new.self.images < c.reserve.new.self.room
+  room-r =
+      let enough = c.in_ok-reserve.ensures.ok in
+      let same = ap (λ (xs : List Image). length xs) images-r in
+      omega arith
+
+  sizes-r : AreImagesOf f.config c.reserve.new.self
+  sizes-r =
+      subst (AreImagesOf f.config) (sym c.reserve.ensures.same) (let own = c.self.invariant.1 in
+      record { segment = own.segment; seglet = own.seglet; seglets = own.seglets })
+
+  waits-r : IfSome f.pass (λ (p : Pass). p.is_committing ≡ true
+      → length c.reserve-2.new.self.items + length p.victims ≤ vec_capacity c.reserve-2.new.self)
+  waits-r =
+      room_kept f.pass (length c.self.inside.waiting.items) (length c.reserve-2.new.self.items)
+      (vec_capacity c.self.inside.waiting) (vec_capacity c.reserve-2.new.self)
+      (ap length c.reserve-2.ensures.items) c.reserve-2.ensures.capacity c.self.invariant.3
+
+  still-r : (P : MasterData → Type 0) → P f
+      → P (record f { closed = c.reserve.new.self.images; waiting = c.reserve-2.new.self.items })
+  still-r P all =
+      reserved P f f.head c.reserve.new.self.images c.reserve-2.new.self.items refl images-r c.reserve-2.ensures.items
+      all
+
+pub invariant_of-self-in_err-reserve-2 : goal.invariant_of-self-in_err-reserve-2
+invariant_of-self-in_err-reserve-2 c = let m = (goal.at.invariant_of-self-in_err-reserve-2 c).After-reserve-2 in (
+  λ some. room-r m,
+  sizes-r m,
+  still-r m IsCore c.self.invariant.2,
+  waits-r m,
+  still-r m (λ (d : MasterData). AreTallied d c.self.inside.tallies) c.self.invariant.4,
+)
+
+pub invariant_of-self-in_err-survivors : goal.invariant_of-self-in_err-survivors
+invariant_of-self-in_err-survivors c = let m = (goal.at.invariant_of-self-in_err-survivors c).After-reserve-2 in (
+  λ some. room-r m,
+  sizes-r m,
+  still-r m IsCore c.self.invariant.2,
+  waits-r m,
+  still-r m (λ (d : MasterData). AreTallied d c.self.inside.tallies) c.self.invariant.4,
+)
+
+pub invariant_of-self-in_err-begin_roll : goal.invariant_of-self-in_err-begin_roll
+invariant_of-self-in_err-begin_roll c =
+    let m = (goal.at.invariant_of-self-in_err-begin_roll c).After-reserve-2 in
+    let images : c.take_spare.new.self.images ≡ c.self.inside.closed.images =
+    ap (λ (v : ImagesValue). v.images) c.take_spare.ensures ∙ images-r m in
+    let still : (P : MasterData → Type 0) → P (f m) → P (record (f m) {
+      head = c.begin_roll.new.self;
+      closed = c.take_spare.new.self.images;
+      waiting = c.reserve-2.new.self.items;
+    }) =
+    λ P all. reserved P (f m) c.begin_roll.new.self c.take_spare.new.self.images c.reserve-2.new.self.items
+    c.in_err-begin_roll.ensures.err images c.reserve-2.ensures.items all in (
+      λ some. subst (λ (v : ImagesValue). length v.images < v.room) (sym c.take_spare.ensures) (room-r m),
+      subst (AreImagesOf c.self.inside.config) (sym c.take_spare.ensures) (sizes-r m),
+      still IsCore c.self.invariant.2,
+      waits-r m,
+      still (λ (d : MasterData). AreTallied d c.self.inside.tallies) c.self.invariant.4,
+    )

@@ -1,4 +1,4 @@
-use Rattle.std.proofs.Common.{◌≡◌, ℕ, ◌+◌, ◌-◌, ◌≤◌, true, List, length, refl, sym, ap, subst, ◌∙◌, vec_capacity}
+use Rattle.std.proofs.Common.{◌≡◌, ℕ, suc, ◌+◌, ◌-◌, ◌≤◌, true, List, length, refl, sym, ap, subst, ◌∙◌, vec_capacity}
 use Rattle.std.specs.Prelude.{Option, Some, None, IfSome, IsSome}
 use Rattle.std.proofs.lemmas.Option.{slice_get_within}
 use Rattle.cleaner.specs.declared.pass.Pass.{Pass}
@@ -13,15 +13,16 @@ use Rattle.log_head.specs.Steps.{with_new_replica}
 use Rattle.master_state.specs.contracts.state.Core.{the_view}
 use Rattle.master_state.specs.Data.{MasterData}
 use Rattle.images.specs.Images.{ImagesValue}
-use Rattle.master_rolls.specs.Ends.{closed_left, waiting_left}
+use Rattle.master_rolls.specs.Ends.{closed_left, waiting_left, IsCountedOut}
 use Rattle.images.specs.Image.{Image, closed_image}
-use Rattle.master_state.specs.Invariant.{IsCore, AreImagesOf}
+use Rattle.master_state.specs.Invariant.{IsCore, AreImagesOf, AreTallied}
 use Rattle.master_state.specs.Budget.{seglets_of}
 use Rattle.master_state.specs.Steps.{closed_data, taken_data}
 use Rattle.master_state.proofs.LogIds.{absent, no_head}
 use Rattle.master_rolls.proofs.Taken.{taken_core, opened_core}
 use Rattle.master_rolls.proofs.Closing.{left_early, core_ended, ended_taken, ended_valid, early_taken, early_valid}
-use Rattle.master_rolls.proofs.Closing.{none_then, old_is, closing_roll}
+use Rattle.master_rolls.proofs.Closing.{none_then, old_is, closing_roll, ended_tallied, early_tallied}
+use Rattle.master_rolls.proofs.Tallied.{on_tallied}
 use Rattle.master_state.proofs.PassIds.{numbers_of}
 use Rattle.master_rolls.proofs.Budgets.{closed_seglets, closing_fits, free_again}
 use Rattle.master_rolls.proofs.rolling.CoreRolls.took.Goals as goal
@@ -46,12 +47,22 @@ module _ (c : goal.After-open) where
       (taken_core d c.self.invariant.2 calm (next.OpenFirst c.in-OpenFirst.field-0) waits
       (subst IsHeadValue c.open.ensures.opened c.open.ensures.valid))
 
+  tallied : AreTallied (record d { head = c.open.new.self }) c.self.inside.tallies
+  tallied =
+      subst (λ (h : HeadValue). AreTallied (record d { head = h }) c.self.inside.tallies) (sym c.open.ensures.opened)
+      c.self.invariant.4
+
   room : c.open.new.self.roll ≡ d.head.roll
   room = ap (λ (h : HeadValue). h.roll) c.open.ensures.opened
 
 pub invariant_of-self : goal.invariant_of-self
-invariant_of-self c =
-    (λ some. c.self.invariant.0 (subst IsSome (room c) some), c.self.invariant.1, opened c, c.self.invariant.3)
+invariant_of-self c = (
+  λ some. c.self.invariant.0 (subst IsSome (room c) some),
+  c.self.invariant.1,
+  opened c,
+  c.self.invariant.3,
+  tallied c,
+)
 
 pub returns-in-OpenFirst-clause-valid : goal.returns-in-OpenFirst-clause-valid
 returns-in-OpenFirst-clause-valid c = opened c
@@ -83,12 +94,22 @@ module _ (c : goal.After-extend) where
       (taken_core d' c.self.invariant.2 calm' (next.Extend c.in-Extend.replica) lags
       (subst IsHeadValue c.extend.ensures.extended c.extend.ensures.valid))
 
+  tallied' : AreTallied (record d' { head = c.extend.new.self }) c.self.inside.tallies
+  tallied' =
+      subst (λ (h : HeadValue). AreTallied (record d' { head = h }) c.self.inside.tallies)
+      (sym c.extend.ensures.extended) c.self.invariant.4
+
   room' : c.extend.new.self.roll ≡ d'.head.roll
   room' = ap (λ (h : HeadValue). h.roll) c.extend.ensures.extended
 
 pub invariant_of-self-in-Extend : goal.invariant_of-self-in-Extend
-invariant_of-self-in-Extend c =
-    (λ some. c.self.invariant.0 (subst IsSome (room' c) some), c.self.invariant.1, extended c, c.self.invariant.3)
+invariant_of-self-in-Extend c = (
+  λ some. c.self.invariant.0 (subst IsSome (room' c) some),
+  c.self.invariant.1,
+  extended c,
+  c.self.invariant.3,
+  tallied' c,
+)
 
 pub returns-in-Extend-clause-valid : goal.returns-in-Extend-clause-valid
 returns-in-Extend-clause-valid c = extended c
@@ -116,12 +137,18 @@ module _ (c : goal.After-open_new) where
       subst (λ (h : HeadValue). IsCore (record m { head = h })) (sym new_opened)
       (opened_core m c.self.invariant.2 rolls.1 rolls.2 calm-m (subst IsHeadValue new_opened c.open_new.ensures.valid))
 
+  tallied-m : AreTallied (record m { head = c.open_new.new.self }) c.self.inside.tallies
+  tallied-m =
+      subst (λ (h : HeadValue). AreTallied (record m { head = h }) c.self.inside.tallies) (sym new_opened)
+      (on_tallied m c.self.invariant.2 rolls.1 rolls.2 (record rolls.1 { opened = suc rolls.1.opened }) refl refl
+      c.self.inside.tallies c.self.invariant.4)
+
   some_roll : IsSome m.head.roll
   some_roll = subst IsSome (sym rolls.2) refl
 
 pub invariant_of-self-in-OpenNew : goal.invariant_of-self-in-OpenNew
 invariant_of-self-in-OpenNew c =
-    (λ some. c.self.invariant.0 (some_roll c), c.self.invariant.1, core_opened c, c.self.invariant.3)
+    (λ some. c.self.invariant.0 (some_roll c), c.self.invariant.1, core_opened c, c.self.invariant.3, tallied-m c)
 
 pub returns-in-OpenNew-clause-valid : goal.returns-in-OpenNew-clause-valid
 returns-in-OpenNew-clause-valid c = core_opened c
@@ -195,8 +222,18 @@ module _ (c : goal.After-end_pass) where
       (left_early k.pass (λ p. length c.end_pass.new.waiting.items + length p.victims
       ≤ vec_capacity c.end_pass.new.waiting))
 
+  tallied_then : AreTallied left c.count_end.new.tallies
+  tallied_then =
+      subst (λ (g : MasterData). AreTallied g c.count_end.new.tallies) ended_left
+      (ended_tallied k c.self.invariant.2 ends.0 ends.1 c.close_old.new.self c.close_old.result
+      c.close_old.ensures.closed c.close_old.ensures.old c.close_old.ensures.valid c.in-Some.image c.in-Some.is
+      c.self.inside.tallies c.count_end.new.tallies
+      (subst (λ (id : ℕ). IsCountedOut k.pass id c.self.inside.tallies c.count_end.new.tallies) c.id.ensures.id
+      c.count_end.ensures) c.self.invariant.4)
+
 pub invariant_of-self-in-Some : goal.invariant_of-self-in-Some
-invariant_of-self-in-Some c = (λ some. absurd (no_roll c some), sizes_then c, core_then c, room_left c)
+invariant_of-self-in-Some c =
+    (λ some. absurd (no_roll c some), sizes_then c, core_then c, room_left c, tallied_then c)
 
 pub returns-in-Some-clause-taken : goal.returns-in-Some-clause-taken
 returns-in-Some-clause-taken c = rw (← c.self.view_is) (taken_then c)
@@ -266,12 +303,19 @@ module _ (c : goal.In_default) where
   room_still : IsSome k''.head.roll
   room_still = subst IsSome (sym ends''.1) refl
 
+  tallied_still : AreTallied (record k'' { head = c.close_old.new.self }) c.self.inside.tallies
+  tallied_still =
+      early_tallied k'' c.self.invariant.2 ends''.0 ends''.1 c.close_old.new.self c.close_old.result
+      c.close_old.ensures.closed c.close_old.ensures.old c.close_old.ensures.valid c.in_default.is
+      c.self.inside.tallies c.self.invariant.4
+
 pub invariant_of-self-in_default : goal.invariant_of-self-in_default
 invariant_of-self-in_default c = (
   λ some. c.self.invariant.0 (room_still c),
   c.self.invariant.1,
   core_still c,
   c.self.invariant.3,
+  tallied_still c,
 )
 
 pub returns-in_default-clause-taken : goal.returns-in_default-clause-taken

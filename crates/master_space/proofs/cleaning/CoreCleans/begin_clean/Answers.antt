@@ -3,7 +3,7 @@ use Rattle.std.specs.Prelude.{Option, Some, None}
 use Rattle.std.specs.Result.{result_err}
 use Rattle.std.proofs.lemmas.List.{length-append, length-map}
 use Rattle.std.proofs.lemmas.List.FromFn.{length-range_with_len}
-use Rattle.master_state.specs.failover_clean.Steps.{MayBeginClean}
+use Rattle.master_state.specs.log_memory.Steps.{MayBeginClean}
 use Rattle.cleaner.specs.declared.pass.Pass.{Pass}
 use Rattle.cleaner.specs.declared.survivors.Survivors.{Survivors}
 use Rattle.cleaner.specs.Passes.{images_in, places_of, rest_of, survivor_ids, IsCursorAt, AreVictims}
@@ -18,12 +18,14 @@ use Rattle.master_state.specs.Budget.{whole_seglets}
 use Rattle.master_state.specs.Causes.{survivors_for, clean_refusal}
 use Rattle.master_state.specs.Data.{MasterData}
 use Rattle.master_state.specs.Images.{survivor_image, survivor_images}
-use Rattle.master_state.specs.Invariant.{IsCore, AreImagesOf}
+use Rattle.master_state.specs.Invariant.{IsCore, AreImagesOf, AreTallied}
 use Rattle.master_state.specs.Ledger.{posted}
 use Rattle.master_state.specs.Log.{log_of, memory_of}
 use Rattle.master_state.specs.Steps.{fresh_pass, next_survivors, BeginsPass}
+use Rattle.tally.specs.declared.tallies.Tally.{Tally}
+use Rattle.master_space.specs.Counting.{WithBegun}
 use Rattle.master_state.proofs.FreeVictims.{MayBegin, may_begin_pass}
-use Rattle.master_space.proofs.PassBegun.{closed_then, victims_fit}
+use Rattle.master_space.proofs.PassBegun.{closed_then, victims_fit, begun_tallies}
 use Rattle.master_state.proofs.PassIds.{images_below}
 use Rattle.master_space.proofs.PassOpened.{survivors_free, opened_core, begins_pass, may_clean_now}
 use Rattle.master_space.proofs.cleaning.CoreCleans.begin_clean.Goals as goal
@@ -158,6 +160,14 @@ module _ (a : After-reserve) (added : ImagesValue) (p : Pass) (has : HasBegun a 
   valid_then =
       subst IsCore is (opened_core k (core a) (victims a) (may a) p.cursor begins has.within at (short a))
 
+  tallied_then : (new : List Tally) → WithBegun (survivor_ids (asked a)) a.self.inside.tallies new
+      → AreTallied left new
+  tallied_then new with =
+      subst (λ (m : MasterData). AreTallied m new) is
+      (begun_tallies k (core a) (victims a) (may a) p.cursor begins has.within at a.self.inside.tallies new
+      (subst (λ (s : Survivors). WithBegun (survivor_ids s) a.self.inside.tallies new) (survivors a) with)
+      a.self.invariant.4)
+
   begins_then : BeginsPass k (victims a) (Begun (asked a)) (posted left (posting.Survivors k.next (asked a).count))
   begins_then =
       subst (λ (x : Survivors × MasterData). BeginsPass k (victims a) (Begun x.0)
@@ -197,6 +207,11 @@ module _ (c : goal.Joined-self) where
       record { segment = own.segment; seglet = own.seglet; seglets = own.seglets }) in
       record { segment = first.segment; seglet = first.seglet; seglets = first.seglets })
 
+pub begin_tallies-requires : goal.begin_tallies-requires
+begin_tallies-requires c =
+    let a = (goal.at.begin_tallies-requires c).After-reserve in
+    let same = count a in let le = (may a).next in omega (arith, same, le)
+
 pub overflow_add-self : goal.overflow_add-self
 overflow_add-self c =
     let a = (goal.at.overflow_add-self c).After-reserve in
@@ -208,6 +223,8 @@ invariant_of-self-2 c = (
   sizes_then c,
   valid_then (a c) c.add_survivors.new.closed c.begin-pass.result (has_begun c),
   λ committing. (let not = ap (λ (p : Pass). p.is_committing) (has_begun c).begun in absurd (cc)),
+  tallied_then (a c) c.add_survivors.new.closed c.begin-pass.result (has_begun c) c.begin_tallies.new.tallies
+      c.begin_tallies.ensures,
 )
 
 pub returns-clause-begun : goal.returns-clause-begun

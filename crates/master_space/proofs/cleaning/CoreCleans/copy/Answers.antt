@@ -8,10 +8,10 @@ use Rattle.images.specs.Images.{ImagesValue}
 use Rattle.master_state.specs.contracts.state.Core.{the_view}
 use Rattle.master_state.specs.Causes.{copy_refusal, step_refusal}
 use Rattle.master_state.specs.Data.{MasterData}
-use Rattle.master_state.specs.Invariant.{IsCore, AreImagesOf}
+use Rattle.master_state.specs.Invariant.{IsCore, AreImagesOf, AreTallied}
 use Rattle.master_state.specs.Log.{log_set_ids}
 use Rattle.master_state.proofs.Calm.{calm_parts}
-use Rattle.master_space.proofs.CopiedCore.{copied_core}
+use Rattle.master_space.proofs.CopiedCore.{copied_core, copied_tallies}
 use Rattle.master_space.proofs.CopiedImages.{length_same}
 use Rattle.master_space.proofs.cleaning.CoreCleans.copy.Goals as goal
 
@@ -28,7 +28,7 @@ module _ (c : goal.After-copy_answer) where
   p = c.in-Some.pass
 
   abbrev q : Pass
-  q = c.copy_one-copied.new.self
+  q = c.copy_next-copied.new.pass
 
   opened : d.pass ≡ Some p
   opened = c.in-Some.is
@@ -36,35 +36,35 @@ module _ (c : goal.After-copy_answer) where
   step : step_refusal d ≡ None
   step = ap step_refusal c.self.view_is ∙ sym c.admit.ensures ∙ ap result_err c.in_ok-admit.was
 
-  one : CopiesOne d.config.segment (log_set_ids d) p d.closed d.index c.copy_one-copied.result q
-      c.copy_one-copied.new.images.images c.copy_one-copied.new.index.held
+  one : CopiesOne d.config.segment (log_set_ids d) p d.closed d.index c.copy_next-copied.result q
+      c.copy_next-copied.new.closed.images c.copy_next-copied.new.index.held
   one =
-      subst (λ (x : ℕ × List ℕ). CopiesOne x.0 x.1 p d.closed d.index c.copy_one-copied.result q
-      c.copy_one-copied.new.images.images c.copy_one-copied.new.index.held)
+      subst (λ (x : ℕ × List ℕ). CopiesOne x.0 x.1 p d.closed d.index c.copy_next-copied.result q
+      c.copy_next-copied.new.closed.images c.copy_next-copied.new.index.held)
       (λ i. (c.self.invariant.1.segment i, ids_in d.closed (c.id-head.ensures.id i) (c.opening_id-new.ensures i)))
-      c.copy_one-copied.ensures.copied
+      c.copy_next-copied.ensures.copied
 
   valid_then : IsCore (record d {
-    closed = c.copy_one-copied.new.images.images;
-    index = c.copy_one-copied.new.index.held;
+    closed = c.copy_next-copied.new.closed.images;
+    index = c.copy_next-copied.new.index.held;
     pass = Some q;
   })
   valid_then =
-      copied_core d c.self.invariant.2 p q c.copy_one-copied.result c.copy_one-copied.new.images.images
-      c.copy_one-copied.new.index.held opened
+      copied_core d c.self.invariant.2 p q c.copy_next-copied.result c.copy_next-copied.new.closed.images
+      c.copy_next-copied.new.index.held opened
       (sym c.is_at_end.ensures ∙ c.if-is_at_end.false) c.show_valid.ensures.rising (calm_parts d step).1 one
-      c.copy_one-copied.ensures.pass
+      c.copy_next-copied.ensures.pass
 
-  room_then : IsSome d.head.roll → length c.copy_one-copied.new.images.images < c.copy_one-copied.new.images.room
+  room_then : IsSome d.head.roll → length c.copy_next-copied.new.closed.images < c.copy_next-copied.new.closed.room
   room_then some =
       let was = c.self.invariant.0 some in
       let len = ap length one.survivor ∙ length_same d.closed (p.survivors.first + q.filling) one.entry _ in
-      let room = ap (λ (v : ImagesValue). v.room) c.copy_one-copied.ensures.images in
+      let room = ap (λ (v : ImagesValue). v.room) c.copy_next-copied.ensures.images in
       omega (arith, was, len, room)
 
-  sizes_then : AreImagesOf d.config c.copy_one-copied.new.images
+  sizes_then : AreImagesOf d.config c.copy_next-copied.new.closed
   sizes_then = (let own = c.self.invariant.1 in
-      subst (AreImagesOf d.config) (sym c.copy_one-copied.ensures.images)
+      subst (AreImagesOf d.config) (sym c.copy_next-copied.ensures.images)
       (record { segment = own.segment; seglet = own.seglet; seglets = own.seglets }))
 
   waiting_then : q.is_committing ≡ true → length d.waiting + length q.victims ≤ vec_capacity c.self.inside.waiting
@@ -75,8 +75,25 @@ module _ (c : goal.After-copy_answer) where
       subst (λ (z : Pass). length d.waiting + length z.victims ≤ vec_capacity c.self.inside.waiting) (sym one.pass)
       (was (ap (λ (z : Pass). z.is_committing) (sym one.pass) ∙ commits))
 
+  tallied_then : AreTallied (record d {
+    closed = c.copy_next-copied.new.closed.images;
+    index = c.copy_next-copied.new.index.held;
+    pass = Some q;
+  }) c.copy_next-copied.new.tallies
+  tallied_then =
+      copied_tallies d c.self.invariant.2 p q c.copy_next-copied.result c.copy_next-copied.new.closed.images
+      c.copy_next-copied.new.index.held c.self.inside.tallies c.copy_next-copied.new.tallies opened
+      (sym c.is_at_end.ensures ∙ c.if-is_at_end.false) c.show_valid.ensures.rising (calm_parts d step).1 one
+      c.copy_next-copied.ensures.counted c.self.invariant.4
+
 pub invariant_of-self-2 : goal.invariant_of-self-2
-invariant_of-self-2 c = (λ some. room_then c some, sizes_then c, valid_then c, λ commits. waiting_then c commits)
+invariant_of-self-2 c = (
+  λ some. room_then c some,
+  sizes_then c,
+  valid_then c,
+  λ commits. waiting_then c commits,
+  tallied_then c,
+)
 
 pub returns-clause-valid : goal.returns-clause-valid
 returns-clause-valid c = valid_then c
@@ -86,7 +103,7 @@ returns-clause-copied c = rw (← c.self.view_is) (record {
   passed = no_refusal (d c) (p c) (step c) (opened c) (sym c.is_at_end.ensures ∙ c.if-is_at_end.false);
   pass = p c;
   after = q c;
-  copied = c.copy_one-copied.result;
+  copied = c.copy_next-copied.result;
   opened = opened c;
   treats = one c;
   told = c.copy_answer.ensures;

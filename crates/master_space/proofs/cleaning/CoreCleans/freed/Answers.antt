@@ -31,6 +31,7 @@ invariant_of-self c =
           (sym c.free_one.ensures.capacity)
           (room_left c.self.inside.pass (length c.self.inside.waiting.items) (length c.free_one.new.waiting.items)
           (vec_capacity c.self.inside.waiting) (omega arith) c.self.invariant.3),
+      c.self.invariant.4,
     )
 
 pub returns-clause-valid : goal.returns-clause-valid

@@ -4,9 +4,9 @@ use Rattle.std.proofs.lemmas.List.{length-map}
 use Rattle.images.specs.Images.{ImagesValue}
 use Rattle.master_state.specs.contracts.state.Core.{the_view}
 use Rattle.master_state.specs.Data.{MasterData}
-use Rattle.master_state.specs.Invariant.{IsCore, AreImagesOf}
+use Rattle.master_state.specs.Invariant.{IsCore, AreImagesOf, AreTallied}
 use Rattle.master_state.specs.Waits.{next_seal}
-use Rattle.master_space.proofs.SealedCore.{SealsNext, seals_next, few_before, sealed_core}
+use Rattle.master_space.proofs.SealedCore.{SealsNext, seals_next, few_before, sealed_core, sealed_tallies}
 use Rattle.master_space.proofs.cleaning.CoreCleans.sealed.Goals as goal
 
 module _ (c : goal.After-add_replica) where
@@ -32,6 +32,13 @@ module _ (c : goal.After-add_replica) where
       subst (AreImagesOf d.config) (sym c.add_replica.ensures)
       (record { segment = own.segment; seglet = own.seglet; seglets = own.seglets }))
 
+  tallied_then : AreTallied (record d { closed = c.add_replica.new.self.images }) c.self.inside.tallies
+  tallied_then =
+      subst (λ (v : ImagesValue). AreTallied (record d { closed = v.images }) c.self.inside.tallies)
+      (sym c.add_replica.ensures)
+      (sealed_tallies d c.self.invariant.2 next.pass next.opened c.in-Some.survivor c.in-Some.field-0-1 next.next
+      c.self.inside.tallies c.self.invariant.4)
+
 pub add_replica-requires : goal.add_replica-requires
 add_replica-requires c =
     let d : MasterData = the_view c.self.inside in
@@ -40,7 +47,7 @@ add_replica-requires c =
     few_before d c.self.invariant.2 next.pass next.opened c.in-Some.survivor c.in-Some.field-0-1 next.next
 
 pub invariant_of-self : goal.invariant_of-self
-invariant_of-self c = (λ some. room_then c some, sizes_then c, valid_then c, c.self.invariant.3)
+invariant_of-self c = (λ some. room_then c some, sizes_then c, valid_then c, c.self.invariant.3, tallied_then c)
 
 pub returns-clause-valid : goal.returns-clause-valid
 returns-clause-valid c = valid_then c

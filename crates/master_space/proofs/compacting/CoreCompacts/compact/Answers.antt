@@ -15,7 +15,7 @@ use Rattle.master_state.specs.Data.{MasterData}
 use Rattle.master_state.specs.Invariant.{IsCore}
 use Rattle.master_state.specs.Log.{images_of, state_now, log_set_ids}
 use Rattle.master_space.proofs.CompactedData.{never_none, image_is, fits, never_refused, compacts, compacted_valid}
-use Rattle.master_space.proofs.CompactedData.{room_then, sizes_then}
+use Rattle.master_space.proofs.CompactedData.{room_then, sizes_then, tallied_then}
 use Rattle.master_space.proofs.CompactedIndex.{held_lie}
 use Rattle.master_state.proofs.Finding.{index_of}
 use Rattle.master_state.proofs.Imaging.{ids_in}
@@ -100,6 +100,10 @@ invariant_of-self-2 c =
           c.replace.new.self c.in-Ok.ensures.ok
           law,
       c.self.invariant.3,
+      tallied_then d core c.args.id none c.self.inside.closed refl c.show_valid.ensures c.self.invariant.1 ids
+          c.in-Some.image
+          c.in_ok-segment.segment c.compact.new.index.held listed image c.in_ok-segment.ensures.compacted moved
+          c.replace.new.self c.in-Ok.ensures.ok c.self.inside.tallies c.self.invariant.4,
     )
 
 pub returns-clause-valid : goal.returns-clause-valid

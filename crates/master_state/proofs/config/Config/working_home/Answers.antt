@@ -1,5 +1,5 @@
 use Rattle.std.proofs.Common.{◌≡◌, ℕ, suc, ◌-◌, ◌<◌, List, length, sym, ap, subst, ◌∙◌, arith}
-use Rattle.log_head.specs.log_model.Ids.{has}
+use Rattle.log_head.specs.log_laws.Ids.{has}
 use Rattle.master_state.proofs.Homes.{item, order_gone, order_stays}
 use Rattle.master_state.proofs.config.Config.working_home.Goals as goal
 

@@ -8,7 +8,7 @@ use Rattle.images.specs.Images.{ImagesValue}
 use Rattle.log_head.specs.declared.head.Roll.{Roll}
 use Rattle.log_head.specs.Head.{HeadValue}
 use Rattle.log_head.specs.Steps.{lost}
-use Rattle.log_head.specs.log_model.Ids.{has}
+use Rattle.log_head.specs.log_laws.Ids.{has}
 use Rattle.master_state.specs.contracts.state.Core.{the_view}
 use Rattle.master_state.specs.declared.failover.Part.TheVariants as part
 use Rattle.master_state.specs.declared.state.Core.TheInside.{Inside}
@@ -20,6 +20,7 @@ use Rattle.master_state.specs.Steps.{less_by, may_lose, lost_data, lost_image, l
 use Rattle.master_state.specs.Steps.{place_of, still_waits}
 use Rattle.master_state.proofs.LostCore.{loses, lost_core, none_less}
 use Rattle.master_state.proofs.Refusals.{has_homes}
+use Rattle.master_state.proofs.Tallying.{none_right}
 use Rattle.master_state.proofs.state.Core.lose.Goals as goal
 use Rattle.master_state.proofs.state.Core.lose.Goals.{in-None, in-Some, in-Some-pass, in_default}
 
@@ -214,6 +215,7 @@ invariant_of-self c = (
   subst (λ (m : Inside). IfSome m.pass (λ (p : OpenPass). p.is_committing ≡ true
       → length m.waiting.items + length p.victims ≤ vec_capacity m.waiting)) (sym (passed c))
       (none_commits c.self.inside.pass c.lose_waiting.new.waiting),
+  none_right _ _ _ _ c.clear.ensures,
 )
 
 pub returns-clause-valid : goal.returns-clause-valid

@@ -8,6 +8,7 @@ invariant_of-self c = (
   c.self.invariant.1,
   posted_core (the_view c.self.inside) c.with-self-inside.result.postings c.self.invariant.2,
   c.self.invariant.3,
+  c.self.invariant.4,
 )
 
 pub returns-clause-valid : goal.returns-clause-valid

@@ -6,7 +6,7 @@ use Rattle.places.specs.Secrets.{secret_seed}
 use Rattle.log_head.specs.Head.{HeadValue, IsHeadValue}
 use Rattle.log_head.specs.Steps.{lone_start, fresh_head}
 use Rattle.master_state.specs.Invariant.{AreImagesOf}
-use Rattle.master_state.proofs.Beginning.{restored_core, restored_log}
+use Rattle.master_state.proofs.Beginning.{restored_core, restored_log, tallied_first}
 use Rattle.master_state.proofs.Refusals.{sizes_of}
 use Rattle.master_state.proofs.state.Core.restore.Goals as goal
 
@@ -38,6 +38,7 @@ invariant_of-core c =
       restored_core c.args.config c.args.safe (subst (λ (h : HeadValue). IsHeadValue h) head
           c.in_ok-head.ensures.valid) c.requires,
       tt,
+      tallied_first c.args.config c.args.safe c.first_tallies.result c.first_tallies.ensures,
     )
 
 pub returns-clause-log : goal.returns-clause-log

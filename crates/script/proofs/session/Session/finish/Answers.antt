@@ -1,9 +1,9 @@
 use Rattle.std.proofs.Common.{refl, sym, ap, subst}
 use Rattle.lines.specs.Grammar.{shown_command}
 use Rattle.next_master.specs.answers.declared.answer.Answer.TheVariants as answers
-use Rattle.next_master.specs.node.declared.tried.Tried.{Tried}
-use Rattle.next_master.specs.node.declared.tried.Tried.TheVariants as tried
-use Rattle.next_master.specs.node.Waits.{TriesLine}
+use Rattle.next_master.specs.cluster.declared.tried.Tried.{Tried}
+use Rattle.next_master.specs.cluster.declared.tried.Tried.TheVariants as tried
+use Rattle.next_master.specs.cluster.Waits.{TriesLine}
 use Rattle.script.specs.declared.session.Session.{Session}
 use Rattle.script.specs.Sessions.{AnswersAfterRoll, SessionAnswers}
 use Rattle.script.proofs.Tried.{tried_answers, waited_answers}

@@ -3,8 +3,8 @@ use Rattle.lines.specs.Grammar.{shown_command}
 use Rattle.history.specs.View.{shown_command as lent_command}
 use Rattle.next_master.specs.master.master_state.declared.step.Refusal.TheVariants.{Rolling}
 use Rattle.next_master.specs.answers.declared.answer.Answer.TheVariants as answers
-use Rattle.next_master.proofs.of_node.Rolls.{no_room_told, rolling_told, room_told}
-use Rattle.next_master.proofs.of_node.Tries.{not_rolled_makes, of_command, rolled_makes, rolling_makes}
+use Rattle.next_master.proofs.of_cluster.Rolls.{no_room_told, rolling_told, room_told}
+use Rattle.next_master.proofs.of_cluster.Tries.{not_rolled_makes, of_command, rolled_makes, rolling_makes}
 use Rattle.script.proofs.session.Session.run_after_roll.Goals as goal
 
 pub returns-in-Err : goal.returns-in-Err

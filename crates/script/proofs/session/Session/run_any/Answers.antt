@@ -1,7 +1,7 @@
 use Rattle.std.proofs.Common.{inl, inr, refl, arith}
 use Rattle.lines.specs.Grammar.{Format, Idle, Seglets}
 use Rattle.next_master.specs.answers.declared.answer.Answer.TheVariants.{Silent}
-use Rattle.next_master.proofs.of_node.Standing.{stays_told}
+use Rattle.next_master.proofs.of_cluster.Standing.{stays_told}
 use Rattle.script.specs.Sessions.{RunsLine, SessionAnswers}
 use Rattle.script.proofs.Commanding.{has_command}
 use Rattle.script.proofs.Sessions.{ok_runs}
@@ -278,6 +278,21 @@ returns-in-Free-clause-ran g c = rw c.in-Free.is (inl (record {
   answers = λ config number. c.step-in-Free.ensures.told config;
   makes =
       c.step-in-Free.ensures.stepped;
+  wills = refl;
+  word = refl;
+  later = refl;
+  begins = λ all. all.3;
+  shows = tt;
+}))
+
+pub returns-in-Tend-clause-ran : goal.returns-in-Tend-clause-ran
+returns-in-Tend-clause-ran g c = rw c.in-Tend.is (inl (record {
+  number = refl;
+  options = refl;
+  used = refl;
+  covers = λ all. all.0;
+  answers = λ config number. c.tend.ensures.told config;
+  makes = c.tend.ensures.tended;
   wills = refl;
   word = refl;
   later = refl;

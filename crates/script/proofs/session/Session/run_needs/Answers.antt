@@ -1,9 +1,9 @@
 use Rattle.std.proofs.Common.{inl, inr, refl, ap}
 use Rattle.lines.specs.Grammar.{Needs}
 use Rattle.next_master.specs.answers.declared.answer.Answer.TheVariants as answer
-use Rattle.next_master.specs.node.Served.{is_up}
+use Rattle.next_master.specs.cluster.Served.{is_up}
 use Rattle.next_master.specs.Configuration.{config_of}
-use Rattle.next_master.proofs.of_node.Standing.{not_up, up_told}
+use Rattle.next_master.proofs.of_cluster.Standing.{not_up, up_told}
 use Rattle.script.proofs.Sessions.{needs_answers, unknown_at}
 use Rattle.script.proofs.session.Session.run_needs.Goals as goal
 

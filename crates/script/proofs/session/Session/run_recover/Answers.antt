@@ -7,7 +7,7 @@ use Rattle.next_master.specs.Numbers.{Renumbers}
 use Rattle.next_master.specs.Recoveries.{Ends, Recovers}
 use Rattle.script.specs.Sessions.{asked_of}
 use Rattle.next_master.proofs.HowItEnds.{down_at, limit_made, want_ends}
-use Rattle.next_master.proofs.of_node.Standing.{not_up}
+use Rattle.next_master.proofs.of_cluster.Standing.{not_up}
 use Rattle.script.proofs.Sessions.{stands_checked, unknown_at, want_at}
 use Rattle.script.proofs.session.Session.run_recover.Goals as goal
 

@@ -1,0 +1,46 @@
+-- A node without a master rolls nothing, and shows nothing of a master.
+use Rattle.std.proofs.Common.{◌≡◌, ℕ, false, refl}
+use Rattle.std.specs.Prelude.{Err}
+use Rattle.answers.specs.driving.master.master_state.declared.config.Config.{Config}
+use Rattle.answers.specs.declared.answer.Answer.TheVariants as answer
+use Rattle.cluster.specs.declared.node.Node.{Node}
+use Rattle.cluster.specs.declared.node.Node.TheVariants.{Up, Down, Changing}
+use Rattle.cluster.specs.Served.{MakesRoll, is_up}
+use Rattle.cluster.specs.Shows.{ShowsDigest, ShowsImage, ShowsLive, ShowsRoom}
+use Rattle.cluster.specs.Waits.{MakesOpen, MakesRoom}
+use Rattle.cluster.proofs.Standing.{is_down_some}
+
+pub down_roll : (node : Node) → is_up node ≡ false → MakesRoll node node answer.Down
+down_roll (Up m) down = absurd (cc)
+down_roll (Down fleet) down = (refl, refl)
+down_roll Changing down = (refl, refl)
+
+pub down_open : (node : Node) → is_up node ≡ false → MakesOpen node node (Err answer.Down)
+down_open (Up m) down = absurd (cc)
+down_open (Down fleet) down = (refl, refl)
+down_open Changing down = (refl, refl)
+
+pub down_room : (node : Node) (config : Config) → is_up node ≡ false → MakesRoom node config node (Err answer.Down)
+down_room node config down d at s = (d, at, s, (refl, refl), (is_down_some node d at.left down s.node_of, refl))
+
+-- ---- what is shown
+
+pub digest_down : (node : Node) → is_up node ≡ false → ShowsDigest node answer.Down
+digest_down (Up m) down = absurd (cc)
+digest_down (Down fleet) down = refl
+digest_down Changing down = refl
+
+pub room_down : (node : Node) → is_up node ≡ false → ShowsRoom node answer.Down
+room_down (Up m) down = absurd (cc)
+room_down (Down fleet) down = refl
+room_down Changing down = refl
+
+pub live_down : (node : Node) → is_up node ≡ false → ShowsLive node answer.Down
+live_down (Up m) down = absurd (cc)
+live_down (Down fleet) down = refl
+live_down Changing down = refl
+
+pub image_down : (node : Node) (segment : ℕ) → is_up node ≡ false → ShowsImage node segment answer.Down
+image_down (Up m) segment down = absurd (cc)
+image_down (Down fleet) segment down = refl
+image_down Changing segment down = refl

@@ -1,0 +1,17 @@
+use Rattle.std.proofs.Common.{◌≡◌, subst}
+use Rattle.std.proofs.lemmas.Option.{same_Some}
+use Rattle.versioned_map.specs.declared.command.Reply.{Reply}
+use Rattle.history.specs.View.{shown_reply}
+use Rattle.answers.specs.Errors.{IsHanded}
+use Rattle.answers.specs.Texts.{reply_text}
+use Rattle.cluster.proofs.node.Node.write_reply.Goals as goal
+
+pub unreachable-requires : goal.unreachable-requires
+unreachable-requires g c = let there = c.in-None.ensures c.requires.0 c.requires.1 in absurd (cc)
+
+pub returns : goal.returns
+returns g c = λ reply at.
+    let same : shown_reply c.in-Some.reply ≡ reply = same_Some _ _ (c.in-Some.ensures reply at) in
+    let held = g.W.Write.contents c.args.writer.now in
+    let holds = g.W.Write.contents c.write_reply.new.writer in
+    subst (λ (r : Reply). IsHanded held holds (reply_text r) c.write_reply.result) same c.write_reply.ensures

@@ -1,0 +1,437 @@
+-- What the lines of a script tell of a master's life.
+use Rattle.std.specs.Prelude.{◌≡◌, ◌⊎◌, ◌↔◌, ℕ, suc, ◌<◌, List, ◌∷◌, map, Bool, true, false}
+use Rattle.std.specs.Prelude.{Option, Some, None, Result, Ok, Err, slice_get}
+use Rattle.std.specs.Option.{option_map}
+use Rattle.entry.specs.Meaning.{IsMeaning, among, contents_of}
+use Rattle.entry.specs.Text.{text_of}
+use Rattle.lines.specs.Grammar.{LineValue, Idle, Put, New, Cas, Get, Del, Compact, Roll, BeginRoll, Push, Log, Room}
+use Rattle.lines.specs.Grammar.{Hex, Stop, Fault, Crash, Lose, Will, Recover, Holdings, Clean, Begin, Copy, Seal, Free}
+use Rattle.lines.specs.Grammar.{Clients, Format, LiveBytes, Needs, Seglets, Tend}
+use Rattle.lines.specs.declared.line.ReplayOrder.{ReplayOrder}
+use Rattle.backup.specs.Inventory.{AreRising}
+use Rattle.answers.specs.driving.master.cleaner.declared.survivors.Survivors.{Survivors}
+use Rattle.replica.specs.Choice.{Choice, IsShownChoice, bag_of}
+use Rattle.entry.specs.Bag.{IsAmong}
+use Rattle.replica.specs.declared.holding.Holding.{Holding}
+use Rattle.replica.specs.declared.label.Label.{Label}
+use Rattle.replica.specs.Picture.{FleetState, left_on, IsHeld, AreLabelsOf, label_of, survivors}
+use Rattle.replica.specs.Survival.{BothSurvive}
+use Rattle.versioned_map.specs.declared.command.Command.{Command}
+use Rattle.versioned_map.specs.declared.command.Command.TheVariants as command
+use Rattle.versioned_map.specs.declared.command.If.TheVariants.{Any, Absent, Version}
+use Rattle.versioned_map.specs.declared.command.Reply.{Reply}
+use Rattle.versioned_map.specs.History.{commands_of}
+use Rattle.versioned_map.specs.Versioned.{after}
+use Rattle.answers.specs.driving.master.master_state.declared.config.Config.{Config}
+use Rattle.answers.specs.driving.master.master_state.declared.step.Refusal.{Refusal}
+use Rattle.answers.specs.driving.master.master_state.declared.step.Refusal.TheVariants as refusal
+use Rattle.answers.specs.driving.master.master_state.Causes.{command_refusal}
+use Rattle.answers.specs.driving.master.log_head.Head.{digest_of}
+use Rattle.answers.specs.driving.master.master_state.declared.step.Step.{Step}
+use Rattle.answers.specs.driving.master.master_state.declared.step.Step.TheVariants as step
+use Rattle.answers.specs.driving.master.master_state.declared.step.StepAnswer.{StepAnswer}
+use Rattle.answers.specs.driving.master.master_state.declared.step.StepAnswer.TheVariants as step_answer
+use Rattle.answers.specs.driving.master.master_state.Data.{MasterData}
+use Rattle.answers.specs.driving.master.Steps.{Steps}
+use Rattle.answers.specs.driving.master.World.{World}
+use Rattle.answers.specs.driving.master.master_state.Budget.{used_seglets, free_seglets}
+use Rattle.answers.specs.driving.master.master_state.Log.{image_of}
+use Rattle.answers.specs.claims.declared.rebuilt.Rebuilt.{Rebuilt}
+use Rattle.answers.specs.recovery.declared.recovery.RecoveryFault.{RecoveryFault}
+use Rattle.answers.specs.recovery.declared.recovery.RecoveryFault.TheVariants as recovery_fault
+use Rattle.answers.specs.recovery.Headline.{IsLoss, IsMapAfter, IsNoMemory}
+use Rattle.answers.specs.recovery_plan.Planned.{IsPlanFault, NamesLoss}
+use Rattle.answers.specs.declared.answer.Answer.{Answer}
+use Rattle.answers.specs.declared.answer.Answer.TheVariants as answer
+use Rattle.cluster.specs.Lives.{Life, life_to, HasLived, Left, is_left, IsLeftBy, IsLeftBySpent, IsHomeOf, Position}
+use Rattle.answers.specs.replay.Adopting.{DeclinesList}
+use Rattle.answers.specs.replay.Needs.{IsNeeded, NoneIsEnough}
+use Rattle.tablet_will.specs.declared.part.Part.{Part}
+use Rattle.tablet_will.specs.Sizes.{are_limits}
+use Rattle.answers.specs.declared.limits.Limits.{Limits}
+use Rattle.cluster.specs.Wills.{IsWillOf}
+use Rattle.answers.specs.driving.Cleans.{Cleans}
+use Rattle.cluster.specs.Counted.{AsksClients, AreCounted, AreUncounted}
+use Rattle.answers.specs.driving.Rolls.{PushesUntil, Rolls}
+use Rattle.answers.specs.driving.Served.{is_of_push}
+use Rattle.tending.specs.Low.{usual_for}
+use Rattle.tending.specs.Tends.{Tends}
+
+-- ---- commands
+
+-- the command that a line asks for, if it asks for one
+abbrev pub command_of : LineValue → Option Command
+command_of (Put table key value) = Some (command.Put (record { table = table; bytes = key }) value Any)
+command_of (New table key value) = Some (command.Put (record { table = table; bytes = key }) value Absent)
+command_of (Cas table key version value) =
+    Some (command.Put (record { table = table; bytes = key }) value (Version version))
+command_of (Get table key) = Some (command.Get (record { table = table; bytes = key }))
+command_of (Del table key) = Some (command.Delete (record { table = table; bytes = key }))
+command_of _ = None
+
+-- the record at this place is of the line's command, by seat 0, and has this reply
+abbrev pub IsRecordAt : Life → ℕ → LineValue → Reply → Type 0
+IsRecordAt life place line reply = (c : Command) × (command_of line ≡ Some c)
+    × (slice_get life.history place ≡ Some (record { seat = 0; command = c; reply = reply }))
+
+-- the line made the next record, and this record and all before it are acknowledged
+abbrev pub IsReplied : Life → Position → LineValue → Reply → Position → Type 0
+IsReplied life at line reply next = IsRecordAt life at.made line reply
+    × (next ≡ record { made = suc at.made; acknowledged = suc at.made; left = None })
+
+-- the line asks for a command, and made no record
+abbrev pub IsOut : Position → LineValue → Option Left → Position → Type 0
+IsOut at line left next = (c : Command) × (command_of line ≡ Some c)
+    × (next ≡ record { made = at.made; acknowledged = at.acknowledged; left = left })
+
+-- the line made the next record, and no reply was answered
+abbrev pub IsIn : Life → Position → LineValue → Option Left → Position → Type 0
+IsIn life at line left next = (reply : Reply) × IsRecordAt life at.made line reply
+    × (next ≡ record { made = suc at.made; acknowledged = at.acknowledged; left = left })
+
+-- ---- steps
+
+-- a master that has lived this life makes this step, with this result, and has lived just this life after it, too
+abbrev pub IsStepAt : Config → Life → Step → Result StepAnswer Refusal → Type 0
+IsStepAt config life step result = (old : World) × (new : World) × HasLived config life old.knows old.fleet
+    × HasLived config life new.knows new.fleet × Steps old step result new
+
+-- a master that has lived this life makes this roll with its pushes, and has lived just this life after it, too
+abbrev pub IsRollAt : Config → Life → Result ℕ Refusal → Type 0
+IsRollAt config life result = (old : World) × (new : World) × HasLived config life old.knows old.fleet
+    × HasLived config life new.knows new.fleet × Rolls old result new
+
+-- a master that has lived this life cleans these segments, with this result, and has lived just this life after it
+abbrev pub IsCleanAt : Config → Life → List ℕ → Result (Survivors × ℕ) Refusal → Type 0
+IsCleanAt config life victims result = (old : World) × (new : World) × HasLived config life old.knows old.fleet
+    × HasLived config life new.knows new.fleet × Cleans old victims result new
+
+-- a master that has lived this life lets its cleaner make so many steps, and has lived just this life after them, too
+abbrev pub IsTendAt : Config → Life → ℕ → Result ℕ Refusal → Type 0
+IsTendAt config life steps result = (old : World) × (new : World) × HasLived config life old.knows old.fleet
+    × HasLived config life new.knows new.fleet × Tends (usual_for old.knows.config) steps old result new
+
+-- a master that has lived this life refuses what the line asks for: a step, a roll, a cleaning or steps of its cleaner
+abbrev pub IsStepRefusal : Config → Life → LineValue → Refusal → Type 0
+IsStepRefusal config life BeginRoll r = IsStepAt config life step.BeginRoll (Err r)
+IsStepRefusal config life (Compact segment) r = IsStepAt config life (step.Compact segment) (Err r)
+IsStepRefusal config life Push r = IsStepAt config life step.Push (Err r)
+IsStepRefusal config life (Begin victims) r = IsStepAt config life (step.BeginClean victims) (Err r)
+IsStepRefusal config life Copy r = IsStepAt config life step.Copy (Err r)
+IsStepRefusal config life Seal r = IsStepAt config life step.Seal (Err r)
+IsStepRefusal config life Free r = IsStepAt config life step.Free (Err r)
+IsStepRefusal config life Roll r = IsRollAt config life (Err r)
+IsStepRefusal config life (Clean victims) r = IsCleanAt config life victims (Err r)
+IsStepRefusal config life (Tend steps) r = IsTendAt config life steps (Err r)
+IsStepRefusal config life line r = ⊥
+
+-- the line hands ops to backups, and makes no record
+abbrev pub pushes : LineValue → Bool
+pushes Roll = true
+pushes Push = true
+pushes Seal = true
+pushes Free = true
+pushes (Clean victims) = true
+pushes (Tend steps) = true
+pushes line = false
+
+-- What an answer tells of steps, a roll or a cleaning that weren't made, and the position after it. No record was made.
+abbrev pub TellsNoStep : Config → Life → Position → LineValue → Answer → Position → Type 0
+TellsNoStep config life at line (answer.Refused r) next = (at.left ≡ None)
+    × IsStepRefusal config (life_to life at.made) line r × (r ≡ refusal.Spent → ⊥)
+    × (next ≡ record { made = at.made; acknowledged = at.acknowledged; left = None })
+TellsNoStep config life at line answer.Stopped next = (at.left ≡ None)
+    × (l : Left) × IsLeftBySpent config (life_to life at.made) l × (pushes line ≡ true)
+    × (next ≡ record { made = at.made; acknowledged = at.acknowledged; left = Some l })
+TellsNoStep config life at line answer.Down next = ((l : Left) × (at.left ≡ Some l)) × (next ≡ at)
+TellsNoStep config life at line _ next = ⊥
+
+-- the line's step made no record, and the master is gone
+abbrev pub IsStepOut : Position → LineValue → Left → Position → Type 0
+IsStepOut at line l next = (pushes line ≡ true)
+    × (next ≡ record { made = at.made; acknowledged = at.acknowledged; left = Some l })
+
+-- ---- refusals
+
+-- the test by which a master that has lived this life refuses the command
+abbrev pub IsTest : Config → Life → Command → Refusal → Type 0
+IsTest config life c r = (d : MasterData) × (f : FleetState) × HasLived config life d f × (command_refusal d c ≡ Some r)
+
+-- A test refuses the command, or the command has to wait for a roll and the roll is refused.
+abbrev pub IsCause : Config → Life → Command → Refusal → Type 0
+IsCause config life c r =
+    IsTest config life c r ⊎ (IsTest config life c refusal.Rolling × IsRollAt config life (Err r))
+
+-- a master that has lived this life is pushed until a push is refused, and has lived just this life after that, too
+abbrev pub IsPushedAt : Config → Life → Refusal → Type 0
+IsPushedAt config life r = (old : World) × (new : World) × HasLived config life old.knows old.fleet
+    × HasLived config life new.knows new.fleet × PushesUntil old r new
+
+-- A command is refused, and not because the fleet takes no more ops. Either it made no record: memory ran out, a test
+-- refused it, or the roll that it waits for was refused. Or it made one, and the master was then pushed until a push
+-- was refused, though something waited.
+abbrev pub IsRefused : Config → Life → Position → LineValue → Refusal → Position → Type 0
+IsRefused config life at line r next = (r ≡ refusal.Spent → ⊥)
+    × ((IsOut at line None next × ((r ≡ refusal.NoMemory)
+    ⊎ ((c : Command) × (command_of line ≡ Some c) × IsCause config (life_to life at.made) c r)))
+    ⊎ (IsIn life at line None next × IsPushedAt config (life_to life next.made) r × (is_of_push r ≡ true)))
+
+-- ---- what is shown
+
+-- the line shows something, and needs memory for that
+abbrev pub shows : LineValue → Bool
+shows (Hex segment) = true
+shows Log = true
+shows Holdings = true
+shows Will = true
+shows _ = false
+
+-- a master that has lived this life has this digest in force
+abbrev pub IsDigestAt : Config → Life → List ℕ → Type 0
+IsDigestAt config life ids = (d : MasterData) × (f : FleetState) × HasLived config life d f
+    × (ids ≡ digest_of d.head.image)
+
+-- a master that has lived this life counts this many seglets of memory, and has this many free
+abbrev pub IsRoomAt : Config → Life → ℕ → ℕ → Type 0
+IsRoomAt config life used free = (d : MasterData) × (f : FleetState) × HasLived config life d f
+    × (used ≡ used_seglets d) × (free ≡ free_seglets d)
+
+-- all live objects of a master that has lived this life have this many bytes together
+abbrev pub IsLiveAt : Config → Life → ℕ → Type 0
+IsLiveAt config life bytes = (d : MasterData) × (f : FleetState) × HasLived config life d f × (bytes ≡ d.live)
+
+-- just these of the master's replicas are left
+abbrev pub AreLeft : Config → Left → List Holding → Type 0
+AreLeft config l hs = (h : Holding) → h.master ≡ config.master
+    → IsAmong h hs ↔ IsHeld (left_on (is_left l.lost) l.shown.holds) h
+
+-- what the backups hold: of a master that has lived this life, or what is left of it
+abbrev pub AreHeldAt : Config → Life → Option Left → List Label → Type 0
+AreHeldAt config life None labels =
+    (d : MasterData) × (f : FleetState) × HasLived config life d f × AreLabelsOf f.picture labels
+AreHeldAt config life (Some l) labels = (hs : List Holding) × AreLeft config l hs × (labels ≡ map label_of hs)
+
+-- ---- wills
+
+-- the will of the objects of the versioned map after this life
+abbrev pub IsWillAt : Config → Life → Limits → List Part → Type 0
+IsWillAt config life limits parts =
+    IsWillOf config.tablets (after life.opening (commands_of life.history)).contents limits parts
+
+-- the answer to the line `will` has these limits
+abbrev pub HasLimits : Limits → Answer → Type 0
+HasLimits limits (answer.Will parts under) = under ≡ limits
+HasLimits limits (answer.BadLimits under) = under ≡ limits
+HasLimits limits _ = Unit {0}
+
+-- ---- images
+
+-- a master that has lived this life has this image of the segment
+abbrev pub IsImageAt : Config → Life → ℕ → Option (List ℕ) → Type 0
+IsImageAt config life segment image = (d : MasterData) × (f : FleetState) × HasLived config life d f
+    × (option_map text_of (image_of d segment) ≡ image)
+
+-- ---- recovered tables
+
+-- the table is the map after a prefix of the commands that the lines have made, with each acknowledged one in it
+abbrev pub IsRecoveredAt : Life → Position → Rebuilt → Type 0
+IsRecoveredAt life at r = IsMapAfter life.opening (life_to life at.made).history at.acknowledged r
+
+-- the objects are those of a log that is chosen from what the backups still hold
+abbrev pub IsOfLeft : Config → Left → Rebuilt → Type 0
+IsOfLeft config l r = (c : Choice) × IsShownChoice (survivors (is_left l.lost) l.shown) config.master c
+    × IsMeaning (among (bag_of c)) (contents_of r.objects)
+
+-- the line asks for a recovery, in some order
+abbrev pub IsRecover : LineValue → Type 0
+IsRecover line = (order : ReplayOrder) × (line ≡ Recover order)
+
+-- the line asks what a recovery finds: it asks for a recovery, or for what a new master needs after one
+abbrev pub AsksTable : LineValue → Type 0
+AsksTable line = IsRecover line ⊎ (line ≡ Needs)
+
+-- a recovery of what is left gives this table
+abbrev pub IsFoundAt : Config → Life → Position → Left → Rebuilt → Type 0
+IsFoundAt config life at l r = IsRecoveredAt life at r × IsOfLeft config l r
+
+-- The same configuration, for a master with a greater number. It writes the same format or format 2, and may have
+-- another number of seglets.
+abbrev pub IsNextConfig : Config → Config → Type 0
+IsNextConfig old new = (old.master < new.master) × ((new.format ≡ old.format) ⊎ (new.format ≡ 2))
+    × (new ≡ record old { master = new.master; format = new.format; seglets = new.seglets })
+
+-- of the master's replicas the fleet holds just what is left
+abbrev pub HoldsLeft : Config → Left → FleetState → Type 0
+HoldsLeft config l f =
+    (b s : ℕ) → f.picture b config.master s ≡ left_on (is_left l.lost) l.shown.holds b config.master s
+
+-- A master of the new configuration doesn't adopt the table, over a fleet that holds what is left of the old one.
+abbrev pub IsListDeclined : Config → Left → Config → Rebuilt → Refusal → Type 0
+IsListDeclined config l new table r =
+    (before after : FleetState) × HoldsLeft config l before × DeclinesList new table before r after
+
+-- The table was recovered, and no master adopted it, for this refusal. What is left of the old master stays.
+abbrev pub IsUnadopted : Config → Life → Position → LineValue → Refusal → Position → Type 0
+IsUnadopted config life at line r next = IsRecover line × ((l : Left) × (at.left ≡ Some l)
+    × (table : Rebuilt) × IsFoundAt config life at l table
+    × (new : Config) × IsNextConfig config new × IsListDeclined config l new table r)
+    × (next ≡ at)
+
+-- A new master of this configuration needs so many seglets to adopt the table, or no number is enough.
+abbrev pub NeedsFor : Config → Rebuilt → Option ℕ → Type 0
+NeedsFor config table (Some needed) = IsNeeded config table.objects needed
+NeedsFor config table None = NoneIsEnough config table.objects
+
+-- A recovery of what is left gives a table, and this is what a new master needs to adopt it.
+abbrev pub IsNeededAt : Config → Life → Position → Left → Option ℕ → Type 0
+IsNeededAt config life at l needed = (table : Rebuilt) × IsFoundAt config life at l table
+    × (new : Config) × IsNextConfig config new × NeedsFor new table needed
+
+-- What the backups that are left hold of the master has this fault, and the loss that is named hides the log.
+abbrev pub NamesLossOf : Config → Left → RecoveryFault → Type 0
+NamesLossOf config l (recovery_fault.Plan loss) = (hs : List Holding) × AreLeft config l hs
+    × IsPlanFault hs l.shown.least config.master loss × NamesLoss hs l.shown.least config.master loss
+NamesLossOf config l (recovery_fault.Replay refused) = ⊥
+
+-- what the refusal names is lost, or memory ran out; if the backups that are left have head and segments, memory ran
+-- out
+abbrev pub IsLossOf : Config → Left → RecoveryFault → Type 0
+IsLossOf config l e = (IsLoss e ⊎ IsNoMemory e) × (IsNoMemory e ⊎ NamesLossOf config l e)
+    × (BothSurvive (IsHomeOf l) l.opened l.shown config.master (is_left l.lost) → IsNoMemory e)
+
+-- ---- lines
+
+-- the line works only while there is a master
+abbrev pub is_for_master : LineValue → Bool
+is_for_master (Put table key value) = true
+is_for_master (New table key value) = true
+is_for_master (Cas table key version value) = true
+is_for_master (Get table key) = true
+is_for_master (Del table key) = true
+is_for_master Roll = true
+is_for_master BeginRoll = true
+is_for_master (Compact segment) = true
+is_for_master Push = true
+is_for_master (Clean victims) = true
+is_for_master (Begin victims) = true
+is_for_master Copy = true
+is_for_master Seal = true
+is_for_master Free = true
+is_for_master (Tend steps) = true
+is_for_master Log = true
+is_for_master Room = true
+is_for_master LiveBytes = true
+is_for_master Will = true
+is_for_master (Hex segment) = true
+is_for_master Crash = true
+is_for_master (Clients clients rounds passes) = true
+is_for_master _ = false
+
+-- the line works only while there is no master
+abbrev pub is_for_none : LineValue → Bool
+is_for_none (Lose backup) = true
+is_for_none (Recover order) = true
+is_for_none Needs = true
+is_for_none _ = false
+
+-- What the answer of a line tells, if the line goes on with a life in which the script stands at this position, and
+-- the position after the line.
+abbrev pub Tells : Config → Life → Position → LineValue → Answer → Position → Type 0
+Tells config life at line answer.Silent next = (line ≡ Idle) × (next ≡ at)
+Tells config life at line (answer.Reply reply) next = (at.left ≡ None) × IsReplied life at line reply next
+Tells config life at line (answer.Refused r) next =
+    ((at.left ≡ None)
+    × (IsRefused config life at line r next ⊎ TellsNoStep config life at line (answer.Refused r) next))
+    ⊎ (((r ≡ refusal.NoMemory) × (shows line ≡ true) × (next ≡ at))
+    ⊎ ((r ≡ refusal.Spent → ⊥) × (IsUnadopted config life at line r next ⊎ AreUncounted at line None next)))
+Tells config life at line (answer.Head id) next = (at.left ≡ None) × (line ≡ Roll)
+    × IsRollAt config (life_to life at.made) (Ok id) × (next ≡ at)
+Tells config life at line (answer.Opening id) next = (at.left ≡ None) × (line ≡ BeginRoll)
+    × IsStepAt config (life_to life at.made) step.BeginRoll (Ok (step_answer.Rolling id)) × (next ≡ at)
+Tells config life at line (answer.Compacted segment len) next = (at.left ≡ None) × (line ≡ Compact segment)
+    × IsStepAt config (life_to life at.made) (step.Compact segment) (Ok (step_answer.Compacted segment len))
+    × (next ≡ at)
+Tells config life at line (answer.Extended backup segment) next = (at.left ≡ None) × (line ≡ Push)
+    × IsStepAt config (life_to life at.made) step.Push (Ok (step_answer.Extended backup segment)) × (next ≡ at)
+Tells config life at line (answer.Opened backup segment) next = (at.left ≡ None) × (line ≡ Push)
+    × IsStepAt config (life_to life at.made) step.Push (Ok (step_answer.Opened backup segment)) × (next ≡ at)
+Tells config life at line (answer.Closed backup segment) next = (at.left ≡ None) × (line ≡ Push)
+    × IsStepAt config (life_to life at.made) step.Push (Ok (step_answer.Closed backup segment)) × (next ≡ at)
+Tells config life at line (answer.Raised id) next = (at.left ≡ None) × (line ≡ Push)
+    × IsStepAt config (life_to life at.made) step.Push (Ok (step_answer.Raised id)) × (next ≡ at)
+Tells config life at line (answer.Repaired backup segment) next = (at.left ≡ None) × (line ≡ Push)
+    × IsStepAt config (life_to life at.made) step.Push (Ok (step_answer.Repaired backup segment)) × (next ≡ at)
+Tells config life at line (answer.Begun survivors) next = (at.left ≡ None)
+    × ((victims : List ℕ) × (line ≡ Begin victims)
+    × IsStepAt config (life_to life at.made) (step.BeginClean victims) (Ok (step_answer.Begun survivors)))
+    × (next ≡ at)
+Tells config life at line answer.Moved next = (at.left ≡ None) × (line ≡ Copy)
+    × IsStepAt config (life_to life at.made) step.Copy (Ok step_answer.Moved) × (next ≡ at)
+Tells config life at line answer.Carried next = (at.left ≡ None) × (line ≡ Copy)
+    × IsStepAt config (life_to life at.made) step.Copy (Ok step_answer.Carried) × (next ≡ at)
+Tells config life at line answer.Dropped next = (at.left ≡ None) × (line ≡ Copy)
+    × IsStepAt config (life_to life at.made) step.Copy (Ok step_answer.Dropped) × (next ≡ at)
+Tells config life at line (answer.Sealed backup) next = (at.left ≡ None) × (line ≡ Seal)
+    × IsStepAt config (life_to life at.made) step.Seal (Ok (step_answer.Sealed backup)) × (next ≡ at)
+Tells config life at line (answer.Freed segment backup) next = (at.left ≡ None) × (line ≡ Free)
+    × IsStepAt config (life_to life at.made) step.Free (Ok (step_answer.Freed segment backup)) × (next ≡ at)
+Tells config life at line (answer.Cleaned survivors head) next = (at.left ≡ None)
+    × ((victims : List ℕ) × (line ≡ Clean victims)
+    × IsCleanAt config (life_to life at.made) victims (Ok (survivors, head)))
+    × (next ≡ at)
+Tells config life at line (answer.Tended made) next = (at.left ≡ None)
+    × ((steps : ℕ) × (line ≡ Tend steps) × IsTendAt config (life_to life at.made) steps (Ok made))
+    × (next ≡ at)
+Tells config life at line (answer.Counted clients rounds calls) next = (at.left ≡ None)
+    × AsksClients line clients rounds × AreCounted life at clients rounds calls next
+Tells config life at line (answer.Log ids) next = (at.left ≡ None) × (line ≡ Log)
+    × IsDigestAt config (life_to life at.made) ids × (next ≡ at)
+Tells config life at line (answer.Room used free) next = (at.left ≡ None) × (line ≡ Room)
+    × IsRoomAt config (life_to life at.made) used free × (next ≡ at)
+Tells config life at line (answer.Live bytes most) next = (at.left ≡ None) × (line ≡ LiveBytes)
+    × IsLiveAt config (life_to life at.made) bytes × (most ≡ config.most_live) × (next ≡ at)
+Tells config life at line (answer.Will parts limits) next = (at.left ≡ None) × (line ≡ Will)
+    × IsWillAt config (life_to life at.made) limits parts × (next ≡ at)
+Tells config life at line (answer.BadLimits limits) next = (at.left ≡ None) × (line ≡ Will)
+    × (are_limits limits.bytes limits.objects ≡ false) × (next ≡ at)
+Tells config life at line (answer.Holdings labels) next = (line ≡ Holdings)
+    × AreHeldAt config (life_to life at.made) at.left labels × AreRising labels × (next ≡ at)
+Tells config life at line (answer.Hex bytes) next = (at.left ≡ None)
+    × ((segment : ℕ) × (line ≡ Hex segment) × IsImageAt config (life_to life at.made) segment (Some bytes))
+    × (next ≡ at)
+Tells config life at line (answer.NotInLog segment) next = (at.left ≡ None)
+    × (line ≡ Hex segment) × IsImageAt config (life_to life at.made) segment None × (next ≡ at)
+Tells config life at line (answer.Stop takes) next = (line ≡ Stop takes) × (next ≡ at)
+Tells config life at line (answer.Fault takes taken) next = (line ≡ Fault takes taken) × (next ≡ at)
+Tells config life at line answer.Format next = (line ≡ Format) × (next ≡ at)
+Tells config life at line (answer.Seglets seglets) next = (line ≡ Seglets seglets) × (next ≡ at)
+Tells config life at line (answer.Needs needed) next = (line ≡ Needs)
+    × (l : Left) × (at.left ≡ Some l) × IsNeededAt config life at l needed × (next ≡ at)
+Tells config life at line answer.Stopped next = ((at.left ≡ None)
+    × (l : Left) × IsLeftBySpent config (life_to life next.made) l
+    × (IsOut at line (Some l) next
+    ⊎ (IsIn life at line (Some l) next ⊎ (IsStepOut at line l next ⊎ AreUncounted at line (Some l) next))))
+    ⊎ IsUnadopted config life at line refusal.Spent next
+Tells config life at line answer.Crashed next = (at.left ≡ None) × (line ≡ Crash)
+    × (l : Left) × IsLeftBy config (life_to life at.made) l
+    × (next ≡ record { made = at.made; acknowledged = at.acknowledged; left = Some l })
+Tells config life at line (answer.Lost backup) next = (line ≡ Lose backup) × (l : Left) × (at.left ≡ Some l)
+    × (next ≡ record {
+      made = at.made;
+      acknowledged = at.acknowledged;
+      left = Some (record { shown = l.shown; opened = l.opened; homes = l.homes; lost = backup ∷ l.lost });
+    })
+-- a table that was recovered and adopted begins another life
+Tells config life at line (answer.Recovered r) next = ⊥
+Tells config life at line (answer.NotRetired why) next = ⊥
+Tells config life at line (answer.NotRecovered fault) next = AsksTable line
+    × (l : Left) × (at.left ≡ Some l) × IsLossOf config l fault × (next ≡ at)
+Tells config life at line answer.NumbersSpent next = AsksTable line
+    × ((l : Left) × (at.left ≡ Some l)) × (next ≡ at)
+Tells config life at line answer.CellRefused next = AreUncounted at line None next
+-- a store couldn't tell whose its records were: the store of this line, or that of an earlier line
+Tells config life at line answer.SeatUnknown next = AreUncounted at line None next
+    ⊎ (AsksTable line × ((l : Left) × (at.left ≡ Some l)) × (next ≡ at))
+Tells config life at line answer.Down next =
+    ((l : Left) × (at.left ≡ Some l)) × (is_for_master line ≡ true) × (next ≡ at)
+Tells config life at line answer.Up next = (at.left ≡ None) × (is_for_none line ≡ true) × (next ≡ at)

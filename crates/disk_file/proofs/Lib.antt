@@ -1,0 +1,4 @@
+pub mod Failures
+pub mod Moments
+pub mod Torn
+pub mod Writing

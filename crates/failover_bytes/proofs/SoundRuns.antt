@@ -1,7 +1,0 @@
--- At each stop of each run over a fleet its picture is sound.
-use Rattle.failover_model.proofs.HeadOps.{extend_hands_over}
-use Rattle.failover_bytes.specs.Segments.{OpLeavesSegments}
-use Rattle.failover_bytes.proofs.Leaving.{op_leaves_segments}
-
-pub op_leaves : OpLeavesSegments
-op_leaves = op_leaves_segments extend_hands_over

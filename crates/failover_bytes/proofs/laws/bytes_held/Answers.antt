@@ -1,5 +1,0 @@
-use Rattle.failover_bytes.proofs.Held.{units_are_held}
-use Rattle.failover_bytes.proofs.laws.bytes_held.Goals as goal
-
-pub returns : goal.returns
-returns c = units_are_held

@@ -1,5 +1,0 @@
-use Rattle.failover_bytes.proofs.Keeping.{keeping_is_sound, new_holds_log}
-use Rattle.failover_bytes.proofs.laws.fleet_keeps.Goals as goal
-
-pub returns : goal.returns
-returns c = record { sound = keeping_is_sound; new = new_holds_log }

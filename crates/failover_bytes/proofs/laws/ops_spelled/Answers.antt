@@ -1,5 +1,0 @@
-use Rattle.failover_bytes.proofs.FleetOps.{op_is_never_wrong, taken_is_spelled, fault_is_spelled}
-use Rattle.failover_bytes.proofs.laws.ops_spelled.Goals as goal
-
-pub returns : goal.returns
-returns c = record { never_wrong = op_is_never_wrong; taken = taken_is_spelled; fault = fault_is_spelled }

@@ -1,5 +1,0 @@
-use Rattle.failover_clean.proofs.Failing.{fail_keeps, mend_keeps}
-use Rattle.failover_clean.proofs.laws.failure_keeps.Goals as goal
-
-pub returns : goal.returns
-returns c = record { fails = fail_keeps; mends = mend_keeps }

@@ -1,5 +1,0 @@
-use Rattle.failover_clean.proofs.Repairing.{image_is_repair, repair_keeps}
-use Rattle.failover_clean.proofs.laws.repair_keeps.Goals as goal
-
-pub returns : goal.returns
-returns c = record { image = image_is_repair; keeps = repair_keeps }

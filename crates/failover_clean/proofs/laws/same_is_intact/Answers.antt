@@ -1,5 +1,0 @@
-use Rattle.failover_clean.proofs.SameMemories.{same_is_intact, same_knows}
-use Rattle.failover_clean.proofs.laws.same_is_intact.Goals as goal
-
-pub returns : goal.returns
-returns c = record { intact = same_is_intact; knows = same_knows }

@@ -1,5 +1,0 @@
-use Rattle.failover_model.proofs.HeadOps.{extend_hands_over}
-use Rattle.failover_model.proofs.laws.head_op_hands_over.Goals as goal
-
-pub returns : goal.returns
-returns c = extend_hands_over

@@ -1,5 +1,0 @@
-use Rattle.failover_model.proofs.Runs.{next_goes_on}
-use Rattle.failover_model.proofs.laws.ops_go_on.Goals as goal
-
-pub returns : goal.returns
-returns c = next_goes_on

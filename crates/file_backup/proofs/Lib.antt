@@ -1,0 +1,6 @@
+mod Replays
+mod AllMade
+mod Mirrors
+mod Makes
+mod Versions
+mod Opened

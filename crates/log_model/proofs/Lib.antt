@@ -1,9 +1,0 @@
-pub mod Lists
-pub mod Lengths
-pub mod Pictures
-pub mod Segments
-pub mod Counts
-pub mod Fronts
-pub mod PastHeads
-pub mod Rolling
-pub mod LoadedObjects

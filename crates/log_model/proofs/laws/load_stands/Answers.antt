@@ -1,5 +1,0 @@
-use Rattle.log_model.proofs.LoadedObjects.{loaded_is_represented}
-use Rattle.log_model.proofs.laws.load_stands.Goals as goal
-
-pub returns : goal.returns
-returns c = loaded_is_represented

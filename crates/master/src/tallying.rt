@@ -1,0 +1,51 @@
+//! What a master has counted of its segments.
+
+ghost use Rattle.std.specs.Prelude.{◌≡◌, List, length, IfSome};
+ghost use Rattle.std.specs.Option.{option_map};
+ghost use Rattle.entry.specs.declared.entry.Entry.{Entry};
+ghost use Rattle.entry.specs.Text.{text_of};
+ghost use Rattle.images.specs.Sorted.{segment_of};
+ghost use Rattle.master_core.specs.master_space.Choosing.{kept_bytes};
+ghost use Rattle.master_core.specs.master_state.Log.{images_of, log_set_ids};
+ghost use Rattle.tally.specs.Rows.{IsRight};
+ghost use Rattle.master.specs.World.{world};
+
+use crate::master::Master;
+use master_core::{Counts, Tally};
+use replica::Fleet;
+
+impl<F: Fleet> Master<F> {
+    /// How many bytes of a closed segment's objects and tombstones are kept, or `None` if no closed segment has this id.
+    /// It takes no memory, and looks at no entry if the segment was counted since the last commit of a pass.
+    pub fn kept_bytes(&self, id: u64) -> Option<usize>
+        ensures { result ≡ option_map (λ (es : List Entry). kept_bytes self.now.knows id)
+            (segment_of self.now.knows.closed id) }
+    {
+        self.core.kept_bytes(id)
+    }
+
+    /// How many bytes the image of a closed segment has, or `None` if no closed segment has this id.
+    pub fn image_len(&self, id: u64) -> Option<usize>
+        ensures { result ≡ option_map (λ (es : List Entry). length (text_of es)) (segment_of self.now.knows.closed id) }
+    {
+        self.core.image_len(id)
+    }
+
+    /// Counts a closed segment anew. Nothing else changes, and without memory nothing does. It reads the whole segment,
+    /// and looks up its objects only if the segment wasn't counted yet.
+    pub fn recount(&mut self, id: u64)
+        ensures same { world F.state self.new ≡ world F.state self.old }
+    {
+        self.core.recount(id);
+    }
+
+    /// What is counted of a segment, or `None` if it isn't counted. The number of tombstones is exact only if it is
+    /// fresh.
+    pub fn tally(&self, id: u64) -> Option<Tally>
+        ensures segment { IfSome result (λ row. row.segment ≡ id) }
+        ensures right { IfSome result (IsRight (log_set_ids self.now.knows) self.now.knows.index
+            (images_of self.now.knows)) }
+    {
+        self.core.tally(id)
+    }
+}

@@ -1,5 +1,0 @@
-use Rattle.master_mending.proofs.LeftSteps.{mend_lowers, turn_lowers}
-use Rattle.master_mending.proofs.laws.pushes_lower.Goals as goal
-
-pub returns : goal.returns
-returns c = record { mends = mend_lowers; turns = turn_lowers }

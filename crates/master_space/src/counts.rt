@@ -1,0 +1,113 @@
+//! What a core has counted of its segments.
+
+ghost use Rattle.std.specs.Prelude.{◌≡◌, List, length, Some, IfSome};
+ghost use Rattle.std.specs.Option.{option_map};
+ghost use Rattle.compactor.specs.Log.{ids_of_log};
+ghost use Rattle.entry.specs.declared.entry.Entry.{Entry};
+ghost use Rattle.entry.specs.Text.{text_of};
+ghost use Rattle.images.specs.Sorted.{segment_of};
+ghost use Rattle.master_space.specs.Choosing.{kept_bytes};
+ghost use Rattle.master_state.specs.Invariant.{IsCore};
+ghost use Rattle.master_state.specs.Log.{images_of, log_set_ids};
+ghost use Rattle.tally.specs.Live.{live_bytes, stone_bytes};
+ghost use Rattle.tally.specs.Rows.{IsRight};
+
+use crate::compacting::opening_id;
+use crate::keeping::kept_in;
+use compactor::{LogSet, kept_bytes};
+use master_state::Core;
+use segment::SegmentRef;
+use tally::{Tally, stones_in};
+
+/// What a core has counted of its segments.
+pub trait Counts {
+    /// Returns how many bytes of a closed segment's objects and tombstones are kept, or `None` if no closed segment has
+    /// this id. The call looks at no entry if the segment has a fresh tally.
+    fn kept_bytes(&self, id: u64) -> Option<usize>;
+
+    /// Returns how many bytes the image of a closed segment has, or `None` if no closed segment has this id.
+    fn image_len(&self, id: u64) -> Option<usize>;
+
+    /// Counts a closed segment anew, so that its tally is fresh. The call reads the whole segment. It looks into the
+    /// index only if the segment has no tally. Without memory the segment may stay without a tally.
+    fn recount(&mut self, id: u64);
+
+    /// Returns what is counted of a segment, or `None` if it has no tally.
+    fn tally(&self, id: u64) -> Option<Tally>;
+}
+
+impl Counts for Core {
+    fn kept_bytes(&self, id: u64) -> Option<usize>
+        ensures { result ≡ option_map (λ (es : List Entry). kept_bytes self.now id) (segment_of self.now.closed id) }
+    {
+        let log = LogSet {
+            closed: &self.closed,
+            head: self.head.id(),
+            new: opening_id(&self.head),
+        };
+        match self.closed.get(id) {
+            None => None,
+            Some(image) => Some(kept_in(self, id, &image, &log)),
+        }
+    }
+
+    fn image_len(&self, id: u64) -> Option<usize>
+        ensures { result ≡ option_map (λ (es : List Entry). length (text_of es)) (segment_of self.now.closed id) }
+    {
+        match self.closed.get(id) {
+            None => None,
+            Some(image) => Some(image.bytes().len()),
+        }
+    }
+
+    fn recount(&mut self, id: u64)
+        ensures same { self.new ≡ self.old }
+        ensures valid { IsCore self.new }
+    {
+        self.show_valid();
+        let Some((live, stones)) = counted(self, id) else {
+            return;
+        };
+        self.tallies.put(id, live, stones);
+    }
+
+    fn tally(&self, id: u64) -> Option<Tally>
+        ensures { IfSome result (λ row. (row.segment ≡ id)
+            × IsRight (log_set_ids self.now) self.now.index (images_of self.now) row) }
+    {
+        self.tallies.get(id)
+    }
+}
+
+/// Returns how many bytes a closed segment's live objects and its kept tombstones have, or `None` if no closed segment
+/// has this id.
+fn counted(core: &Core, id: u64) -> Option<(usize, usize)>
+    ensures live { IfSome result (λ both. both.0 ≡ live_bytes core.now.index id (images_of core.now id)) }
+    ensures stones { IfSome result (λ both. both.1 ≡ stone_bytes (log_set_ids core.now) (images_of core.now id)) }
+{
+    let log = LogSet {
+        closed: &core.closed,
+        head: core.head.id(),
+        new: opening_id(&core.head),
+    };
+    match core.closed.get(id) {
+        None => None,
+        Some(image) => {
+            let stones = stones_in(&image, &log);
+            Some((live_in(core, id, &image, &log, stones), stones))
+        }
+    }
+}
+
+/// Returns how many bytes a closed segment's live objects have. So many bytes of its tombstones are kept.
+fn live_in(core: &Core, id: u64, segment: &SegmentRef<'_>, log: &LogSet<'_>, stones: usize) -> usize
+    requires there { segment_of core.now.closed id ≡ Some segment.now }
+    requires log { ids_of_log log.now ≡ log_set_ids core.now }
+    requires stones { stones ≡ stone_bytes (log_set_ids core.now) segment.now }
+    ensures { result ≡ live_bytes core.now.index id segment.now }
+{
+    match core.tallies.get(id) {
+        Some(row) => row.live as usize,
+        None => kept_bytes(id, segment, &core.index, log).saturating_sub(stones),
+    }
+}

@@ -1,5 +1,0 @@
-pub mod Clients
-pub mod Lines
-pub use Rattle.node.specs as node
-pub use Rattle.store_clients.specs as store_clients
-pub use Rattle.store_clients.specs.locked_log

@@ -1,0 +1,2 @@
+mod Backs
+mod OneText

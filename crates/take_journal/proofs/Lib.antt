@@ -1,0 +1,13 @@
+mod Appending
+mod Batch
+mod Damage
+mod Fronts
+mod Mending
+mod Moments
+mod Reading
+mod Numbers
+mod Onward
+mod Splitting
+mod Tearing
+mod Turning
+mod Versions

@@ -1,0 +1,12 @@
+pub mod Listing
+pub mod Searching
+pub mod Fronts
+pub mod Counting
+pub mod Naming
+pub mod Sums
+pub mod Steps
+pub mod Compacting
+pub mod Stones
+pub mod Filling
+pub mod Rights
+pub mod Edits

@@ -1,0 +1,41 @@
+//! The tombstones of a segment that are kept.
+
+ghost use Rattle.std.specs.Prelude.{◌≡◌, ◌≤◌, length};
+ghost use Rattle.entry.specs.Format.{spelling};
+ghost use Rattle.entry.specs.View.{shown};
+ghost use Rattle.compactor.specs.Log.{ids_of_log};
+ghost use Rattle.tally.specs.Live.{stone_one, stone_bytes};
+
+use compactor::LogSet;
+use entry::EntryRef;
+use segment::SegmentRef;
+
+/// Returns how many bytes a segment's tombstones have that name a segment of the log set. The call reads the whole
+/// segment, and doesn't look into the index.
+pub fn stones_in(segment: &SegmentRef<'_>, log: &LogSet<'_>) -> usize
+    ensures sum { result ≡ stone_bytes (ids_of_log log.now) segment.now }
+    ensures limit { result ≤ 8388608 }
+{
+    let text = segment.bytes();
+    let mut len = 0;
+    let mut at = 0;
+    while at < text.len() {
+        let Ok((entry, taken)) = EntryRef::read(&text[at..]) else {
+            unreachable!()
+        };
+        len += stone_len(&entry, taken, log);
+        at += taken;
+    }
+    len
+}
+
+/// Returns the bytes of an entry, which are `len`, if it is a tombstone that names a segment of the log set, else 0.
+fn stone_len(entry: &EntryRef<'_>, len: usize, log: &LogSet<'_>) -> usize
+    requires { len ≡ length (spelling (shown entry.now)) }
+    ensures { result ≡ stone_one (ids_of_log log.now) (shown entry.now) }
+{
+    match entry {
+        EntryRef::Tombstone(tombstone) => { if log.has(tombstone.segment) { len } else { 0 } }
+        _ => 0,
+    }
+}

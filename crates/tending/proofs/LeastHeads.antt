@@ -1,0 +1,42 @@
+-- Whatever steps a cleaner makes, no least head of another master is raised.
+use Rattle.std.proofs.Common.{◌≡◌, ℕ, zero, suc, inl, inr, ap, ◌∙◌}
+use Rattle.std.specs.Prelude.{Result, Ok, Err}
+use Rattle.driving.specs.Rolls.{Advances}
+use Rattle.driving.specs.master.World.{World}
+use Rattle.driving.specs.master.master_state.declared.config.Config.{Config}
+use Rattle.driving.specs.master.master_state.declared.step.Refusal.{Refusal}
+use Rattle.driving.specs.master.master_state.declared.step.Refusal.TheVariants as refusal
+use Rattle.driving.specs.master.master_state.declared.step.Step.{Step}
+use Rattle.driving.proofs.LeastHeads.{LeavesOthers, step_leaves}
+use Rattle.tending.specs.declared.policy.Policy.{Policy}
+use Rattle.tending.specs.Tends.{AreTended, Tends}
+
+leaves_on : (a b c : World) → LeavesOthers a b → LeavesOthers b c → LeavesOthers a c
+leaves_on a b c first later = record {
+  config = later.config ∙ first.config;
+  least = λ m other.
+      later.least m (λ is. other (is ∙ ap (λ (x : Config). x.master) first.config)) ∙ first.least m other;
+}
+
+nowhere : (old new : World) → new ≡ old → LeavesOthers old new
+nowhere old new same = record {
+  config = ap (λ (w : World). w.knows.config) same;
+  least = λ m other. ap (λ (w : World). w.fleet.least m) same;
+}
+
+advance_leaves : (old new : World) (s : Step) → Advances s old new → LeavesOthers old new
+advance_leaves old new s (inl (a, h)) = step_leaves old new s (Ok a) h
+advance_leaves old new s (inr (b, h)) = step_leaves old new s (Err (refusal.Lost b)) h
+
+tended_leaves : (count : ℕ) (old new : World) → AreTended count old new → LeavesOthers old new
+tended_leaves zero old new is = nowhere old new is
+tended_leaves (suc count) old new (mid, before, s, is, goes) =
+    leaves_on old mid new (tended_leaves count old mid before) (advance_leaves mid new s goes)
+
+pub tends_leave : (policy : Policy) (most : ℕ) (old new : World) (result : Result ℕ Refusal)
+    → Tends policy most old result new → LeavesOthers old new
+tends_leave policy most old new (Ok made) is = tended_leaves made old new is.0.tended
+tends_leave policy most old new (Err r) (count, few, mid, tended, inl (s, is, declines, lost)) =
+    leaves_on old mid new (tended_leaves count old mid tended) (step_leaves mid new s (Err r) declines)
+tends_leave policy most old new (Err r) (count, few, mid, tended, inr (memory, same)) =
+    leaves_on old mid new (tended_leaves count old mid tended) (nowhere mid new same)
