@@ -597,10 +597,11 @@ class Pass:
 
 @dataclass(frozen=True)
 class Weight:
-    """What a closed segment has: the bytes of its image, and those of its kept objects and tombstones."""
+    """What a closed segment has: the bytes of its image and of its opening, and those of its kept objects and tombstones."""
 
     id: int
     length: int
+    opening: int
     live: int
     stones: int
 
@@ -608,7 +609,8 @@ class Weight:
     def of(master, segment):
         kept = [entry for _, entry in master.kept_of((segment.id,))]
         live, stones = (sum(len(it.spelled()) for it in kept if isinstance(it, kind)) for kind in (Object, Tombstone))
-        return Weight(segment.id, len(segment.text), live, stones)
+        opening = len(segment.text) - sum(len(it.spelled()) for _, it in master.rest_of((segment.id,)))
+        return Weight(segment.id, len(segment.text), opening, live, stones)
 
     def kept(self):
         return self.live + self.stones
@@ -631,15 +633,15 @@ class Policy:
     def is_crowded(self, listed):
         return self.segment // 32 < listed + self.SPARE
 
-    def gain(self, weight, listed):
-        after = weight.kept() + 32 + 16 * listed
+    def gain(self, weight):
+        after = weight.kept() + weight.opening
         return max(0, -(-weight.length // self.options.seglet) - -(-after // self.options.seglet))
 
     def best(self, weights):
         """The segment whose compaction gives back most seglets for what it keeps; None if none gives one back."""
         best, gained, cost = None, 0, 1
         for weight in weights:
-            gain = self.gain(weight, len(weights))
+            gain = self.gain(weight)
             if gain * cost > gained * (weight.kept() + 1):
                 best, gained, cost = weight.id, gain, weight.kept() + 1
         return best

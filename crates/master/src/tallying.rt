@@ -7,6 +7,7 @@ ghost use Rattle.entry.specs.Text.{text_of};
 ghost use Rattle.images.specs.Sorted.{segment_of};
 ghost use Rattle.master_core.specs.master_space.Choosing.{kept_bytes};
 ghost use Rattle.master_core.specs.master_state.Log.{images_of, log_set_ids};
+ghost use Rattle.tally.specs.Opening.{front_of};
 ghost use Rattle.tally.specs.Rows.{IsRight};
 ghost use Rattle.master.specs.World.{world};
 
@@ -29,6 +30,15 @@ impl<F: Fleet> Master<F> {
         ensures { result ≡ option_map (λ (es : List Entry). length (text_of es)) (segment_of self.now.knows.closed id) }
     {
         self.core.image_len(id)
+    }
+
+    /// How many bytes the image of a closed segment has before its first object or tombstone, or `None` if no closed
+    /// segment has this id.
+    pub fn opening_len(&self, id: u64) -> Option<usize>
+        ensures { result ≡ option_map (λ (es : List Entry). length (text_of (front_of es)))
+            (segment_of self.now.knows.closed id) }
+    {
+        self.core.opening_len(id)
     }
 
     /// Counts a closed segment anew. Nothing else changes, and without memory nothing does. It reads the whole segment,

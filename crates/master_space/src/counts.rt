@@ -10,6 +10,7 @@ ghost use Rattle.master_space.specs.Choosing.{kept_bytes};
 ghost use Rattle.master_state.specs.Invariant.{IsCore};
 ghost use Rattle.master_state.specs.Log.{images_of, log_set_ids};
 ghost use Rattle.tally.specs.Live.{live_bytes, stone_bytes};
+ghost use Rattle.tally.specs.Opening.{front_of};
 ghost use Rattle.tally.specs.Rows.{IsRight};
 
 use crate::compacting::opening_id;
@@ -17,7 +18,7 @@ use crate::keeping::kept_in;
 use compactor::{LogSet, kept_bytes};
 use master_state::Core;
 use segment::SegmentRef;
-use tally::{Tally, stones_in};
+use tally::{Tally, opening_len, stones_in};
 
 /// What a core has counted of its segments.
 pub trait Counts {
@@ -27,6 +28,10 @@ pub trait Counts {
 
     /// Returns how many bytes the image of a closed segment has, or `None` if no closed segment has this id.
     fn image_len(&self, id: u64) -> Option<usize>;
+
+    /// Returns how many bytes the image of a closed segment has before its first object or tombstone, or `None` if no
+    /// closed segment has this id.
+    fn opening_len(&self, id: u64) -> Option<usize>;
 
     /// Counts a closed segment anew, so that its tally is fresh. The call reads the whole segment. It looks into the
     /// index only if the segment has no tally. Without memory the segment may stay without a tally.
@@ -57,6 +62,16 @@ impl Counts for Core {
         match self.closed.get(id) {
             None => None,
             Some(image) => Some(image.bytes().len()),
+        }
+    }
+
+    fn opening_len(&self, id: u64) -> Option<usize>
+        ensures { result ≡ option_map (λ (es : List Entry). length (text_of (front_of es)))
+            (segment_of self.now.closed id) }
+    {
+        match self.closed.get(id) {
+            None => None,
+            Some(image) => Some(opening_len(&image)),
         }
     }
 

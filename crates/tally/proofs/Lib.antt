@@ -10,3 +10,4 @@ pub mod Stones
 pub mod Filling
 pub mod Rights
 pub mod Edits
+pub mod Opened

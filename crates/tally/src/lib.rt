@@ -15,4 +15,4 @@ pub use laws::{
     tallies_stay_right,
 };
 pub use tallies::{Tallies, Tally};
-pub use walking::stones_in;
+pub use walking::{opening_len, stones_in};

@@ -2,9 +2,11 @@
 
 ghost use Rattle.std.specs.Prelude.{◌≡◌, ◌≤◌, length};
 ghost use Rattle.entry.specs.Format.{spelling};
+ghost use Rattle.entry.specs.Text.{is_data, text_of};
 ghost use Rattle.entry.specs.View.{shown};
 ghost use Rattle.compactor.specs.Log.{ids_of_log};
 ghost use Rattle.tally.specs.Live.{stone_one, stone_bytes};
+ghost use Rattle.tally.specs.Opening.{front_of};
 
 use compactor::LogSet;
 use entry::EntryRef;
@@ -27,6 +29,34 @@ pub fn stones_in(segment: &SegmentRef<'_>, log: &LogSet<'_>) -> usize
         at += taken;
     }
     len
+}
+
+/// Returns how many bytes a segment has before its first object or tombstone. The call reads no more of it.
+pub fn opening_len(segment: &SegmentRef<'_>) -> usize
+    ensures { result ≡ length (text_of (front_of segment.now)) }
+{
+    let text = segment.bytes();
+    let mut at = 0;
+    while at < text.len() {
+        let Ok((entry, taken)) = EntryRef::read(&text[at..]) else {
+            unreachable!()
+        };
+        if is_data(&entry) {
+            return at;
+        }
+        at += taken;
+    }
+    at
+}
+
+/// Returns true if the entry is an object or a tombstone.
+fn is_data(entry: &EntryRef<'_>) -> bool
+    ensures { result ≡ is_data (shown entry.now) }
+{
+    match entry {
+        EntryRef::Object(_) | EntryRef::Tombstone(_) => true,
+        _ => false,
+    }
 }
 
 /// Returns the bytes of an entry, which are `len`, if it is a tombstone that names a segment of the log set, else 0.

@@ -18,9 +18,8 @@ fn best_of(policy: &Policy, weights: &[Weight]) -> Option<u64> {
     let mut best = None;
     let mut best_gain: u64 = 0;
     let mut best_cost: u64 = 1;
-    let listed = weights.len() as u64;
     for weight in weights {
-        let gain = policy.gain(weight, listed);
+        let gain = policy.gain(weight);
         let cost = weight.kept.saturating_add(1);
         if product(gain, best_cost) > product(best_gain, cost) {
             best = Some(weight.id);

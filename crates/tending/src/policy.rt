@@ -99,12 +99,10 @@ impl Policy {
         bytes.div_ceil(self.seglet.max(1))
     }
 
-    /// How many seglets a compaction of the segment gives back, if its opening is as long as one that lists so many
-    /// segments with their lengths.
-    pub(crate) fn gain(&self, weight: &Weight, listed: u64) -> u64 {
+    /// How many seglets a compaction of the segment gives back.
+    pub(crate) fn gain(&self, weight: &Weight) -> u64 {
         let before = self.seglets(weight.len);
-        let opening = listed.saturating_mul(16).saturating_add(32);
-        let after = self.seglets(weight.kept.saturating_add(opening));
+        let after = self.seglets(weight.kept.saturating_add(weight.opening));
         before.saturating_sub(after)
     }
 

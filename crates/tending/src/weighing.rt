@@ -14,6 +14,8 @@ pub(crate) struct Weight {
     pub id: u64,
     /// The bytes of its image.
     pub len: u64,
+    /// The bytes of its opening, which a compaction keeps too.
+    pub opening: u64,
     /// The bytes of its kept objects and tombstones.
     pub kept: u64,
     /// The bytes of its kept tombstones.
@@ -54,6 +56,7 @@ pub(crate) fn count_all<F: Fleet>(master: &mut Master<F>) -> Result<(), NoMemory
 /// The weight of a segment, if it is closed.
 fn weigh<F: Fleet>(master: &Master<F>, id: u64) -> Option<Weight> {
     let len = master.image_len(id)? as u64;
+    let opening = master.opening_len(id)? as u64;
     let kept = master.kept_bytes(id)? as u64;
     let stones = match master.tally(id) {
         Some(tally) => u64::from(tally.stones),
@@ -62,6 +65,7 @@ fn weigh<F: Fleet>(master: &Master<F>, id: u64) -> Option<Weight> {
     Some(Weight {
         id,
         len,
+        opening,
         kept,
         stones,
     })
