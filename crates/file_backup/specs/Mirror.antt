@@ -1,5 +1,5 @@
 -- A backup in memory, and the file of its journal.
-use Rattle.std.specs.Prelude.{◌≡◌, ◌⊎◌, ℕ, Bool, true, false, List, [], Some, length, ⊤}
+use Rattle.std.specs.Prelude.{◌≡◌, ◌⊎◌, ℕ, Bool, true, false, List, [], Some, length, take, ⊤}
 use Rattle.replica.specs.Op.{OpValue}
 use Rattle.take_journal.specs.Crash.{HasVersion, MayBeLeft}
 use Rattle.take_journal.specs.Frames.{frames, recovered}
@@ -74,6 +74,17 @@ TellsWhy (fault.WrongFrame i) file =
     IsFirstWrong (recovered file) i × ((p : Replicas) → Shows p file → ⊥)
 TellsWhy fault.Full file = ⊥
 TellsWhy fault.Failed file = ⊤
+
+-- Why a file isn't read of which only the first n texts count.
+abbrev pub TellsFirst : ℕ → BackupFault → List ℕ → Type 0
+TellsFirst n fault.NoMemory file = ⊤
+TellsFirst n fault.OtherVersion file = HasVersion (recovered file) → ⊥
+TellsFirst n fault.NotBegun file = take n (recovered file) ≡ []
+TellsFirst n (fault.Damaged at) file = (at ≡ length (frames (recovered file))) × (MayBeLeft file → ⊥)
+TellsFirst n (fault.WrongFrame i) file = IsFirstWrong (take n (recovered file)) i
+    × ((p : Replicas) → shown (take n (recovered file)) ≡ Some p → ⊥)
+TellsFirst n fault.Full file = ⊥
+TellsFirst n fault.Failed file = ⊤
 
 -- why a journal isn't opened, as a fault of its backup
 abbrev pub told : OpenFault → BackupFault

@@ -1,7 +1,7 @@
 //! A backup in memory, and the journal of what it took.
 
 ghost use Rattle.std.specs.Prelude.{◌≡◌, ◌⊎◌, ◌++◌, [], ◌∷◌, ℕ, Some, None, Err};
-ghost use Rattle.std.specs.Prelude.{IfErr, OnOk, OnErr, is_some, true, false};
+ghost use Rattle.std.specs.Prelude.{IfErr, IfOk, OnOk, OnErr, is_some, length, take, true, false};
 ghost use Rattle.replica.specs.Op.{shown_act, shown_op};
 ghost use Rattle.replica.specs.Take.{effect};
 ghost use Rattle.backup.specs.Acts.{MayGrow};
@@ -10,12 +10,12 @@ ghost use Rattle.take_journal.specs.Crash.{HasVersion, LeftByAppend, LeftByMendi
 ghost use Rattle.take_journal.specs.Device.{AnyMoment, LeavesJust};
 ghost use Rattle.take_journal.specs.Frames.{IsShort, recovered};
 ghost use Rattle.take_journal.specs.Journal.{IsSettled, StandsFor, device_of, end_at, takes_more};
-ghost use Rattle.file_backup.specs.Replay.{after_op, held_in};
-ghost use Rattle.file_backup.specs.Mirror.{IsBacked, IsJournalOf, LeftByMaking, LeftByTake, Shows, TellsWhy};
-ghost use Rattle.file_backup.specs.Mirror.{is_out, journal_of, replicas_of, told};
+ghost use Rattle.file_backup.specs.Replay.{after_op, held_in, shown};
+ghost use Rattle.file_backup.specs.Mirror.{IsBacked, IsJournalOf, LeftByMaking, LeftByTake, Shows};
+ghost use Rattle.file_backup.specs.Mirror.{TellsFirst, TellsWhy, is_out, journal_of, replicas_of, told};
 
 use crate::BackupFault;
-use crate::reading::replay;
+use crate::reading::{first_texts, replay};
 use crate::writing::{MAX_TEXT_LEN, whole_texts};
 use backup::MemoryBackup;
 use op_text::{one_op, write_op};
@@ -115,6 +115,31 @@ impl<D: Device> FileBackup<D> {
         ensures any_moment { AnyMoment D.clock D.left_since (LeftByMending bytes.now)
             (device_of (journal_of self.old)) (device_of (journal_of self.new)) }
     {
+        match self.open_counted(alloc, bytes) {
+            Ok(_) => Ok(()),
+            Err(fault) => Err(fault),
+        }
+    }
+
+    /// Opens the backup's file as `open` does, and answers how many texts it has.
+    pub fn open_counted(&mut self, alloc: Global, bytes: &[u8]) -> Result<u64, BackupFault>
+        requires closed { takes_more (journal_of self.old) ≡ false }
+        requires bytes { bytes.now ≡ D.contents (device_of (journal_of self.old)) }
+        requires durable { LeavesJust bytes.now (D.may_leave (device_of (journal_of self.old))) }
+        requires unfailed { D.has_failed (device_of (journal_of self.old)) ≡ false }
+
+        ensures backed { IsBacked D.contents D.may_leave D.has_failed self.new }
+        ensures opened { OnOk result ((is_out self.new ≡ false) × Shows (replicas_of self.new) bytes.now) }
+        ensures counted { IfOk result (λ count.
+            count ≡ length (recovered (D.contents (device_of (journal_of self.new))))) }
+
+        // A file is named damaged only if no crash can have left it.
+        ensures refused { IfErr result (λ fault. TellsWhy fault bytes.now) }
+
+        // A crash at any moment of the call leaves a file of the same texts, which can be opened if this one can.
+        ensures any_moment { AnyMoment D.clock D.left_since (LeftByMending bytes.now)
+            (device_of (journal_of self.old)) (device_of (journal_of self.new)) }
+    {
         self.is_out = true;
         let texts = match self.journal.open(alloc, bytes) {
             Ok(texts) => texts,
@@ -122,6 +147,34 @@ impl<D: Device> FileBackup<D> {
         };
         self.memory = replay(alloc, &texts)?;
         self.is_out = false;
+        Ok(texts.len() as u64)
+    }
+
+    /// Takes over what the first texts of the backup's file show, so many or all that there are. The file has just
+    /// these bytes, and what a crash left torn at its end is cut off. The backup is out: it goes on in another journal.
+    pub fn show_first(&mut self, alloc: Global, bytes: &[u8], count: u64) -> Result<(), BackupFault>
+        requires closed { takes_more (journal_of self.old) ≡ false }
+        requires bytes { bytes.now ≡ D.contents (device_of (journal_of self.old)) }
+        requires durable { LeavesJust bytes.now (D.may_leave (device_of (journal_of self.old))) }
+        requires unfailed { D.has_failed (device_of (journal_of self.old)) ≡ false }
+
+        ensures backed { IsBacked D.contents D.may_leave D.has_failed self.new }
+        ensures out { is_out self.new ≡ true }
+        ensures shown { OnOk result (shown (take count (recovered bytes.now)) ≡ Some (replicas_of self.new)) }
+
+        // A file is named damaged only if no crash can have left it.
+        ensures refused { IfErr result (λ fault. TellsFirst count fault bytes.now) }
+
+        // A crash at any moment of the call leaves a file of the same texts, which can be opened if this one can.
+        ensures any_moment { AnyMoment D.clock D.left_since (LeftByMending bytes.now)
+            (device_of (journal_of self.old)) (device_of (journal_of self.new)) }
+    {
+        self.is_out = true;
+        let texts = match self.journal.open(alloc, bytes) {
+            Ok(texts) => texts,
+            Err(fault) => return Err(told(fault)),
+        };
+        self.memory = replay(alloc, first_texts(&texts, count))?;
         Ok(())
     }
 
@@ -182,6 +235,16 @@ impl<D: Device> FileBackup<D> {
             (LeftByTake (replicas_of self.old) (shown_op op.now))
             (device_of (journal_of self.old)) (device_of (journal_of self.new)) }
 
+        // At Ok the journal has the op's text behind its others, and as long as it isn't out, no other one.
+        ensures appended { OnOk result (recovered (D.contents (device_of (journal_of self.new)))
+            ≡ recovered (D.contents (device_of (journal_of self.old))) ++ op_text (shown_op op.now) ∷ []) }
+        ensures untouched { is_out self.new ≡ false → OnErr result (journal_of self.new ≡ journal_of self.old) }
+
+        // A crash at any moment of the call leaves the texts from before it, with the op's text or without.
+        ensures texts { is_out self.old ≡ false → AnyMoment D.clock D.left_since
+            (LeftByAppend (recovered (D.contents (device_of (journal_of self.old)))) (op_text (shown_op op.now) ∷ []))
+            (device_of (journal_of self.old)) (device_of (journal_of self.new)) }
+
         // It gives up only if the device failed, or if memory ran out for a longer replica.
         ensures gives_up { is_out self.old ≡ false → result ≡ Err TakeFault.Fault →
             (D.has_failed (device_of (journal_of self.new)) ≡ true) ⊎ MayGrow (shown_act op.now.act) }
@@ -190,6 +253,7 @@ impl<D: Device> FileBackup<D> {
         ensures halted { is_out self.old ≡ true → (result ≡ Err TakeFault.Fault) × (self.new ≡ self.old) }
         ensures fault { result ≡ Err TakeFault.Fault → is_out self.new ≡ true }
         ensures goes_on { is_out self.old ≡ false → is_out self.new ≡ true → result ≡ Err TakeFault.Fault }
+        ensures never_spent { result ≡ Err TakeFault.Spent → ⊥ }
     {
         if self.is_out {
             return Err(TakeFault::Fault);

@@ -1,6 +1,6 @@
 //! Replaying the texts of a journal.
 
-ghost use Rattle.std.specs.Prelude.{◌≡◌, Some, Err, IfOk, IfErr};
+ghost use Rattle.std.specs.Prelude.{◌≡◌, Some, Err, IfOk, IfErr, take};
 ghost use Rattle.take_journal.specs.Frames.{texts_of};
 ghost use Rattle.file_backup.specs.Replay.{TakesText, held_in, shown};
 ghost use Rattle.file_backup.specs.Mirror.{TellsWrong};
@@ -38,4 +38,15 @@ pub(crate) fn replay(alloc: Global, texts: &[Vec<u8>]) -> Result<MemoryBackup, B
         }
     }
     Ok(memory)
+}
+
+/// The first texts, so many or all that there are.
+pub(crate) fn first_texts(texts: &[Vec<u8>], count: u64) -> &[Vec<u8>]
+    ensures { texts_of result.now ≡ take count (texts_of texts.entry.now) }
+{
+    if count < texts.len() as u64 {
+        &texts[..count as usize]
+    } else {
+        texts
+    }
 }

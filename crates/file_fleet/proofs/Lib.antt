@@ -1,0 +1,5 @@
+mod Pictures
+mod Kept
+mod States
+mod Held
+mod Records

@@ -1,0 +1,39 @@
+-- What outlives a process: what the registry keeps, and the journals of the backups.
+use Rattle.std.specs.Prelude.{◌≡◌, ◌<◌, ◌==◌, ℕ, List, Some, take, if◌then◌else◌}
+use Rattle.replica.specs.Picture.{Picture}
+use Rattle.replica.specs.Registry.{with_least}
+use Rattle.take_journal.specs.Frames.{recovered}
+use Rattle.file_backup.specs.Mirror.{Shows}
+use Rattle.file_backup.specs.Replay.{Replicas, no_replicas, shown}
+use Rattle.file_fleet.specs.declared.registry.Span.{Span}
+use Rattle.file_fleet.specs.declared.registry.Span.TheVariants.{First, Nothing, Whole}
+
+-- What a registry keeps: of each master the least id of a head that a recovery may use, and of each backup how much
+-- of its journal counts.
+pub record Noted : Type 0 where
+  pub least : ℕ → ℕ
+  pub span : ℕ → Span
+
+-- the least head of this master becomes the greater of its old one and this id
+abbrev pub with_head : Noted → ℕ → ℕ → Noted
+with_head k master id = record { least = with_least k.least master id; span = k.span }
+
+-- so much counts of this backup's journal
+abbrev pub with_span : Noted → ℕ → Span → Noted
+with_span k b span = record { least = k.least; span = λ c. if b == c then span else k.span c }
+
+-- The files of a fleet: the journal of each backup, and what the registry's file keeps.
+pub record Files : Type 0 where
+  pub journal : ℕ → List ℕ
+  pub registry : Noted
+
+-- a journal shows these replicas if so much of it counts
+abbrev pub ShowsUnder : Span → Replicas → List ℕ → Type 0
+ShowsUnder Nothing p file = p ≡ no_replicas
+ShowsUnder Whole p file = Shows p file
+ShowsUnder (First n) p file = shown (take n (recovered file)) ≡ Some p
+
+-- The files of a fleet of so many backups show this picture and these least heads.
+pub record ShowsFleet (backups : ℕ) (picture : Picture) (least : ℕ → ℕ) (files : Files) : Type 0 where
+  pub heads : files.registry.least ≡ least
+  pub each : (b : ℕ) → b < backups → ShowsUnder (files.registry.span b) (picture b) (files.journal b)

@@ -1,0 +1,6 @@
+mod Lists
+mod Replays
+mod Wholes
+mod Makes
+mod Puts
+mod Opened

@@ -1,0 +1,4 @@
+pub mod Kept
+pub mod Room
+pub mod Whole
+pub mod File

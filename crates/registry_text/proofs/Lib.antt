@@ -1,0 +1,3 @@
+mod Options
+mod OneText
+mod Short
