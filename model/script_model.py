@@ -54,6 +54,8 @@ class Options:
     # The most bytes of an object, and of all live objects together.
     largest: int = NO_LIMIT
     live: int = NO_LIMIT
+    # The most steps of the cleaner behind each command that may change the map.
+    tend: int = 0
 
 
 def options_of(words):
@@ -200,6 +202,7 @@ LINES = {
     "push": (),
     "log": (),
     "room": (),
+    "segments": (),
     "live": (),
     "hex": (number_word,),
     "will": (),
@@ -281,6 +284,15 @@ def parsed_lines(script, options):
 LAST_ROWS = {"recover": ("recovered ", "refused ", "stopped"), "will": ("partitions ", "refused ")}
 
 
+# A row of `segments`.
+SEGMENT_ROW = re.compile("[0-9]+ (head|opening|closed|victim|survivor|waiting)( [0-9]+){3}")
+
+
+def id_of(row):
+    """The segment of a row of `segments`."""
+    return int(row.split(" ")[0])
+
+
 def name_of(row):
     """Backup, master and segment of a row of holdings."""
     return [int(word) for word in row.split(" ")[:3]]
@@ -295,6 +307,13 @@ def answers_of(lines, output):
             while rows and re.fullmatch(r"([0-9]+ ){4}(open|closed)", rows[0]):
                 # The names of one line's rows rise. Those of another line of holdings may follow.
                 if answer and name_of(rows[0]) <= name_of(answer[-1]):
+                    break
+                answer.append(rows.popleft())
+        elif line[0] == "segments" and rows and rows[0][:1].isdigit():
+            answer.append(rows.popleft())
+            while rows and SEGMENT_ROW.fullmatch(rows[0]):
+                # Rows of images rise, and rows of what waits stand behind them. Those of another such line may follow.
+                if " waiting " not in rows[0] and (" waiting " in answer[-1] or id_of(rows[0]) <= id_of(answer[-1])):
                     break
                 answer.append(rows.popleft())
         elif line[0] in LAST_ROWS:
@@ -619,7 +638,7 @@ class Weight:
 class Policy:
     """When a cleaner begins something, and what."""
 
-    SPARE, STORED, STONES = 4, 120, 20
+    SPARE, STORED = 4, 105
 
     def __init__(self, master, options):
         self.master, self.options, self.segment = master, options, options.segment
@@ -648,39 +667,58 @@ class Policy:
 
     def wants_pass(self, weights):
         memory = self.options.seglets * self.options.seglet
-        unused = max(0, memory - self.master.live_bytes())
-        return (self.is_crowded(len(weights) + 1) or len(weights) * self.segment * 100 >= self.STORED * memory
-                or sum(it.stones for it in weights) * 100 >= self.STONES * unused)
+        return self.is_crowded(len(weights) + 1) or len(weights) * self.segment * 100 >= self.STORED * memory
 
     def three_quarters(self):
         return self.segment - 18 - self.segment // 4
 
-    def victims(self, weights, chosen):
-        """The first of the chosen ones, and how many survivors they fill at most."""
-        kept = {it.id: it.kept() for it in weights}
+    def seglets(self, length):
+        return -(-length // self.options.seglet)
+
+    def victims(self, weights):
+        """The segments that keep least for what they give back, as many as fill the survivors that leave a put's roll its memory;
+        what they keep; and the seglets of their images."""
         survivors = min(4, max(1, self.free // whole_seglets(self.options) - 3))
-        space, victims, all_kept = self.segment - 18 + (survivors - 1) * self.three_quarters(), (), 0
-        for id_ in chosen:
-            all_kept += kept[id_]
-            if all_kept > space and victims:
+        space, victims, kept, seglets = self.segment - 18 + (survivors - 1) * self.three_quarters(), (), 0, 0
+        while len(victims) < 32:
+            best = None
+            for it in weights:
+                gives = self.gives(it)
+                if it.kept() <= space - kept and it.id not in victims and (not best or it.kept() * best[1] < best[0].kept() * gives):
+                    best = it, gives
+            if not best:
                 break
-            victims += (id_,)
-        all_kept = sum(kept[id_] for id_ in victims)
-        return victims, 1 + -(-max(0, all_kept - self.segment + 18) // self.three_quarters())
+            victims, kept, seglets = (*victims, best[0].id), kept + best[0].kept(), seglets + self.seglets(best[0].length)
+        return victims, kept, seglets
+
+    def gives(self, weight):
+        """What a segment gives back of memory, and one byte."""
+        return self.seglets(weight.length) * self.options.seglet - weight.kept() + 1
+
+    def begin_pass(self, weights, best):
+        """The pass that a cleaner begins by itself, or the compaction in its place; None if there is none."""
+        victims, kept, seglets = self.victims(weights)
+        survivors = 1 + -(-max(0, kept - self.segment + 18) // self.three_quarters())
+        has_places = len(weights) - len(victims) + survivors + 2 <= self.segment // 32
+        free = self.free * self.options.seglet
+        if not victims or seglets <= self.seglets(kept) + survivors or not has_places or free < (survivors + 1) * self.segment:
+            return None
+        return ("compact", best) if best and free < (survivors + 2) * self.segment else ("begin", victims)
 
     def begin(self):
         """The step that a cleaner begins: a segment that is compacted, or the victims of a pass; or None."""
         if not self.is_low():
             return None
-        chosen, weights = self.master.choice(self.options)[0], self.master.weights()
+        weights = self.master.weights()
         best = self.best(weights)
-        if best and not self.wants_pass(weights) or not self.master.chosen(self.options):
-            return ("compact", best) if best else None
-        victims, survivors = self.victims(weights, chosen)
-        if best and self.free * self.options.seglet < (survivors + 2) * self.segment:
-            return "compact", best
-        has_places = len(weights) - len(victims) + survivors + 2 <= self.segment // 32
-        return "begin", victims if has_places else chosen
+        compaction = ("compact", best) if best else None
+        if compaction and not self.wants_pass(weights):
+            return compaction
+        begun = self.begin_pass(weights, best) or compaction
+        if begun:
+            return begun
+        chosen = self.master.chosen(self.options)
+        return ("begin", chosen) if chosen else None
 
 
 def survivors_for(lengths, most):
@@ -866,6 +904,21 @@ class Master:
     def heads(self):
         """The ids of the head in force and of the head that is being opened."""
         return {self.log()[-1].id, self.segments[-1].id}
+
+    def role(self, id_):
+        """What a segment that has an image is to the master."""
+        if id_ == self.log()[-1].id:
+            return "head"
+        if id_ == self.segments[-1].id:
+            return "opening"
+        if id_ in {it.id for it in self.survivors()}:
+            return "survivor"
+        return "victim" if self.cleaning and id_ in self.cleaning.victims else "closed"
+
+    def kept_in(self, segment):
+        """The bytes of the objects and tombstones of a segment that the cleaners keep."""
+        entries = (it for it in read_segment(segment.text) if isinstance(it, (Object, Tombstone)))
+        return sum(len(it.spelled()) for it in entries if self.is_kept(segment.id, it))
 
     def victims_refusal(self, ids):
         """Why these segments may not be the victims of a pass, or None."""
@@ -1148,6 +1201,16 @@ def client_key(number):
     return b"c%d" % number
 
 
+def changed(outcomes, change):
+    """Yields what is made of each of the outcomes, and returns what they return."""
+    while True:
+        try:
+            outcome = next(outcomes)
+        except StopIteration as end:
+            return end.value
+        yield from change(*outcome)
+
+
 @hashed_once
 @dataclass(frozen=True)
 class Store:
@@ -1211,10 +1274,65 @@ class Store:
         return self.command(Command("del", table, key))
 
     def command(self, command):
-        called = yield from self.called(command)
+        steps = self.options.tend if command.kind != "get" else 0
+        called = yield from changed(self.called(command), lambda answer, refused, store: (
+            store.with_room(command, refused) if steps and answer == "refused Full\n" else [(answer, refused, store)]))
         if called:
             reply, store = called
-            yield f"{reply}\n", 0, store
+            for refused, after in store.tended_behind(steps):
+                yield f"{reply}\n", refused, after
+
+    def with_room(self, command, refused):
+        """Does a command that was refused as Full once more, if a round of the cleaner gains seglets."""
+        store = yield from changed(self.round_made(), lambda more, after: [("refused Full\n", refused + more, after)])
+        if store and store.master.used(self.options) < self.master.used(self.options):
+            for answer, more, after in store.command(command):
+                yield answer, refused + more, after
+        elif store:
+            yield "refused Full\n", refused, store
+
+    def round_made(self):
+        """Makes a round of the cleaner. Yields each refusal that ends it, as the memory that it shows as refused and the store
+        then, and returns the store if none does."""
+        store, has_begun = self, False
+        while store:
+            store = store if store.master.is_halted else store.waited()
+            step = store.pending()
+            if not step and has_begun:
+                return store
+            if not step:
+                yield 1, store
+                step, has_begun = Policy(store.master, store.options).begin(), True
+            if not step:
+                return store
+            store = yield from store.turned(step)
+        return None
+
+    def tended_behind(self, most):
+        """Each way that so many steps of the cleaner may end: how many requests for memory it shows as refused, and the store
+        then."""
+        store = self
+        for _ in range(most):
+            store = store if store.master.is_halted else store.waited()
+            step = store.pending()
+            if not step:
+                yield 1, store
+                step = Policy(store.master, store.options).begin()
+            if not step:
+                break
+            store = yield from store.turned(step)
+            if not store:
+                return
+        yield 0, store
+
+    def turned(self, step):
+        """Makes one step of the cleaner. Yields each refusal of it, as above, and returns the store if there is none. A fleet
+        that takes no more ops leaves the master."""
+        if self.master.is_halted:
+            yield 0, self
+            return None
+        return (yield from changed(self.tended(*step), lambda answer, refused, after: [
+            (refused, self if answer == "stopped\n" else after)]))
 
     def called(self, command):
         """Does a command until it is durable. Yields the answers that end the line, and returns the reply and the store then."""
@@ -1605,6 +1723,14 @@ class Store:
     def line_room(self):
         used = self.master.used(self.options)
         yield f"used {used} free {self.options.seglets - used}\n", 0, self
+
+    def line_segments(self):
+        yield REFUSED, 1, self
+        master = self.master
+        images = sorted((*master.segments, *master.survivors()), key=lambda it: it.id)
+        lines = [f"{it.id} {master.role(it.id)} {len(it.text)} {master.kept_in(it)} {len(self.holders(it.id))}\n" for it in images]
+        lines += [f"{id_} waiting 0 0 {len(self.holders(id_))}\n" for id_ in master.waiting]
+        yield "".join(lines), 0, self
 
     def line_live(self):
         limit = "none" if self.options.live == NO_LIMIT else self.options.live

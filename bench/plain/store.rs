@@ -1,6 +1,7 @@
 //! A plain Rust program of the same rules, without contracts. It reads the lines `put`, `get`, `clean`, `stop`, `fault`, `lose`,
 //! `crash` and `recover`, and answers them as `ramlog` does: with its tests, its refusals and its bad lines. It knows no other lines,
-//! no format 2, no options but those of memory, and no wills but the one over all tablets.
+//! no format 2, no options but those of memory, and no wills but the one over all tablets. With a further word it cleans by itself, as
+//! `ramlog --tend` does; but a pass that begins ends at once, and what is cleaned after each put isn't limited.
 
 use std::cmp::Ordering;
 use std::fmt;
@@ -508,6 +509,27 @@ struct Master {
     safe: u64,
     index: Index,
     history: History,
+    /// What is counted of each segment, by its id.
+    rows: Vec<Row>,
+    /// For each closed segment, once a cleaner looked at it: the bytes of its tombstones, by the segment that they name.
+    named: Vec<Option<Vec<(u64, usize)>>>,
+}
+
+/// What is counted of a segment.
+#[derive(Clone, Copy, Default)]
+struct Row {
+    /// The bytes before its first object or tombstone.
+    opening: usize,
+    /// The bytes of its live objects.
+    live: usize,
+    /// The bytes of its tombstones that name a segment of the log.
+    stones: usize,
+}
+
+impl Row {
+    fn kept(&self) -> usize {
+        self.live + self.stones
+    }
 }
 
 /// Everything that an object needs to be put in order.
@@ -542,6 +564,8 @@ impl Master {
             safe,
             index: Index::new(),
             history: History::default(),
+            rows: vec![Row::default()],
+            named: vec![None],
         };
         let id = master.take_id()?;
         let image = master.opening(id, &[]);
@@ -557,6 +581,8 @@ impl Master {
         let id = self.next;
         self.next += 1;
         self.images.push(None);
+        self.rows.push(Row::default());
+        self.named.push(None);
         Ok(id)
     }
 
@@ -597,6 +623,7 @@ impl Master {
             self.take(fleet, id, replica, Act::Open(&image))?;
         }
         self.taken = [image.len(); REPLICAS];
+        self.rows[id as usize].opening = image.len();
         self.images[id as usize] = Some(image);
         self.head = id;
         Ok(())
@@ -658,17 +685,17 @@ impl Master {
         Ok(())
     }
 
-    /// The slot of the key, and the version of its object.
-    fn find(&self, hash: u64, table: u64, key: &[u8]) -> Option<(usize, u64)> {
-        let mut found = 0;
+    /// The slot of the key, and the version and length of its object.
+    fn find(&self, hash: u64, table: u64, key: &[u8]) -> Option<(usize, u64, usize)> {
+        let mut found = (0, 0);
         let slot = self.index.find(hash, |slot| match read_entry(&self.image(slot.segment as u64)[slot.at as usize..]) {
-            Some((Entry::Object { table: t, key: k, version, .. }, _)) if t == table && k == key => {
-                found = version;
+            Some((Entry::Object { table: t, key: k, version, .. }, len)) if t == table && k == key => {
+                found = (version, len);
                 true
             }
             _ => false,
         });
-        slot.map(|slot| (slot, found))
+        slot.map(|slot| (slot, found.0, found.1))
     }
 
     /// The tests of each command.
@@ -688,7 +715,7 @@ impl Master {
             return Err(Refusal::Halted);
         }
         self.admit(table, key)?;
-        let Some((slot, version)) = self.find(hash(table, key), table, key) else {
+        let Some((slot, version, _)) = self.find(hash(table, key), table, key) else {
             self.history.push(2, table, key, 0, &[]);
             return Ok(output.write_all(b"none\n"));
         };
@@ -724,7 +751,7 @@ impl Master {
         self.admit(table, key)?;
         let hash = hash(table, key);
         let old = self.find(hash, table, key);
-        let version = old.map_or(self.safe, |(_, version)| version + 1);
+        let version = old.map_or(self.safe, |(_, version, _)| version + 1);
         if version > MAX_VERSION {
             return Err(Refusal::VersionsSpent);
         }
@@ -732,14 +759,18 @@ impl Master {
         if self.image(self.head).len() + unit > self.sizes.segment {
             return Err(if self.may_roll(3) { Refusal::Rolling } else { Refusal::Full });
         }
-        let image = self.images[self.head as usize].as_mut().unwrap();
-        if let Some((slot, version)) = old {
-            write_tombstone(image, table, version, self.index.slots[slot].segment as u64, key);
+        if let Some((slot, version, had)) = old {
+            let segment = self.index.slots[slot].segment;
+            self.rows[segment as usize].live -= had;
+            let image = self.images[self.head as usize].as_mut().unwrap();
+            write_tombstone(image, table, version, segment as u64, key);
         }
+        let image = self.images[self.head as usize].as_mut().unwrap();
         let new = Slot { hash, segment: self.head as u32, at: image.len() as u32 };
         write_object(image, table, version, key, value);
+        self.rows[self.head as usize].live += OBJECT + key.len() + value.len();
         match old {
-            Some((slot, _)) => self.index.slots[slot] = new,
+            Some((slot, ..)) => self.index.slots[slot] = new,
             None => {
                 self.index.insert(new);
                 self.safe += 1;
@@ -768,6 +799,7 @@ impl Master {
         write_object(image, claim.table, claim.version, claim.key, claim.value);
         let slot = Slot { hash: hash(claim.table, claim.key), segment: self.head as u32, at };
         self.index.insert(slot);
+        self.rows[self.head as usize].live += OBJECT + claim.key.len() + claim.value.len();
         Ok(slot)
     }
 
@@ -856,9 +888,11 @@ impl Master {
                 if survivors[*filling].len() + len > self.sizes.segment {
                     *filling += 1;
                 }
+                let row = &mut self.rows[ids[*filling] as usize];
                 if let Some(slot) = slot {
                     let slot = &mut self.index.slots[slot];
                     (slot.segment, slot.at) = (ids[*filling] as u32, survivors[*filling].len() as u32);
+                    row.live += len;
                 }
                 survivors[*filling].extend_from_slice(&victim[at..at + len]);
             }
@@ -883,6 +917,7 @@ impl Master {
             let seglets = self.count(image.len());
             image.shrink_to(seglets * self.sizes.seglet);
             self.closed += seglets;
+            self.rows[id as usize].opening = HEADER;
             self.images[id as usize] = Some(image);
         }
         self.listed = self.listed + count - victims.len();
@@ -890,6 +925,11 @@ impl Master {
         for &id in victims {
             let image = self.images[id as usize].take().unwrap();
             self.closed -= self.count(image.len());
+        }
+        for (row, named) in self.rows.iter_mut().zip(&mut self.named) {
+            for (_, bytes) in named.iter_mut().flatten().filter(|(id, _)| victims.contains(id)) {
+                row.stones -= std::mem::take(bytes);
+            }
         }
         let mut waiting = victims.to_vec();
         waiting.sort_unstable();
@@ -899,6 +939,200 @@ impl Master {
             }
         }
         Ok((ids, self.head))
+    }
+}
+
+// ---- a cleaner of its own
+
+/// A cleaner begins something while fewer whole segments are free, or the digest has room for fewer.
+const SPARE: usize = 4;
+/// A pass comes first if the closed segments, each counted whole, are so many percent of memory.
+const STORED: usize = 105;
+
+impl Master {
+    /// Compacts a segment or makes a whole pass if memory is short. The answer is whether it did.
+    fn tend(&mut self, fleet: &mut Fleet) -> Result<bool, Refusal> {
+        let (bytes, most) = (self.free() * self.sizes.seglet, self.sizes.segment / 32);
+        if bytes >= SPARE * self.sizes.segment && self.listed + SPARE <= most {
+            return Ok(false);
+        }
+        let closed: Vec<u64> = (1..self.next).filter(|&id| id != self.head && self.is_listed(id)).collect();
+        for &id in &closed {
+            self.note(id);
+        }
+        let best = self.best(&closed);
+        let memory = self.sizes.seglets * self.sizes.seglet;
+        let wants_pass = closed.len() + 1 + SPARE > most || closed.len() * self.sizes.segment * 100 >= STORED * memory;
+        let victims = if best.is_some() && !wants_pass { None } else { self.victims(&closed, best.is_some()) };
+        match (victims, best) {
+            (Some(victims), _) => self.clean(fleet, &victims).map(|_| true),
+            (None, Some(id)) => {
+                self.compact(id);
+                Ok(true)
+            }
+            (None, None) => {
+                let chosen = self.choose(&closed);
+                if chosen.is_empty() || self.admit_pass(&chosen).is_err() {
+                    return Ok(false);
+                }
+                self.clean(fleet, &chosen).map(|_| true)
+            }
+        }
+    }
+
+    /// Reads which segments the tombstones of a closed segment name, once.
+    fn note(&mut self, id: u64) {
+        if self.named[id as usize].is_some() {
+            return;
+        }
+        let (image, mut at, mut all) = (self.image(id), 0, Vec::new());
+        while let Some((entry, len)) = read_entry(&image[at..]) {
+            if let Entry::Tombstone { segment, .. } = entry {
+                all.push((segment, len));
+            }
+            at += len;
+        }
+        all.sort_unstable();
+        let mut named: Vec<(u64, usize)> = Vec::new();
+        for (segment, len) in all.into_iter().filter(|(segment, _)| self.is_listed(*segment)) {
+            match named.last_mut() {
+                Some((last, sum)) if *last == segment => *sum += len,
+                _ => named.push((segment, len)),
+            }
+        }
+        self.rows[id as usize].stones = named.iter().map(|(_, len)| len).sum();
+        self.named[id as usize] = Some(named);
+    }
+
+    fn gain(&self, id: u64) -> usize {
+        let row = &self.rows[id as usize];
+        self.count(self.image(id).len()) - self.count(row.opening + row.kept())
+    }
+
+    /// The segment whose compaction gives back most for what it keeps, if one gives back a seglet.
+    fn best(&self, closed: &[u64]) -> Option<u64> {
+        let (mut best, mut gained, mut cost) = (None, 0, 1);
+        for &id in closed {
+            let (gain, kept) = (self.gain(id), self.rows[id as usize].kept());
+            if gain * cost > gained * (kept + 1) {
+                (best, gained, cost) = (Some(id), gain, kept + 1);
+            }
+        }
+        best
+    }
+
+    fn three_quarters(&self) -> usize {
+        self.sizes.segment - HEADER - self.sizes.segment / 4
+    }
+
+    /// The victims of the next pass: those that keep least for what they give back. None if no pass gives anything back, or if a
+    /// compaction has to come before, since little would be left.
+    fn victims(&self, closed: &[u64], may_compact: bool) -> Option<Vec<u64>> {
+        let (last, free) = (self.sizes.segment - HEADER, self.free());
+        let most = (free / self.sizes.whole()).saturating_sub(3).clamp(1, MAX_SURVIVORS);
+        let space = last + (most - 1) * self.three_quarters();
+        let (mut kept, mut seglets, mut victims) = (0, 0, Vec::new());
+        while victims.len() < MAX_VICTIMS {
+            let mut best: Option<(u64, usize, usize)> = None;
+            for &id in closed {
+                let (len, keeps) = (self.count(self.image(id).len()), self.rows[id as usize].kept());
+                let gives = len * self.sizes.seglet - keeps + 1;
+                let is_better = best.is_none_or(|(_, kept, given)| keeps * given < kept * gives);
+                if is_better && keeps <= space - kept && !victims.contains(&id) {
+                    best = Some((id, keeps, gives));
+                }
+            }
+            let Some((id, keeps, _)) = best else { break };
+            victims.push(id);
+            kept += keeps;
+            seglets += self.count(self.image(id).len());
+        }
+        let survivors = kept.saturating_sub(last).div_ceil(self.three_quarters()) + 1;
+        let has_places = closed.len() - victims.len() + survivors + 2 <= self.sizes.segment / 32;
+        let bytes = free * self.sizes.seglet;
+        let gives = !victims.is_empty() && seglets > self.count(kept) + survivors;
+        let fits = has_places && bytes >= (survivors + 1) * self.sizes.segment;
+        let leaves_little = may_compact && bytes < (survivors + 2) * self.sizes.segment;
+        (gives && fits && !leaves_little).then_some(victims)
+    }
+
+    /// By least kept bytes, up to the first segment that a pass may not have too.
+    fn choose(&self, closed: &[u64]) -> Vec<u64> {
+        let mut ranked = closed.to_vec();
+        ranked.sort_unstable_by_key(|&id| (self.rows[id as usize].kept(), id));
+        ranked.truncate(MAX_VICTIMS);
+        let mut level = (1, HEADER);
+        let fitting = ranked.iter().take_while(|&&id| {
+            level = self.filled(id, level);
+            level.0 <= MAX_SURVIVORS && (level.0 + 1) * self.sizes.whole() <= self.free()
+        });
+        fitting.copied().collect()
+    }
+
+    /// How many survivors are begun, and the length of the last one, once what is kept of this segment is copied too.
+    fn filled(&self, id: u64, (mut count, mut level): (usize, usize)) -> (usize, usize) {
+        if level + self.rows[id as usize].kept() <= self.sizes.segment {
+            return (count, level + self.rows[id as usize].kept());
+        }
+        let (image, mut at) = (self.image(id), 0);
+        while let Some((entry, len)) = read_entry(&image[at..]) {
+            let is_kept = match entry {
+                Entry::Object { table, key, .. } => self.is_held(table, key, id, at).is_some(),
+                Entry::Tombstone { segment, .. } => self.is_listed(segment),
+                _ => false,
+            };
+            if is_kept && level + len > self.sizes.segment {
+                (count, level) = (count + 1, HEADER);
+            }
+            level += if is_kept { len } else { 0 };
+            at += len;
+        }
+        (count, level)
+    }
+
+    /// Rewrites a closed segment without its dead entries. Its replicas stay as they are.
+    fn compact(&mut self, id: u64) {
+        let old = self.images[id as usize].take().unwrap();
+        let row = self.rows[id as usize];
+        let mut new = Vec::with_capacity(self.count(row.opening + row.kept()) * self.sizes.seglet);
+        new.extend_from_slice(&old[..row.opening]);
+        let mut at = row.opening;
+        while let Some((entry, len)) = read_entry(&old[at..]) {
+            let is_kept = match entry {
+                Entry::Object { table, key, .. } => match self.is_held(table, key, id, at) {
+                    Some(slot) => {
+                        self.index.slots[slot].at = new.len() as u32;
+                        true
+                    }
+                    None => false,
+                },
+                Entry::Tombstone { segment, .. } => segment == id || self.is_listed(segment),
+                _ => false,
+            };
+            if is_kept {
+                new.extend_from_slice(&old[at..at + len]);
+            }
+            at += len;
+        }
+        self.closed = self.closed + self.count(new.len()) - self.count(old.len());
+        self.images[id as usize] = Some(new);
+    }
+
+    /// Puts, and cleans: before it if it would be refused as Full, as long as that gives room, and once behind it.
+    fn put_and_tend(&mut self, fleet: &mut Fleet, table: u64, key: &[u8], value: &[u8]) -> Result<u64, Refusal> {
+        let version = loop {
+            match self.put(fleet, table, key, value) {
+                Err(Refusal::Full) => {
+                    let free = self.free();
+                    if !self.tend(fleet)? || self.free() <= free {
+                        return Err(Refusal::Full);
+                    }
+                }
+                answer => break answer?,
+            }
+        };
+        self.tend(fleet)?;
+        Ok(version)
     }
 }
 
@@ -1007,6 +1241,8 @@ struct Session {
     /// The master that a recovery is for, and the greatest number that was used.
     number: u64,
     used: u64,
+    /// Whether the master cleans by itself.
+    tends: bool,
 }
 
 enum Line<'a> {
@@ -1076,10 +1312,10 @@ fn parse(text: &[u8]) -> Option<Line<'_>> {
 }
 
 impl Session {
-    fn start(sizes: Sizes) -> Option<Session> {
+    fn start(sizes: Sizes, tends: bool) -> Option<Session> {
         let mut fleet = Fleet::new();
         let master = Master::new(1, sizes, 1, &mut fleet).ok()?;
-        Some(Session { sizes, fleet, master: Some(master), number: 1, used: 1 })
+        Some(Session { sizes, fleet, master: Some(master), number: 1, used: 1, tends })
     }
 
     /// Writes why a line was refused. A fleet that takes no more drops its master.
@@ -1099,7 +1335,11 @@ impl Session {
                 let Some(master) = &mut self.master else {
                     return self.refuse(Refusal::Down, output);
                 };
-                match master.put(&mut self.fleet, table, key, value) {
+                let made = match self.tends {
+                    true => master.put_and_tend(&mut self.fleet, table, key, value),
+                    false => master.put(&mut self.fleet, table, key, value),
+                };
+                match made {
                     Ok(version) => writeln!(output, "ok {version}"),
                     Err(refusal) => self.refuse(refusal, output),
                 }
@@ -1235,7 +1475,7 @@ fn run_next(
 
 fn main() -> ExitCode {
     let words: Vec<usize> = std::env::args().skip(1).map(|word| word.parse().unwrap()).collect();
-    let mut session = Session::start(Sizes { segment: words[0], seglet: words[1], seglets: words[2] }).unwrap();
+    let mut session = Session::start(Sizes { segment: words[0], seglet: words[1], seglets: words[2] }, words.len() > 3).unwrap();
     let mut input = BufReader::with_capacity(BUFFER, io::stdin().lock());
     let mut output = BufWriter::with_capacity(BUFFER, io::stdout().lock());
     let mut line = Vec::new();

@@ -21,6 +21,9 @@ use Rattle.recovery.specs.master.master_state.declared.config.ConfigFault.{Confi
 use Rattle.recovery.specs.master.master_state.declared.config.ConfigFault.TheVariants.{BadBackups, BadSegment}
 use Rattle.recovery.specs.master.master_state.declared.config.ConfigFault.TheVariants.{BadBudget, BadLive}
 use Rattle.recovery.specs.master.master_state.Names.{refusal_text, config_fault_name}
+use Rattle.recovery.specs.master.declared.segments.Role.{Role}
+use Rattle.recovery.specs.master.declared.segments.Role.TheVariants as role
+use Rattle.recovery.specs.master.declared.segments.SegmentRow.{SegmentRow}
 use Rattle.tablet_will.specs.declared.part.Part.{Part}
 use Rattle.tablet_will.specs.Parts.{partitions_of}
 use Rattle.answers.specs.declared.answer.Answer.{Answer}
@@ -99,6 +102,21 @@ abbrev pub label_text : Label → List ℕ
 label_text l =
     decimal l.backup ++ 32 ∷ decimal l.master ++ 32 ∷ decimal l.segment ++ 32 ∷ decimal l.len ++ state_text l.is_open
 
+-- what a segment is to its master
+abbrev pub role_text : Role → List ℕ
+role_text role.Head = codes "head"
+role_text role.Opening = codes "opening"
+role_text role.Closed = codes "closed"
+role_text role.Victim = codes "victim"
+role_text role.Survivor = codes "survivor"
+role_text role.Waiting = codes "waiting"
+
+-- id, role, length, kept bytes and replicas of a segment
+abbrev pub segment_text : SegmentRow → List ℕ
+segment_text row =
+    decimal row.id ++ 32 ∷ role_text row.role ++ 32 ∷ decimal row.len ++ 32 ∷ decimal row.kept
+    ++ 32 ∷ decimal row.replicas ++ 10 ∷ []
+
 -- in which take from now a fault was asked for, 1 for the next one, and whether its op is taken
 abbrev pub asked_text : ℕ → Bool → List ℕ
 asked_text takes taken = codes "fault " ++ decimal takes ++ 32 ∷ fate_word taken ++ 10 ∷ []
@@ -158,6 +176,7 @@ answer_text (answer.Tended made) = codes "tended " ++ decimal made ++ 10 ∷ []
 answer_text (answer.Counted clients rounds calls) = codes "clients " ++ decimal clients ++ 32 ∷ op_text [] rounds calls
 answer_text (answer.Log ids) = log_text ids
 answer_text (answer.Room used free) = room_text used free
+answer_text (answer.Segments rows) = flat_map segment_text rows
 answer_text (answer.Live bytes most) = live_text bytes most
 answer_text (answer.Needs needed) = needs_text needed
 answer_text (answer.Seglets seglets) = codes "seglets " ++ decimal seglets ++ 10 ∷ []

@@ -16,12 +16,13 @@ ghost use Rattle.history.specs.View.{shown_reply};
 
 use crate::handing::{WriteFailed, hand};
 use crate::limits::Limits;
+use crate::segment_rows::write_segments;
 use crate::short_line::ShortLine;
 use arrayvec::ArrayString;
 use entry::{ObjectRef, Row, Version};
 use history::{ReplyRef, view_reply};
 use itoa::write_digits;
-use recovery::master::{Refusal, Reply, Survivors};
+use recovery::master::{Refusal, Reply, SegmentRow, Survivors};
 use recovery::{Rebuilt, RecoveryFault};
 use replica::{Label, Labels, TakeFault};
 use std::fmt::{Display, Write as _};
@@ -97,6 +98,8 @@ pub enum Answer {
     Log(Row<u64>),
     /// How many seglets of memory are counted as used, and how many are free.
     Room(u64, u64),
+    /// The master's segments: first those that have an image, by rising id, then those that wait to be freed.
+    Segments(Row<SegmentRow>),
     /// How many bytes all live objects have together, and how many puts may make them. `u64::MAX` bytes stand for as
     /// many or more, and as the second number for no limit.
     Live(u64, u64),
@@ -166,6 +169,7 @@ pub fn write_answer<W: Write>(writer: &mut W, answer: &Answer) -> Result<(), Wri
         }
         Answer::Log(ids) => write_log(writer, ids.as_slice()),
         Answer::Room(used, free) => write_room(writer, *used, *free),
+        Answer::Segments(rows) => write_segments(writer, rows.as_slice()),
         Answer::Live(bytes, most) => write_live(writer, *bytes, *most),
         Answer::Needs(needed) => write_needs(writer, *needed),
         Answer::Seglets(seglets) => write_number(writer, b"seglets ", *seglets, b'\n'),

@@ -12,6 +12,7 @@ mod errors;
 mod fault;
 mod handing;
 mod limits;
+mod segment_rows;
 mod short_line;
 
 pub use answer::{Answer, write_answer, write_reply};

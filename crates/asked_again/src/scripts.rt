@@ -26,6 +26,7 @@ pub const OPTIONS: Options = Options {
     format: 1,
     largest: u64::MAX,
     live: u64::MAX,
+    tend: 0,
 };
 
 /// A script with tombstones.

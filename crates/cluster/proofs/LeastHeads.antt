@@ -7,10 +7,8 @@ use Rattle.backup.specs.declared.fleet.MemoryFleet.{MemoryFleet}
 use Rattle.replica.specs.Picture.{FleetState}
 use Rattle.replica.specs.Take.{limited}
 use Rattle.versioned_map.specs.declared.command.Command.{Command}
-use Rattle.versioned_map.specs.declared.command.Command.TheVariants as command
 use Rattle.answers.specs.driving.master.master_state.declared.config.Config.{Config}
 use Rattle.answers.specs.driving.master.master_state.declared.step.Step.{Step}
-use Rattle.answers.specs.driving.master.master_state.declared.step.Step.TheVariants as step
 use Rattle.answers.specs.driving.master.master_state.Data.{MasterData}
 use Rattle.answers.specs.driving.master.Registry.{AreUnraisedAbove}
 use Rattle.answers.specs.driving.master.World.{MasterValue, World, world}

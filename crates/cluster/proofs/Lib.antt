@@ -8,6 +8,7 @@ pub mod Tries
 pub mod ByHand
 pub mod Downs
 pub mod LeastHeads
+pub mod BesideCleaner
 pub use Rattle.answers.proofs.of_driving.of_master
 pub use Rattle.answers.proofs.of_driving
 pub use Rattle.answers.proofs.of_recovery

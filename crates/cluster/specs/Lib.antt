@@ -5,6 +5,7 @@ pub mod Counted
 pub mod Told
 pub mod Served
 pub mod Waits
+pub mod Tended
 pub use Rattle.answers.specs.driving.master
 pub use Rattle.answers.specs.driving
 pub use Rattle.answers.specs.replay

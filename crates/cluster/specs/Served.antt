@@ -3,7 +3,7 @@ use Rattle.std.specs.Prelude.{◌≡◌, ◌⊎◌, ℕ, ◌≤◌, List, ◌++�
 use Rattle.std.specs.Prelude.{Err, IfSome}
 use Rattle.backup.specs.State.{fleet_state, lost, HoldsAny}
 use Rattle.backup.specs.declared.fleet.Asked.{Asked}
-use Rattle.lines.specs.Grammar.{LineValue, BeginRoll, Compact, Push, Begin, Copy, Seal, Free, Will}
+use Rattle.lines.specs.Grammar.{LineValue, BeginRoll, Compact, Push, Begin, Copy, Seal, Free}
 use Rattle.std.specs.Option.{option_map}
 use Rattle.std.specs.declared.alloc.AllocError.{AllocError}
 use Rattle.answers.specs.driving.master.cleaner.declared.survivors.Survivors.{Survivors}

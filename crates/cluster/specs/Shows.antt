@@ -6,6 +6,7 @@ use Rattle.answers.specs.driving.master.log_head.Head.{digest_of}
 use Rattle.answers.specs.driving.master.master_state.declared.step.Refusal.TheVariants.{NoMemory}
 use Rattle.answers.specs.driving.master.master_state.Budget.{used_seglets, free_seglets}
 use Rattle.answers.specs.driving.master.master_state.Log.{image_of}
+use Rattle.answers.specs.driving.master.Segments.{segment_rows}
 use Rattle.answers.specs.declared.answer.Answer.{Answer}
 use Rattle.answers.specs.declared.answer.Answer.TheVariants as answers
 use Rattle.cluster.specs.declared.node.Node.{Node}
@@ -21,6 +22,12 @@ ShowsDigest node answer = answer ≡ answers.Down
 abbrev pub ShowsRoom : Node → Answer → Type 0
 ShowsRoom (Up m) answer = answer ≡ answers.Room (used_seglets m.knows) (free_seglets m.knows)
 ShowsRoom node answer = answer ≡ answers.Down
+
+-- the segments of the node's master; or memory ran out
+abbrev pub ShowsSegments : Node → Answer → Type 0
+ShowsSegments (Up m) answer =
+    (answer ≡ answers.Segments (segment_rows m.knows)) ⊎ (answer ≡ answers.Refused NoMemory)
+ShowsSegments node answer = answer ≡ answers.Down
 
 -- how many bytes the live objects of the node's master have together, and how many puts may make them
 abbrev pub ShowsLive : Node → Answer → Type 0

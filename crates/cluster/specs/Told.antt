@@ -6,7 +6,7 @@ use Rattle.entry.specs.Meaning.{IsMeaning, among, contents_of}
 use Rattle.entry.specs.Text.{text_of}
 use Rattle.lines.specs.Grammar.{LineValue, Idle, Put, New, Cas, Get, Del, Compact, Roll, BeginRoll, Push, Log, Room}
 use Rattle.lines.specs.Grammar.{Hex, Stop, Fault, Crash, Lose, Will, Recover, Holdings, Clean, Begin, Copy, Seal, Free}
-use Rattle.lines.specs.Grammar.{Clients, Format, LiveBytes, Needs, Seglets, Tend}
+use Rattle.lines.specs.Grammar.{Clients, Format, LiveBytes, Needs, Seglets, Segments, Tend}
 use Rattle.lines.specs.declared.line.ReplayOrder.{ReplayOrder}
 use Rattle.backup.specs.Inventory.{AreRising}
 use Rattle.answers.specs.driving.master.cleaner.declared.survivors.Survivors.{Survivors}
@@ -36,6 +36,8 @@ use Rattle.answers.specs.driving.master.Steps.{Steps}
 use Rattle.answers.specs.driving.master.World.{World}
 use Rattle.answers.specs.driving.master.master_state.Budget.{used_seglets, free_seglets}
 use Rattle.answers.specs.driving.master.master_state.Log.{image_of}
+use Rattle.answers.specs.driving.master.declared.segments.SegmentRow.{SegmentRow}
+use Rattle.answers.specs.driving.master.Segments.{segment_rows}
 use Rattle.answers.specs.claims.declared.rebuilt.Rebuilt.{Rebuilt}
 use Rattle.answers.specs.recovery.declared.recovery.RecoveryFault.{RecoveryFault}
 use Rattle.answers.specs.recovery.declared.recovery.RecoveryFault.TheVariants as recovery_fault
@@ -183,6 +185,7 @@ abbrev pub shows : LineValue → Bool
 shows (Hex segment) = true
 shows Log = true
 shows Holdings = true
+shows Segments = true
 shows Will = true
 shows _ = false
 
@@ -195,6 +198,11 @@ IsDigestAt config life ids = (d : MasterData) × (f : FleetState) × HasLived co
 abbrev pub IsRoomAt : Config → Life → ℕ → ℕ → Type 0
 IsRoomAt config life used free = (d : MasterData) × (f : FleetState) × HasLived config life d f
     × (used ≡ used_seglets d) × (free ≡ free_seglets d)
+
+-- a master that has lived this life has these segments
+abbrev pub AreSegmentsAt : Config → Life → List SegmentRow → Type 0
+AreSegmentsAt config life rows = (d : MasterData) × (f : FleetState) × HasLived config life d f
+    × (rows ≡ segment_rows d)
 
 -- all live objects of a master that has lived this life have this many bytes together
 abbrev pub IsLiveAt : Config → Life → ℕ → Type 0
@@ -320,6 +328,7 @@ is_for_master Free = true
 is_for_master (Tend steps) = true
 is_for_master Log = true
 is_for_master Room = true
+is_for_master Segments = true
 is_for_master LiveBytes = true
 is_for_master Will = true
 is_for_master (Hex segment) = true
@@ -388,6 +397,8 @@ Tells config life at line (answer.Log ids) next = (at.left ≡ None) × (line �
     × IsDigestAt config (life_to life at.made) ids × (next ≡ at)
 Tells config life at line (answer.Room used free) next = (at.left ≡ None) × (line ≡ Room)
     × IsRoomAt config (life_to life at.made) used free × (next ≡ at)
+Tells config life at line (answer.Segments rows) next = (at.left ≡ None) × (line ≡ Segments)
+    × AreSegmentsAt config (life_to life at.made) rows × (next ≡ at)
 Tells config life at line (answer.Live bytes most) next = (at.left ≡ None) × (line ≡ LiveBytes)
     × IsLiveAt config (life_to life at.made) bytes × (most ≡ config.most_live) × (next ≡ at)
 Tells config life at line (answer.Will parts limits) next = (at.left ≡ None) × (line ≡ Will)

@@ -8,6 +8,7 @@
 #![tactic(auto)]
 
 mod node;
+mod tended;
 mod tried;
 mod will;
 
@@ -15,4 +16,5 @@ pub use answers;
 pub use answers::driving::master;
 pub use answers::{driving, recovery, replay};
 pub use node::Node;
+pub use tending::Notes;
 pub use tried::Tried;

@@ -10,7 +10,7 @@ ghost use Rattle.answers.specs.driving.master.master_state.declared.config.Confi
 ghost use Rattle.cluster.specs.Served.{IsDropped, AsksFault, asked_of, fleet_of, is_up};
 ghost use Rattle.cluster.specs.Served.{AnswersLine, LimitsFleet, LosesMaster, LosesOne, MakesStep, MakesRoll, Refuses};
 ghost use Rattle.cluster.specs.Served.{AnswersStep, MakesClean, MakesTend, ShowsFleet, held_answer, step_told};
-ghost use Rattle.cluster.specs.Shows.{ShowsDigest, ShowsImage, ShowsLive, ShowsRoom};
+ghost use Rattle.cluster.specs.Shows.{ShowsDigest, ShowsImage, ShowsLive, ShowsRoom, ShowsSegments};
 ghost use Rattle.cluster.specs.Waits.{MakesRoom, MakesOpen, TriesLine, IsReplyAt};
 
 use crate::tried::Tried;
@@ -25,7 +25,7 @@ use replica::{Bench, Fleet, Labels};
 use std::alloc::Global;
 use std::io::Write;
 use std::mem::replace;
-use tending::{Policy, tend};
+use tending::{Notes, Policy, tend};
 
 /// A fleet, and the master over it if there is one.
 #[derive(Drop)]
@@ -70,6 +70,7 @@ fn answer_of(made: StepAnswer) -> Answer
 
 impl Node {
     ghost use Rattle.lines.specs.Grammar.{Roll, Clean, Log, Room, LiveBytes, Hex, Stop, Fault, Crash, Lose, Holdings, Tend};
+    ghost use Rattle.lines.specs.Grammar.{Segments};
 
     /// Applies a command, whose bytes may lie anywhere, and pushes until its record is durable.
     #[inline(always)]
@@ -210,7 +211,7 @@ impl Node {
 
     /// Makes up to so many steps of the cleaner, by the usual policy. Answers how many it made, or the refusal. After a
     /// refusal, what was done stays done.
-    pub fn tend(&mut self, steps: u64) -> Answer
+    pub fn tend(&mut self, notes: &mut Notes, steps: u64) -> Answer
         ensures told { (config : Config) → AnswersLine self.old config (Tend steps) self.new result }
         ensures tended { MakesTend self.old steps self.new result }
     {
@@ -219,7 +220,7 @@ impl Node {
         };
         up.show_valid();
         let policy = Policy::of(up.config());
-        let outcome = tend(up, &policy, steps);
+        let outcome = tend(up, &policy, notes, steps);
         up.show_valid();
         match outcome {
             Ok(made) => Answer::Tended(made),
@@ -304,6 +305,22 @@ impl Node {
             Ok(Shown::Room(used, free)) => Answer::Room(used, free),
             Ok(_) => unreachable!(),
             Err(NoMemory) => unreachable!(),
+        }
+    }
+
+    /// Answers the master's segments, with what each is to it and how many of its bytes are kept. It is refused as
+    /// NoMemory if memory for the rows runs out.
+    pub fn segments(&self) -> Answer
+        ensures told { (config : Config) → AnswersLine self.now config Segments self.now result }
+        ensures shown { ShowsSegments self.now result }
+    {
+        let Node::Up(up) = self else {
+            return Answer::Down;
+        };
+        up.show_valid();
+        match up.segments() {
+            Ok(rows) => Answer::Segments(Row::new(rows)),
+            Err(NoMemory) => Answer::Refused(Refusal::NoMemory),
         }
     }
 

@@ -25,7 +25,7 @@ use Rattle.command_line.specs.CommandLine.{HasNumber, HasOptions, IsCommand, IsD
 use Rattle.command_line.specs.CommandLine.{NumberOption, ReadsNumber, default_options, number_rule}
 use Rattle.command_line.specs.CommandLine.{ramlog, with_version, ramlog_faults, ramlog_matches}
 use Rattle.command_line.specs.CommandLine.{backups, replicas, step, segment, seglet, seglets}
-use Rattle.command_line.specs.CommandLine.{tables, history, bytes, objects, format, largest, live}
+use Rattle.command_line.specs.CommandLine.{tables, history, bytes, objects, format, largest, live, tend}
 use Rattle.command_line.specs.declared.number_option.NumberOption as code
 use Rattle.command_line.specs.declared.settings.Options.{Options}
 use Rattle.command_line.proofs.Numbers.{IsOptionOf, text_number}
@@ -213,6 +213,10 @@ pub has_live : IsOptionOf live ramlog.top.rules
 unfolding ramlog
 has_live = record { obeyed = refl; named = refl; not_help = refl; not_version = refl }
 
+pub has_tend : IsOptionOf tend ramlog.top.rules
+unfolding ramlog
+has_tend = record { obeyed = refl; named = refl; not_help = refl; not_version = refl }
+
 -- clap finds nothing in the program's name alone, and no fault
 no_matches : (w : Text) → ramlog_matches (w ∷ []) ≡ []
 unfolding clap_on_literals ramlog ramlog_matches
@@ -239,6 +243,7 @@ are_defaults o has =
       has.format,
       has.largest,
       has.live,
+      has.tend,
     ) refl
 
 -- so the name alone gives the defaults

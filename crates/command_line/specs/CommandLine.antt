@@ -20,7 +20,7 @@ pub record NumberOption : Type 0 where
   pub most : ℕ
   pub default : ℕ
 
--- the thirteen options
+-- the fourteen options
 abbrev pub backups : NumberOption
 backups = record { name = codes "backups"; least = 1; most = 64; default = 3 }
 
@@ -60,6 +60,9 @@ largest = record { name = codes "largest"; least = 24; most = 8388608; default =
 abbrev pub live : NumberOption
 live = record { name = codes "live"; least = 0; most = 281474976710656; default = 2 ^ 64 - 1 }
 
+abbrev pub tend : NumberOption
+tend = record { name = codes "tend"; least = 0; most = 65536; default = 0 }
+
 -- an option as clap takes it: a long name, and one value that is a number in the range
 abbrev pub number_rule : Text → ℕ → ℕ → Rule
 number_rule name least most = record (new_rule name) {
@@ -76,11 +79,11 @@ with_option app option = with_rule app (number_rule option.name option.least opt
 abbrev pub with_version : App → App
 with_version app = record app { top = record app.top { has_version = true } }
 
--- the program's command: the thirteen options, a version, and nothing else
+-- the program's command: the fourteen options, a version, and nothing else
 unfoldable pub ramlog : App
 ramlog = fold with_option (with_version (new_app (codes "ramlog")))
     (backups ∷ replicas ∷ step ∷ segment ∷ seglet ∷ seglets ∷ tables ∷ history ∷ bytes ∷ objects ∷ format
-    ∷ largest ∷ live ∷ [])
+    ∷ largest ∷ live ∷ tend ∷ [])
 
 -- clap's exact matches of the words
 unfoldable pub ramlog_matches : List Text → List Row
@@ -115,6 +118,7 @@ pub record HasEach (Is : NumberOption → ℕ → Type 0) (o : Options) : Type 0
   pub format : Is format o.format
   pub largest : Is largest o.largest
   pub live : Is live o.live
+  pub tend : Is tend o.tend
 
 -- each field is its option's number in the matches
 abbrev pub HasOptions : List Row → Options → Type 0
@@ -136,6 +140,7 @@ default_options = record {
   format = format.default;
   largest = largest.default;
   live = live.default;
+  tend = tend.default;
 }
 
 -- the defaults, unless memory runs out

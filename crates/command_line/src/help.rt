@@ -32,6 +32,9 @@ pub(crate) const AFTER_HELP: &str = "Lines of a script:
                calls that were accepted
   log          Shows the numbers of the log's segments, rising, the head last: 'log ID ..'
   room         Shows how many seglets of memory are counted, and how many are free: 'used N free N'
+  segments     Shows the segments, one a line: 'ID ROLE LENGTH KEPT REPLICAS', where ROLE is head, opening, closed, victim
+               or survivor, and KEPT is its kept bytes of objects and tombstones; and 'ID waiting 0 0 LEFT' for one that
+               left the log, with LEFT replicas to be freed
   live         Shows the bytes of the live objects, 23 + key + value each, and their limit: 'live BYTES N' or
                'live BYTES none'
   hex ID       Shows the bytes of segment ID in the master's memory, in hexadecimal
@@ -64,6 +67,9 @@ Limits:
   --format. A put that would make the live objects more than --live is refused as Overcommit. If a new master can't
   always load so many bytes, the options don't fit each other. --live=0 sets the most that fit; a smaller --largest
   lets more fit.
+  With --tend, the cleaner makes up to so many steps behind each put, new, cas and del, as 'tend' does. If one of these
+  finds no room, the cleaner first makes room: it is refused as Full only once the cleaner gains nothing more. What the
+  cleaner is refused isn't printed.
   A master accepts as many commands as --history says, gets too. The next master counts from 0 again.
   Up to 64 callers, its seats, share a master: the script is one, and 'clients' has up to 63.
 

@@ -1,4 +1,4 @@
-//! The command line of the program: thirteen options that each take a number. `options` reads them from the words; its
+//! The command line of the program: fourteen options that each take a number. `options` reads them from the words; its
 //! contract gives their numbers, and when the words are refused. The crate uses `clap` alone.
 #![tactic(auto)]
 

@@ -1,4 +1,4 @@
-//! The thirteen options, each with its name, range, default and help.
+//! The fourteen options, each with its name, range, default and help.
 ghost use Rattle.std.specs.Prelude.{◌≡◌, false};
 ghost use Rattle.clap.specs.Words.{IsPlainArg, found_of, one_text, rule_of};
 ghost use Rattle.command_line.specs.CommandLine.{ReadsNumber, number_rule};
@@ -121,10 +121,18 @@ pub(crate) const LIVE: NumberOption = NumberOption {
     help: "Most bytes of live objects; 0 for the most that always load: 0 to 281474976710656 [default: none]",
 };
 
+pub(crate) const TEND: NumberOption = NumberOption {
+    name: "tend",
+    least: 0,
+    most: 65536,
+    default: 0,
+    help: "Most steps of the cleaner behind each put, new, cas and del: 0 to 65536 [default: 0]",
+};
+
 /// All options, in the order of the help.
 pub(crate) const OPTIONS: &[NumberOption] = &[
     BACKUPS, REPLICAS, STEP, SEGMENT, SEGLET, SEGLETS, TABLES, HISTORY, BYTES, OBJECTS, FORMAT,
-    LARGEST, LIVE,
+    LARGEST, LIVE, TEND,
 ];
 
 impl NumberOption {

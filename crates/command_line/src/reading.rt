@@ -8,7 +8,7 @@ ghost use Rattle.command_line.specs.CommandLine.{ramlog, ramlog_faults, ramlog_m
 use crate::help::{ABOUT, AFTER_HELP, USAGE, VERSION};
 use crate::number_option::{
     BACKUPS, BYTES, FORMAT, HISTORY, LARGEST, LIVE, OBJECTS, OPTIONS, REPLICAS, SEGLET, SEGLETS,
-    SEGMENT, STEP, TABLES,
+    SEGMENT, STEP, TABLES, TEND,
 };
 use crate::settings::Options;
 use clap::{ArgMatches, Command, Error};
@@ -64,5 +64,6 @@ fn read_matches(matches: &ArgMatches<'_>) -> Options
         format: FORMAT.number(matches),
         largest: LARGEST.number(matches),
         live: LIVE.number(matches),
+        tend: TEND.number(matches),
     }
 }

@@ -32,4 +32,7 @@ pub struct Options {
     /// more is refused as Overcommit. From 0 to 281474976710656. 0 stands for the greatest limit under which a new
     /// master can always load the table. By default it is 18446744073709551615, which sets no limit.
     pub live: u64,
+    /// The most steps that the cleaner makes behind each command that may change the map. With 0 it makes none. From 0
+    /// to 65536, 0 by default.
+    pub tend: u64,
 }

@@ -28,6 +28,7 @@ pub data LineValue : Type 0 where
   Push : LineValue
   Log : LineValue
   Room : LineValue
+  Segments : LineValue
   LiveBytes : LineValue
   Needs : LineValue
   Hex : (segment : ℕ) → LineValue
@@ -66,6 +67,7 @@ shown_line line.BeginRoll = BeginRoll
 shown_line line.Push = Push
 shown_line line.Log = Log
 shown_line line.Room = Room
+shown_line line.Segments = Segments
 shown_line line.Live = LiveBytes
 shown_line line.Needs = Needs
 shown_line (line.Hex segment) = Hex segment
@@ -113,6 +115,7 @@ words_of BeginRoll = codes "beginroll" ∷ []
 words_of Push = codes "push" ∷ []
 words_of Log = codes "log" ∷ []
 words_of Room = codes "room" ∷ []
+words_of Segments = codes "segments" ∷ []
 words_of LiveBytes = codes "live" ∷ []
 words_of Needs = codes "needs" ∷ []
 words_of (Hex segment) = codes "hex" ∷ decimal segment ∷ []
@@ -159,6 +162,7 @@ IsLine BeginRoll = Unit {0}
 IsLine Push = Unit {0}
 IsLine Log = Unit {0}
 IsLine Room = Unit {0}
+IsLine Segments = Unit {0}
 IsLine LiveBytes = Unit {0}
 IsLine Needs = Unit {0}
 IsLine (Hex segment) = segment < 2 ^ 64

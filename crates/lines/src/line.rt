@@ -35,6 +35,8 @@ pub enum Line<'a> {
     Log,
     /// Show how many seglets of memory are counted, and how many are free.
     Room,
+    /// Show the segments of the master, with what each is to it and how many of its bytes are kept.
+    Segments,
     /// Show the bytes of the live objects, and their limit.
     Live,
     /// Show how many seglets a new master needs for the table that a recovery would find now.

@@ -351,6 +351,7 @@ fn only_name<'a>(name: &[u8], words: Words<'a>) -> Option<Line<'a>>
         name if is(name, "push") => Some(Line::Push),
         name if is(name, "log") => Some(Line::Log),
         name if is(name, "room") => Some(Line::Room),
+        name if is(name, "segments") => Some(Line::Segments),
         name if is(name, "live") => Some(Line::Live),
         name if is(name, "needs") => Some(Line::Needs),
         name if is(name, "crash") => Some(Line::Crash),

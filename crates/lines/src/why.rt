@@ -20,6 +20,7 @@ const COMMANDS: &[(&str, Shape)] = &[
     ("push", Shape::Alone),
     ("log", Shape::Alone),
     ("room", Shape::Alone),
+    ("segments", Shape::Alone),
     ("live", Shape::Alone),
     ("needs", Shape::Alone),
     ("hex", Shape::Segment),

@@ -42,6 +42,7 @@ pub mod FewLost
 pub mod Validity
 pub mod Retired
 pub mod SizeTablets
+mod SegmentRows
 mod HeldBelow
 mod PushedFor
 pub mod LostKept

@@ -12,6 +12,7 @@ pub mod Placed
 pub mod Mends
 pub mod Invariant
 pub mod Shown
+pub mod Segments
 pub mod Left
 pub use Rattle.master_core.specs.cleaner
 pub use Rattle.log_head.specs.log_laws

@@ -21,6 +21,7 @@ mod master;
 mod mending;
 mod pushing;
 mod retiring;
+mod segments;
 mod showing;
 mod tallying;
 
@@ -34,5 +35,6 @@ pub use master_core::{
     Tally,
 };
 pub use segment::{Segment, SegmentFault, read_segment};
+pub use segments::{Role, SegmentRow};
 pub use showing::{Look, Shown};
 pub use versioned_map::{Command, If, Record, Reply};

@@ -7,7 +7,7 @@ use Rattle.lines.specs.declared.line.Line.{Line}
 use Rattle.lines.specs.declared.line.Line.TheVariants as line
 use Rattle.lines.specs.Grammar.{shown_command, shown_line}
 use Rattle.next_master.specs.cluster.Told.{command_of}
-use Rattle.lines.specs.Grammar.{LineValue, Format, Seglets}
+use Rattle.lines.specs.Grammar.{LineValue}
 use Rattle.script.specs.Runs.{Allows, IsOfFleet}
 use Rattle.script.specs.Turns.{RefusesLine}
 use Rattle.script.specs.declared.session.LineFault.TheVariants as line_fault
@@ -29,6 +29,7 @@ has_no_command line.BeginRoll other = refl
 has_no_command line.Push other = refl
 has_no_command line.Log other = refl
 has_no_command line.Room other = refl
+has_no_command line.Segments other = refl
 has_no_command (line.Hex segment) other = refl
 has_no_command (line.Stop takes) other = refl
 has_no_command (line.Fault takes taken) other = refl

@@ -58,6 +58,6 @@ pub line_unraised : (old new : Session) (line : LineValue) (a : Answer) → Runs
     → AreLaterUnraised old → AreLaterUnraised new
 line_unraised old new line a (inl r) d at s within are =
     subst (λ (n : ℕ). IfSome (fleet_of new.node) (AreUnraisedAbove n)) (sym r.used)
-    (node_unraised old.used old.node line new.node a r.makes
+    (node_unraised old.used old.options.tend old.node line new.node a r.makes
     (stands_up_to old.used old.node (config_of old.options old.master) d at s within) are)
 line_unraised old new line a (inr r) d at s within are = recovery_unraised old new line a r are

@@ -21,7 +21,7 @@ use Rattle.next_master.specs.master.master_state.declared.step.Step.TheVariants 
 use Rattle.next_master.specs.master.master_state.declared.step.StepAnswer.TheVariants as step_answer
 use Rattle.next_master.specs.cluster.Told.{IsRecordAt, IsIn, IsCause, IsImageAt, IsPushedAt, IsRecoveredAt, IsUnadopted}
 use Rattle.next_master.specs.cluster.Told.{Tells}
-use Rattle.next_master.specs.cluster.Told.{IsStepAt, IsRollAt, IsCleanAt, IsTendAt, IsStepRefusal, IsDigestAt}
+use Rattle.next_master.specs.cluster.Told.{IsStepAt, IsRollAt, IsCleanAt, IsTendAt, IsStepRefusal, IsDigestAt, AreSegmentsAt}
 use Rattle.next_master.specs.cluster.Told.{IsLiveAt, IsRoomAt}
 use Rattle.next_master.specs.cluster.Told.{IsNeededAt, IsWillAt, AreHeldAt}
 
@@ -70,6 +70,7 @@ module _ (config : Config) (life : Life) where
   rises at line (answer.Counted clients rounds calls) next t = t.2.more
   rises at line (answer.Log ids) next t = as_before at next t.3
   rises at line (answer.Room used free) next t = as_before at next t.3
+  rises at line (answer.Segments rows) next t = as_before at next t.3
   rises at line (answer.Live bytes most) next t = as_before at next t.4
   rises at line (answer.Will parts limits) next t = as_before at next t.3
   rises at line (answer.BadLimits limits) next t = as_before at next t.3
@@ -264,6 +265,8 @@ module _ (config : Config) (opening : State) (history more : List Record) where
       (t.0, t.1, subst (λ (l : Life). IsDigestAt config l ids) (same_front at.made within) t.2, t.3)
   tells_longer at line (answer.Room used free) next within after t =
       (t.0, t.1, subst (λ (l : Life). IsRoomAt config l used free) (same_front at.made within) t.2, t.3)
+  tells_longer at line (answer.Segments rows) next within after t =
+      (t.0, t.1, subst (λ (l : Life). AreSegmentsAt config l rows) (same_front at.made within) t.2, t.3)
   tells_longer at line (answer.Live bytes most) next within after t =
       (t.0, t.1, subst (λ (l : Life). IsLiveAt config l bytes) (same_front at.made within) t.2, t.3, t.4)
   tells_longer at line (answer.Will parts limits) next within after t =

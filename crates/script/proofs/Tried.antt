@@ -8,8 +8,10 @@ use Rattle.next_master.specs.cluster.declared.node.Node.{Node}
 use Rattle.next_master.specs.cluster.Told.{command_of}
 use Rattle.next_master.specs.answers.declared.answer.Answer.TheVariants as answers
 use Rattle.next_master.specs.cluster.declared.tried.Tried.TheVariants as tried
+use Rattle.next_master.specs.cluster.Tended.{MakesTended, TellsLine, steps_behind}
 use Rattle.next_master.specs.cluster.Waits.{MakesTry, Serves}
 use Rattle.cluster_lines.proofs.Lines.{command_makes}
+use Rattle.next_master.proofs.of_cluster.BesideCleaner.{plain_makes}
 use Rattle.next_master.proofs.of_cluster.Tries.{tried_makes, waited_makes}
 use Rattle.script.specs.declared.session.Session.{Session}
 use Rattle.script.specs.Sessions.{AnswersAfterRoll, SessionAnswers, TriesCommand}
@@ -21,14 +23,16 @@ use Rattle.script.proofs.Sessions.{command_keeps, command_keeps_later, command_k
 -- a command whose try has this answer
 pub tried_answers : (first : Session) (node : Node) (line : LineValue) (command : Command)
     → command_of line ≡ Some command → (answer : Answer) → Serves first.node command node (Some answer)
-    → MakesTry first.node command node (Some answer) → SessionAnswers first line (record first { node = node }) answer
-tried_answers first node line command asks answer serves makes = record {
+    → MakesTry first.node command node (Some answer) → steps_behind first.options.tend command ≡ 0
+    → SessionAnswers first line (record first { node = node }) answer
+tried_answers first node line command asks answer serves makes plain = record {
   number = refl;
   options = refl;
   used = refl;
   covers = λ all. all.0;
   answers = λ config number. serves config line asks;
-  makes = command_makes _ line _ answer command asks (tried_makes _ _ command answer makes);
+  makes = command_makes first.options.tend _ line _ answer command asks
+      (plain_makes _ _ _ command answer plain (tried_makes _ _ command answer makes));
   wills = command_keeps first line (record first { node = node }) answer refl command asks;
   word = command_keeps_word first line (record first { node = node }) answer refl command asks;
   later = sym (command_keeps_later line first.later command asks);
@@ -40,15 +44,15 @@ tried_answers first node line command asks answer serves makes = record {
 pub waited_answers : (first : Session) (node : Node) (line : LineValue) (command : Command)
     → command_of line ≡ Some command → (last : Session) (answer : Answer) → Serves first.node command node None
     → MakesTry first.node command node None → AnswersAfterRoll (record first { node = node }) line last answer
-    → SessionAnswers first line last answer
-waited_answers first node line command asks last answer waits makes ran = record {
+    → steps_behind first.options.tend command ≡ 0 → SessionAnswers first line last answer
+waited_answers first node line command asks last answer waits makes ran plain = record {
   number = ran.number;
   options = ran.options;
   used = ran.used;
   covers = λ all. ran.covers all.0;
   answers = λ config number. ran.answers first.node config command asks (waits config);
-  makes = command_makes _ line _ answer command asks
-      (waited_makes _ _ _ command answer makes (ran.makes command asks));
+  makes = command_makes first.options.tend _ line _ answer command asks
+      (plain_makes _ _ _ command answer plain (waited_makes _ _ _ command answer makes (ran.makes command asks)));
   wills = command_keeps first line last answer ran.will command asks;
   word = command_keeps_word first line last answer ran.known command asks;
   later = ran.later ∙ sym (command_keeps_later line first.later command asks);
@@ -62,4 +66,24 @@ pub replied_answers : (first now : Session) (line : LineValue) (place : ℕ)
     → (t : TriesCommand first line now (tried.Replied place)) → SessionAnswers first line now (answers.Reply t.tries.0)
 replied_answers first now line place t =
     subst (λ (s : Session). SessionAnswers first line s (answers.Reply t.tries.0)) (sym t.rest)
-    (tried_answers first now.node line t.command t.asks (answers.Reply t.tries.0) t.tries.2 t.tries.3)
+    (tried_answers first now.node line t.command t.asks (answers.Reply t.tries.0) t.tries.2 t.tries.3 t.plain)
+
+-- a command behind which the cleaner makes steps
+pub tended_answers : (first : Session) (node : Node) (line : LineValue) (command : Command) (steps : ℕ)
+    → command_of line ≡ Some command → steps_behind first.options.tend command ≡ steps → (answer : Answer)
+    → TellsLine first.node command node answer → MakesTended steps first.node command node answer
+    → SessionAnswers first line (record first { node = node }) answer
+tended_answers first node line command steps asks are answer told makes = record {
+  number = refl;
+  options = refl;
+  used = refl;
+  covers = λ all. all.0;
+  answers = λ config number. told config line asks;
+  makes = command_makes first.options.tend _ line _ answer command asks
+      (subst (λ (n : ℕ). MakesTended n first.node command node answer) (sym are) makes);
+  wills = command_keeps first line (record first { node = node }) answer refl command asks;
+  word = command_keeps_word first line (record first { node = node }) answer refl command asks;
+  later = sym (command_keeps_later line first.later command asks);
+  begins = λ all. all.3;
+  shows = command_shows first line answer command asks;
+}

@@ -1,5 +1,5 @@
 -- What a session stands for, and what its lines do to it.
-use Rattle.std.specs.Prelude.{◌≡◌, ◌⊎◌, ℕ, true, false, Some, IfSome, max}
+use Rattle.std.specs.Prelude.{◌≡◌, ◌⊎◌, ◌<◌, ℕ, true, false, Some, IfSome, max}
 use Rattle.backup.specs.State.{new_fleet}
 use Rattle.command_line.specs.declared.settings.Options.{Options}
 use Rattle.lines.specs.Grammar.{LineValue, Will, Recover, Clients, Format, Needs, Seglets}
@@ -32,6 +32,7 @@ use Rattle.lines.specs.declared.line.ReplayOrder.{ReplayOrder}
 use Rattle.lines.specs.declared.line.ReplayOrder.TheVariants.{Forward}
 use Rattle.next_master.specs.Numbers.{AreSpent, IsNextNumber, Renumbers}
 use Rattle.next_master.specs.cluster.declared.tried.Tried.{Tried}
+use Rattle.next_master.specs.cluster.Tended.{steps_behind}
 use Rattle.next_master.specs.cluster.Waits.{IsReplyAt, MakesTryAfterRoll, TriesLine, WaitsForRoll}
 use Rattle.next_master.specs.Recoveries.{Asked, Ends, MakesLimit, Recovers, ShowsNeeds, ask, order_named}
 
@@ -130,7 +131,7 @@ pub record SessionAnswers (old : Session) (line : LineValue) (new : Session) (an
   pub used : new.used ≡ old.used
   pub covers : Stands old → IsCovered new
   pub answers : (config : Config) → IsToldOf old line config → AnswersLine old.node config line new.node answer
-  pub makes : MakesLine old.node line new.node answer
+  pub makes : MakesLine old.options.tend old.node line new.node answer
   pub wills : MakesWill old line new answer
   pub word : KeepsWord old line new answer
   pub later : new.later ≡ later_after line old.later
@@ -207,5 +208,16 @@ IsPrintedAs s (outcome.Replied place) answer =
 pub record TriesCommand (old : Session) (line : LineValue) (new : Session) (tried : Tried) : Type 0 where
   pub command : Command
   pub asks : command_of line ≡ Some command
+  -- the cleaner makes no step behind it
+  pub plain : steps_behind old.options.tend command ≡ 0
   pub tries : TriesLine old.node command new.node tried
   pub rest : new ≡ record old { node = new.node }
+
+-- the cleaner makes no step behind the line's command
+abbrev pub IsPlain : Session → LineValue → Type 0
+IsPlain s line = (command : Command) → command_of line ≡ Some command → steps_behind s.options.tend command ≡ 0
+
+-- the cleaner makes so many steps behind the line's command, and more than none
+abbrev pub IsTended : Session → LineValue → ℕ → Type 0
+IsTended s line steps = (0 < steps) × ((command : Command) → command_of line ≡ Some command
+    → steps_behind s.options.tend command ≡ steps)

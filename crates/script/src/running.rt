@@ -10,7 +10,7 @@ ghost use Rattle.next_master.specs.Configuration.{config_of};
 ghost use Rattle.script.specs.Runs.{RunsScript};
 ghost use Rattle.next_master.specs.answers.declared.answer.Answer.{Answer as AnswerValue};
 ghost use Rattle.script.specs.declared.session.Session.{Session as SessionValue};
-ghost use Rattle.script.specs.Sessions.{BeginsSession, SessionAnswers, Stands, IsPrintedAs, TriesCommand};
+ghost use Rattle.script.specs.Sessions.{BeginsSession, SessionAnswers, Stands, IsPrintedAs, IsTended, TriesCommand};
 ghost use Rattle.script.specs.Turns.{HasValue, IsNoMore, IsPrinted, PrintsText, TakesTurn};
 
 use crate::outcome::Outcome;
@@ -154,6 +154,10 @@ fn run_command<W: Write>(
     ensures { (answer : AnswerValue) × SessionAnswers session.old (shown_command line.entry) session.new answer
         × IsPrinted (W.contents writer.old) (W.contents writer.new) answer result }
 {
+    let steps = session.steps_behind(line);
+    if steps > 0 {
+        return run_tended(writer, session, line, steps);
+    }
     match session.serve(line) {
         Tried::Replied(place) => match session.write_reply(place, writer) {
             Ok(()) => Ok(()),
@@ -161,6 +165,23 @@ fn run_command<W: Write>(
         },
         tried => finish_command(writer, session, line, tried),
     }
+}
+
+/// Runs the line of a command beside the cleaner, which makes up to so many steps behind it, and writes its answer.
+#[inline(never)]
+fn run_tended<W: Write>(
+    writer: &mut W,
+    session: &mut Session,
+    line: CommandLine<'_>,
+    steps: u64,
+) -> Result<(), ScriptFault>
+    requires value { HasValue (shown_command line) }
+    requires tended { IsTended session.old (shown_command line) steps }
+    ensures { (answer : AnswerValue) × SessionAnswers session.old (shown_command line.entry) session.new answer
+        × IsPrinted (W.contents writer.old) (W.contents writer.new) answer result }
+{
+    let outcome = session.serve_tended(line, steps);
+    print(writer, session, &outcome)
 }
 
 /// Goes on with the line of a command that was tried, and writes its answer.

@@ -3,6 +3,7 @@
 ghost use Rattle.std.specs.Prelude.{◌≡◌, ◌≤◌, ℕ, List, length, true, false, None, Some, IfOk, IfErr};
 ghost use Rattle.entry.specs.View.{shown_key};
 ghost use Rattle.history.specs.View.{shown_command as lent_command};
+ghost use Rattle.versioned_map.specs.declared.command.Command.{Command as CommandValue};
 ghost use Rattle.versioned_map.specs.declared.command.Command.TheVariants as asked;
 ghost use Rattle.versioned_map.specs.declared.command.Reply.{Reply as ReplyValue};
 ghost use Rattle.next_master.specs.answers.declared.answer.Answer.{Answer as AnswerValue};
@@ -21,7 +22,8 @@ ghost use Rattle.script.specs.Sessions.{RunsLine, SessionRecovers, IsPrintedAs, 
 ghost use Rattle.script.specs.Sessions.{BeginsSession, SessionAnswers, Stands};
 ghost use Rattle.next_master.specs.cluster.Told.{command_of};
 ghost use Rattle.script.specs.Turns.{HasValue, RefusesLine};
-ghost use Rattle.script.specs.Sessions.{AnswersAfterRoll};
+ghost use Rattle.script.specs.Sessions.{AnswersAfterRoll, IsPlain, IsTended};
+ghost use Rattle.next_master.specs.cluster.Tended.{steps_behind};
 
 use crate::outcome::Outcome;
 use backup::MemoryFleet;
@@ -31,7 +33,7 @@ use command_line::Options;
 use entry::{KeyRef, MAX_VALUE_LEN, NoMemory, Row};
 use lines::{CommandLine, KeyWord, Line, Numbers, ReplayOrder};
 use next_master::answers::{Answer, Limits, WriteFailed};
-use next_master::cluster::{Node, Tried};
+use next_master::cluster::{Node, Notes, Tried};
 use next_master::driving::push_all;
 use next_master::master::{CommandRef, If, Master, Refusal, Step, ValueRef};
 use next_master::recovery::{PlanFault, RecoveryFault};
@@ -105,6 +107,8 @@ pub struct Session {
     /// more. Only tests show that each store can.
     is_known: bool,
     node: Node,
+    /// What the cleaner has noted of the node's master.
+    notes: Notes,
 }
 
 impl Session {
@@ -134,6 +138,7 @@ impl Session {
             will,
             is_known: true,
             node: Node::Up(master),
+            notes: Notes::new(alloc),
         })
     }
 
@@ -192,9 +197,10 @@ impl Session {
             Line::Copy => Ok(self.node.step(Step::Copy)),
             Line::Seal => Ok(self.node.step(Step::Seal)),
             Line::Free => Ok(self.node.step(Step::Free)),
-            Line::Tend { steps } => Ok(self.node.tend(steps)),
+            Line::Tend { steps } => Ok(self.node.tend(&mut self.notes, steps)),
             Line::Log => Ok(self.node.log()),
             Line::Room => Ok(self.node.room()),
+            Line::Segments => Ok(self.node.segments()),
             Line::Live => Ok(self.node.live()),
             Line::Holdings => Ok(self.node.holdings(self.alloc)),
             Line::Clients {
@@ -358,10 +364,41 @@ impl Session {
         Ok(self.node.clean(victims))
     }
 
+    /// How many steps the cleaner makes behind the command of a line: none behind a get.
+    #[inline(always)]
+    pub(crate) fn steps_behind(&self, line: CommandLine<'_>) -> u64
+        ensures { (command : CommandValue) → command_of (shown_command line.entry) ≡ Some command
+            → steps_behind self.now.options.tend command ≡ result }
+    {
+        match line {
+            CommandLine::Get { .. } => 0,
+            _ => self.options.tend,
+        }
+    }
+
+    /// Runs the line of a command, and then up to so many steps of the cleaner. If the command finds no room, the
+    /// cleaner makes some first.
+    #[inline(never)]
+    pub(crate) fn serve_tended(&mut self, line: CommandLine<'_>, steps: u64) -> Outcome
+        requires value { HasValue (shown_command line) }
+        requires tended { IsTended self.old (shown_command line) steps }
+        ensures { (answer : AnswerValue) × IsPrintedAs self.new result answer
+            × SessionAnswers self.old (shown_command line.entry) self.new answer }
+    {
+        match self
+            .node
+            .serve_tended(&line_command(line), &mut self.notes, steps)
+        {
+            Ok(place) => Outcome::Replied(place),
+            Err(answer) => Outcome::Answered(answer),
+        }
+    }
+
     /// Applies the command of a line, which stays where the line lies, and pushes until its record is durable.
     #[inline(always)]
     pub(crate) fn serve(&mut self, line: CommandLine<'_>) -> Tried
         requires value { HasValue (shown_command line) }
+        requires plain { IsPlain self.old (shown_command line) }
         ensures { TriesCommand self.old (shown_command line.entry) self.new result }
     {
         self.node.serve(&line_command(line))

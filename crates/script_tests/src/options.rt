@@ -4,7 +4,7 @@ use script::{Options, options};
 use std::alloc::Global;
 
 /// The numbers of the options, in the order of the help.
-fn numbers(options: &Options) -> [u64; 13] {
+fn numbers(options: &Options) -> [u64; 14] {
     let Options {
         backups,
         replicas,
@@ -22,11 +22,12 @@ fn numbers(options: &Options) -> [u64; 13] {
         format,
         largest,
         live,
+        tend,
         ..
     } = *options;
     [
         backups, replicas, step, segment, seglet, seglets, tables, history, bytes, objects, format,
-        largest, live,
+        largest, live, tend,
     ]
 }
 
@@ -34,11 +35,11 @@ fn numbers(options: &Options) -> [u64; 13] {
 const NONE: u64 = u64::MAX;
 
 /// Command lines, and what they set.
-const ROWS: &[(&[&str], [u64; 13])] = &[
+const ROWS: &[(&[&str], [u64; 14])] = &[
     (
         &["ramlog"],
         [
-            3, 2, 1, 512, 64, 64, 4, 1048576, 1048576, 1000000, 1, NONE, NONE,
+            3, 2, 1, 512, 64, 64, 4, 1048576, 1048576, 1000000, 1, NONE, NONE, 0,
         ],
     ),
     (
@@ -58,14 +59,15 @@ const ROWS: &[(&[&str], [u64; 13])] = &[
             "--largest=24",
             "--live",
             "0",
+            "--tend=65536",
         ],
         [
-            64, 2, 3, 8388608, 64, 32, 7, 1, 1048576, 4294967296, 2, 24, 0,
+            64, 2, 3, 8388608, 64, 32, 7, 1, 1048576, 4294967296, 2, 24, 0, 65536,
         ],
     ),
 ];
 
-fn are_set(alloc: Global, words: &[&str], want: &[u64; 13]) -> bool {
+fn are_set(alloc: Global, words: &[&str], want: &[u64; 14]) -> bool {
     match &options(alloc, words) {
         Ok(options) => numbers(options) == *want,
         Err(_) => false,

@@ -1,6 +1,6 @@
 -- Whatever steps a cleaner makes, no least head of another master is raised.
 use Rattle.std.proofs.Common.{◌≡◌, ℕ, zero, suc, inl, inr, ap, ◌∙◌}
-use Rattle.std.specs.Prelude.{Result, Ok, Err}
+use Rattle.std.specs.Prelude.{Bool, Result, Ok, Err}
 use Rattle.driving.specs.Rolls.{Advances}
 use Rattle.driving.specs.master.World.{World}
 use Rattle.driving.specs.master.master_state.declared.config.Config.{Config}
@@ -9,16 +9,17 @@ use Rattle.driving.specs.master.master_state.declared.step.Refusal.TheVariants a
 use Rattle.driving.specs.master.master_state.declared.step.Step.{Step}
 use Rattle.driving.proofs.LeastHeads.{LeavesOthers, step_leaves}
 use Rattle.tending.specs.declared.policy.Policy.{Policy}
-use Rattle.tending.specs.Tends.{AreTended, Tends}
+use Rattle.tending.specs.Tends.{AreTended, Tends, TendsUntil}
+use Rattle.tending.specs.Rounds.{AreContinued, IsFinished, MakesRound}
 
-leaves_on : (a b c : World) → LeavesOthers a b → LeavesOthers b c → LeavesOthers a c
+pub leaves_on : (a b c : World) → LeavesOthers a b → LeavesOthers b c → LeavesOthers a c
 leaves_on a b c first later = record {
   config = later.config ∙ first.config;
   least = λ m other.
       later.least m (λ is. other (is ∙ ap (λ (x : Config). x.master) first.config)) ∙ first.least m other;
 }
 
-nowhere : (old new : World) → new ≡ old → LeavesOthers old new
+pub nowhere : (old new : World) → new ≡ old → LeavesOthers old new
 nowhere old new same = record {
   config = ap (λ (w : World). w.knows.config) same;
   least = λ m other. ap (λ (w : World). w.fleet.least m) same;
@@ -40,3 +41,26 @@ tends_leave policy most old new (Err r) (count, few, mid, tended, inl (s, is, de
     leaves_on old mid new (tended_leaves count old mid tended) (step_leaves mid new s (Err r) declines)
 tends_leave policy most old new (Err r) (count, few, mid, tended, inr (memory, same)) =
     leaves_on old mid new (tended_leaves count old mid tended) (nowhere mid new same)
+
+continued_leaves : (count : ℕ) (old new : World) → AreContinued count old new → LeavesOthers old new
+continued_leaves zero old new is = nowhere old new is
+continued_leaves (suc count) old new (mid, before, s, is, goes) =
+    leaves_on old mid new (continued_leaves count old mid before) (advance_leaves mid new s goes)
+
+finished_leaves : (old new : World) → IsFinished old new → LeavesOthers old new
+finished_leaves old new is = continued_leaves is.count old new is.continued
+
+until_leaves : (most : ℕ) (old : World) (r : Refusal) (new : World) → TendsUntil most old r new → LeavesOthers old new
+until_leaves most old r new (count, few, mid, tended, inl (s, is, declines, lost)) =
+    leaves_on old mid new (tended_leaves count old mid tended) (step_leaves mid new s (Err r) declines)
+until_leaves most old r new (count, few, mid, tended, inr (memory, same)) =
+    leaves_on old mid new (tended_leaves count old mid tended) (nowhere mid new same)
+
+pub round_leaves : (policy : Policy) (old new : World) (result : Result Bool Refusal)
+    → MakesRound policy old result new → LeavesOthers old new
+round_leaves policy old new (Ok gained) (inl (inl (is, rests), gains)) = finished_leaves old new is
+round_leaves policy old new (Ok gained) (inl (inr (mid, first, begun, s, is, goes, last), gains)) =
+    leaves_on old mid new (finished_leaves old mid first)
+    (leaves_on mid begun new (advance_leaves mid begun s goes) (finished_leaves begun new last))
+round_leaves policy old new (Ok gained) (inr (up, gains)) = tended_leaves up.0 old new up.2
+round_leaves policy old new (Err r) is = until_leaves is.0 old r new is.1

@@ -22,7 +22,7 @@ is_low policy d = is_short policy d || is_crowded policy d
 
 -- the usual policy for a configuration: four segments are spared
 abbrev pub usual_for : Config → Policy
-usual_for c = record { segment = c.segment; seglet = c.seglet; spare = 4; stored = 120; stones = 20 }
+usual_for c = record { segment = c.segment; seglet = c.seglet; spare = 4; stored = 105 }
 
 -- A cleaner may rest: nothing is under way, and it has to begin nothing or no pass may begin.
 pub record MayRest (policy : Policy) (d : MasterData) : Type 0 where

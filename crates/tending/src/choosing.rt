@@ -6,12 +6,16 @@ ghost use Rattle.driving.specs.master.World.{world};
 ghost use Rattle.tending.specs.Low.{MayRest};
 ghost use Rattle.tending.specs.Tends.{IsBegin};
 
+use crate::notes::Notes;
 use crate::policy::{Policy, product, room_of};
 use crate::weighing::{Weight, count_all, weigh_all};
 use driving::master::{Master, Step};
 use entry::{NoMemory, Row};
 use replica::Fleet;
 use std::alloc::Global;
+
+/// The most victims that a pass may have.
+const MOST_VICTIMS: usize = 32;
 
 /// The segment whose compaction gives back most seglets for what it keeps, if one gives back any.
 fn best_of(policy: &Policy, weights: &[Weight]) -> Option<u64> {
@@ -30,28 +34,7 @@ fn best_of(policy: &Policy, weights: &[Weight]) -> Option<u64> {
     best
 }
 
-/// The bytes of all kept tombstones.
-fn stones_of(weights: &[Weight]) -> u64 {
-    let mut stones: u64 = 0;
-    for weight in weights {
-        stones = stones.saturating_add(weight.stones);
-    }
-    stones
-}
-
-/// The bytes that these segments keep.
-fn kept_by(weights: &[Weight], ids: &[u64]) -> u64 {
-    let mut kept: u64 = 0;
-    for weight in weights {
-        if ids.contains(&weight.id) {
-            kept = kept.saturating_add(weight.kept);
-        }
-    }
-    kept
-}
-
-/// Whether a pass comes before a compaction: the log has many segments for its memory or for its digest, or many
-/// tombstones.
+/// Whether a pass comes before a compaction: the log has many segments for its memory or for its digest.
 fn wants_pass<F: Fleet>(master: &Master<F>, policy: &Policy, weights: &[Weight]) -> bool {
     let room = room_of(master);
     let memory = room
@@ -59,32 +42,61 @@ fn wants_pass<F: Fleet>(master: &Master<F>, policy: &Policy, weights: &[Weight])
         .saturating_add(room.free)
         .saturating_mul(policy.seglet);
     let stored = (weights.len() as u64).saturating_mul(policy.segment);
-    let unused = memory.saturating_sub(master.live());
     policy.is_crowded_by(weights.len().saturating_add(1))
         || product(stored, 100) >= product(policy.stored, memory)
-        || product(stones_of(weights), 100) >= product(policy.stones, unused)
 }
 
-/// The first of the chosen segments, as many as fill the survivors that leave a put's roll its memory. It is at least
-/// one, if one is chosen.
-fn first_of(
+/// The victims of a pass, with the sums of what they keep and of the seglets that they give back.
+#[derive(Drop)]
+struct Choice {
+    victims: Vec<u64>,
+    kept: u64,
+    seglets: u64,
+}
+
+/// The segment that keeps least for what it gives back, of those that keep so many bytes at most and aren't taken yet.
+fn cheapest(policy: &Policy, weights: &[Weight], most: u64, taken: &[u64]) -> Option<Weight> {
+    let mut best: Option<Weight> = None;
+    let mut best_kept: u64 = 1;
+    let mut best_gives: u64 = 0;
+    for weight in weights {
+        let gives = policy.gives(weight);
+        let is_better = product(weight.kept, best_gives) < product(best_kept, gives);
+        if is_better && weight.kept <= most && !taken.contains(&weight.id) {
+            best = Some(*weight);
+            best_kept = weight.kept;
+            best_gives = gives;
+        }
+    }
+    best
+}
+
+/// The victims of a pass, by what they keep for what they give back: as many as fill the survivors that leave a put's
+/// roll its memory.
+fn choose(
     policy: &Policy,
     alloc: Global,
     free: u64,
     weights: &[Weight],
-    chosen: &[u64],
-) -> Result<Vec<u64>, NoMemory> {
+) -> Result<Choice, NoMemory> {
+    let mut choice = Choice {
+        victims: Vec::new(alloc),
+        kept: 0,
+        seglets: 0,
+    };
     let space = policy.space_of(policy.survivors_in(free));
-    let mut victims = Vec::with_capacity(alloc, chosen.len())?;
-    let mut kept: u64 = 0;
-    for id in chosen {
-        kept = kept.saturating_add(kept_by(weights, &[*id]));
-        if kept > space && !victims.is_empty() {
-            return Ok(victims);
+    for _ in 0..MOST_VICTIMS {
+        let left = space.saturating_sub(choice.kept);
+        match cheapest(policy, weights, left, choice.victims.as_slice()) {
+            Some(weight) => {
+                choice.victims.push(weight.id)?;
+                choice.kept = choice.kept.saturating_add(weight.kept);
+                choice.seglets = choice.seglets.saturating_add(policy.seglets(weight.len));
+            }
+            None => return Ok(choice),
         }
-        victims.push(*id)?;
     }
-    Ok(victims)
+    Ok(choice)
 }
 
 /// The step that compacts this segment, if there is one.
@@ -97,38 +109,41 @@ fn compaction(id: Option<u64>) -> Option<Step>
     }
 }
 
-/// A pass begins, or a segment is compacted if that gives back something and the pass would leave less than two whole
-/// segments free. The choice may begin as a pass. If the log has no places for a pass over its first segments, the pass
-/// takes the whole choice.
-fn begin_pass<F: Fleet>(
-    master: &Master<F>,
+/// The pass of this choice, if it may begin and gives back a seglet. If it would leave less than two whole segments
+/// free, this segment is compacted instead, if there is one.
+fn pass_of(
     policy: &Policy,
-    weights: &[Weight],
-    chosen: Vec<u64>,
-) -> Result<Step, NoMemory>
-    ensures { IfOk result IsBegin }
+    free: u64,
+    listed: u64,
+    choice: Choice,
+    best: Option<u64>,
+) -> Option<Step>
+    ensures { IfSome result IsBegin }
 {
-    let free = room_of(master).free;
-    let best = best_of(policy, weights);
-    let alloc = *chosen.allocator();
-    let victims = first_of(policy, alloc, free, weights, chosen.as_slice())?;
-    let survivors = policy.survivors_for(kept_by(weights, victims.as_slice()));
+    let survivors = policy.survivors_for(choice.kept);
+    let count = choice.victims.len() as u64;
+    let fills = policy.seglets(choice.kept).saturating_add(survivors);
+    let has_places = policy.has_places(listed.saturating_sub(count).saturating_add(survivors));
+    if count == 0
+        || choice.seglets <= fills
+        || !has_places
+        || !policy.has_memory_for(free, survivors)
+    {
+        return None;
+    }
     if policy.leaves_little(free, survivors) {
         if let Some(id) = best {
-            return Ok(Step::Compact(id));
+            return Some(Step::Compact(id));
         }
     }
-    let left = (weights.len() as u64).saturating_sub(victims.len() as u64);
-    if policy.has_places(left.saturating_add(survivors)) {
-        return Ok(Step::BeginClean(Row::new(victims)));
-    }
-    Ok(Step::BeginClean(Row::new(chosen)))
+    Some(Step::BeginClean(Row::new(choice.victims)))
 }
 
-/// What begins if nothing is under way. It counts segments, and changes nothing else.
+/// What begins if nothing is under way. It notes and counts segments, and changes nothing else.
 pub(crate) fn begin<F: Fleet>(
     master: &mut Master<F>,
     policy: &Policy,
+    notes: &mut Notes,
 ) -> Result<Option<Step>, NoMemory>
     requires { pending_step master.old.knows ≡ None }
     ensures some { IfOk result (λ step. IfSome step IsBegin) }
@@ -138,26 +153,40 @@ pub(crate) fn begin<F: Fleet>(
     if !policy.is_low(master)? {
         return Ok(None);
     }
-    count_all(master)?;
-    begin_by(master, policy)
+    if notes.are_behind(master) {
+        count_all(master)?;
+        notes.update(master)?;
+    }
+    begin_by(master, policy, notes)
 }
 
 /// What begins if nothing is under way and memory is short or the digest crowded. Nothing changes.
-fn begin_by<F: Fleet>(master: &Master<F>, policy: &Policy) -> Result<Option<Step>, NoMemory>
+fn begin_by<F: Fleet>(
+    master: &Master<F>,
+    policy: &Policy,
+    notes: &Notes,
+) -> Result<Option<Step>, NoMemory>
     requires { pending_step master.now.knows ≡ None }
     ensures some { IfOk result (λ step. IfSome step IsBegin) }
     ensures none { IfOk result (λ step. step ≡ None → MayRest policy.now master.now.knows) }
 {
-    let chosen = master.choose()?;
-    let weights = weigh_all(master, *chosen.allocator())?;
+    let weights = weigh_all(master, notes)?;
     let best = best_of(policy, weights.as_slice());
     if let Some(id) = best {
         if !wants_pass(master, policy, weights.as_slice()) {
             return Ok(Some(Step::Compact(id)));
         }
     }
+    let free = room_of(master).free;
+    let choice = choose(policy, notes.alloc(), free, weights.as_slice())?;
+    if let Some(step) = pass_of(policy, free, weights.len() as u64, choice, best) {
+        return Ok(Some(step));
+    }
+    if let Some(id) = best {
+        return Ok(Some(Step::Compact(id)));
+    }
     match master.next_step()? {
-        Some(_) => Ok(Some(begin_pass(master, policy, weights.as_slice(), chosen)?)),
-        None => Ok(compaction(best)),
+        Some(_) => Ok(Some(Step::BeginClean(Row::new(master.choose()?)))),
+        None => Ok(None),
     }
 }

@@ -21,8 +21,6 @@ pub struct Policy {
     pub spare: u64,
     /// A pass comes first if the closed segments, each counted whole, are so many percent of memory or more.
     pub stored: u64,
-    /// A pass comes first if the kept tombstones are so many percent or more of the memory that isn't live.
-    pub stones: u64,
 }
 
 /// The seglets of memory that a master counts, and those that are free.
@@ -61,8 +59,7 @@ impl Policy {
             segment: config.segment,
             seglet: config.seglet,
             spare: 4,
-            stored: 120,
-            stones: 20,
+            stored: 105,
         }
     }
 
@@ -95,7 +92,7 @@ impl Policy {
     }
 
     /// The seglets of so many bytes.
-    fn seglets(&self, bytes: u64) -> u64 {
+    pub(crate) fn seglets(&self, bytes: u64) -> u64 {
         bytes.div_ceil(self.seglet.max(1))
     }
 
@@ -104,6 +101,19 @@ impl Policy {
         let before = self.seglets(weight.len);
         let after = self.seglets(weight.kept.saturating_add(weight.opening));
         before.saturating_sub(after)
+    }
+
+    /// How many bytes of memory a pass over the segment gives back, but for what is kept of it.
+    pub(crate) fn gives(&self, weight: &Weight) -> u64 {
+        self.seglets(weight.len)
+            .saturating_mul(self.seglet)
+            .saturating_sub(weight.kept)
+            .saturating_add(1)
+    }
+
+    /// Whether there is memory for so many survivors and the head of the commit.
+    pub(crate) fn has_memory_for(&self, free: u64, survivors: u64) -> bool {
+        product(free, self.seglet) >= product(survivors.saturating_add(1), self.segment)
     }
 
     /// How many survivors a pass may have if so many seglets are free: a put's roll finds two whole segments free then,

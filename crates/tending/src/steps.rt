@@ -9,20 +9,25 @@ ghost use Rattle.tending.specs.Low.{is_low, MayRest};
 ghost use Rattle.tending.specs.Tends.{IsTendStep, IsTended, TendsUntil};
 
 use crate::choosing::begin;
+use crate::notes::Notes;
 use crate::policy::Policy;
 use driving::master::{Master, Refusal, Step};
 use entry::NoMemory;
 use replica::Fleet;
 
 /// The next step of the cleaner, if there is one. It counts segments, and changes nothing else.
-fn next<F: Fleet>(master: &mut Master<F>, policy: &Policy) -> Result<Option<Step>, NoMemory>
+fn next<F: Fleet>(
+    master: &mut Master<F>,
+    policy: &Policy,
+    notes: &mut Notes,
+) -> Result<Option<Step>, NoMemory>
     ensures some { IfOk result (λ step. IfSome step (IsTendStep master.new.knows)) }
     ensures none { IfOk result (λ step. step ≡ None → MayRest policy.now master.new.knows) }
     ensures same { world F.state master.new ≡ world F.state master.old }
 {
     match master.pending_step() {
         Some(step) => Ok(Some(step)),
-        None => begin(master, policy),
+        None => begin(master, policy, notes),
     }
 }
 
@@ -33,9 +38,14 @@ fn next<F: Fleet>(master: &mut Master<F>, policy: &Policy) -> Result<Option<Step
 /// After any other refusal, what was done stays done.
 ///
 /// Cost: a step is one entry, one op of one backup, one segment that is compacted, or one pass that begins. Whatever
-/// begins is chosen by what is counted of the segments. After a commit their tombstones are counted anew, by a walk
-/// over the segments that have some.
-pub fn tend<F: Fleet>(master: &mut Master<F>, policy: &Policy, most: u64) -> Result<u64, Refusal>
+/// begins is chosen by what is counted and noted of the segments, once for each. A segment is read once, when the
+/// cleaner first looks at it behind the roll that closed it.
+pub fn tend<F: Fleet>(
+    master: &mut Master<F>,
+    policy: &Policy,
+    notes: &mut Notes,
+    most: u64,
+) -> Result<u64, Refusal>
     ensures tended { IfOk result (λ made.
         IsTended most made (world F.state master.old) (world F.state master.new)) }
     ensures refused { IfErr result (λ r. TendsUntil most (world F.state master.old) r (world F.state master.new)) }
@@ -46,7 +56,7 @@ pub fn tend<F: Fleet>(master: &mut Master<F>, policy: &Policy, most: u64) -> Res
         made < most → is_low policy.now master.new.knows ≡ true → next_step master.new.knows ≡ None) }
 {
     for made in 0..most {
-        let Some(step) = next(master, policy)? else {
+        let Some(step) = next(master, policy, notes)? else {
             return Ok(made);
         };
         if let Err(refusal) = master.step(step) {

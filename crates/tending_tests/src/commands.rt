@@ -7,7 +7,7 @@ use entry::{Key, Value};
 use std::alloc::Global;
 use tending::driving::master::{Command, If, Master, Refusal, Step};
 use tending::driving::{push_all, roll_all};
-use tending::{Policy, tend};
+use tending::{Notes, Policy, tend};
 
 /// A command on a key of table 1.
 pub enum Ask {
@@ -62,6 +62,7 @@ fn stopped(
     row: &Row,
 ) -> Option<Refusal> {
     let (asks, count, most, fault, _) = row;
+    let mut notes = Notes::new(alloc);
     master.fault_at(*fault, true);
     for place in 0..*count {
         let Some(ask) = asks.get(place % asks.len().max(1)) else {
@@ -70,7 +71,7 @@ fn stopped(
         if let Err(refusal) = serve(alloc, master, ask) {
             return Some(refusal);
         }
-        if let Err(refusal) = tend(master, policy, *most) {
+        if let Err(refusal) = tend(master, policy, &mut notes, *most) {
             return Some(refusal);
         }
     }

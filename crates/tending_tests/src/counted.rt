@@ -5,7 +5,7 @@ use crate::masters::{config_of, master_of};
 use backup::MemoryFleet;
 use std::alloc::Global;
 use tending::driving::master::{Look, Master, Shown};
-use tending::{Policy, tend};
+use tending::{Notes, Policy, tend};
 
 /// Whether a segment is counted, and a count anew gives the same.
 fn is_counted(master: &mut Master<MemoryFleet>, id: u64) -> bool {
@@ -48,11 +48,15 @@ fn stay_counted(alloc: Global, asks: &[Ask], count: usize) -> bool {
     let Some(mut master) = master_of(alloc, config) else {
         return false;
     };
+    let mut notes = Notes::new(alloc);
     for place in 0..count {
         let Some(ask) = asks.get(place % asks.len().max(1)) else {
             return false;
         };
-        if serve(alloc, &mut master, ask).is_err() || tend(&mut master, &policy, 16).is_err() {
+        if serve(alloc, &mut master, ask).is_err() {
+            return false;
+        }
+        if tend(&mut master, &policy, &mut notes, 16).is_err() {
             return false;
         }
         if place % 7 == 0 && !are_counted(&mut master) {

@@ -15,4 +15,5 @@ returns c = record {
   format = c.number-11.ensures;
   largest = c.number-12.ensures;
   live = c.number-13.ensures;
+  tend = c.number-14.ensures;
 }

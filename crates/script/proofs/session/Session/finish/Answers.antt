@@ -19,7 +19,7 @@ returns-in-Replied c = λ first t.
       answer,
       (tries.0, tries.1, refl),
       subst (λ (s : Session). SessionAnswers first line s answer) (sym t.rest)
-          (tried_answers first now.node line t.command t.asks answer tries.2 tries.3),
+          (tried_answers first now.node line t.command t.asks answer tries.2 tries.3 t.plain),
     )
 
 pub returns-in-Waits : goal.returns-in-Waits
@@ -32,7 +32,7 @@ returns-in-Waits c = λ first t.
     let ran = subst (λ (s : Session). AnswersAfterRoll s line c.run_after_roll.new.self last.0) t.rest last.2 in (
       last.0,
       last.1,
-      waited_answers first now.node line t.command t.asks c.run_after_roll.new.self last.0 tries.0 tries.1 ran,
+      waited_answers first now.node line t.command t.asks c.run_after_roll.new.self last.0 tries.0 tries.1 ran t.plain,
     )
 
 pub refuse-requires : goal.refuse-requires
@@ -52,7 +52,7 @@ returns-in-Refused c = λ first t.
       refl,
       subst (λ (s : Session). SessionAnswers first line s c.refuse.result)
           (sym (ap (λ (s : Session). record s { node = last }) t.rest))
-          (tried_answers first last line t.command t.asks c.refuse.result told.0 told.1),
+          (tried_answers first last line t.command t.asks c.refuse.result told.0 told.1 t.plain),
     )
 
 pub returns-in-Down : goal.returns-in-Down
@@ -64,5 +64,5 @@ returns-in-Down c = λ first t.
       answers.Down,
       refl,
       subst (λ (s : Session). SessionAnswers first line s answers.Down) (sym t.rest)
-          (tried_answers first now.node line t.command t.asks answers.Down tries.0 tries.1),
+          (tried_answers first now.node line t.command t.asks answers.Down tries.0 tries.1 t.plain),
     )

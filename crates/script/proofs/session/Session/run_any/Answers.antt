@@ -187,6 +187,21 @@ returns-in-Log-clause-ran g c = rw c.in-Log.is (inl (record {
   shows = tt;
 }))
 
+pub returns-in-Segments-clause-ran : goal.returns-in-Segments-clause-ran
+returns-in-Segments-clause-ran g c = rw c.in-Segments.is (inl (record {
+  number = refl;
+  options = refl;
+  used = refl;
+  covers = λ all. all.0;
+  answers = λ config number. c.segments.ensures.told config;
+  makes = (refl, c.segments.ensures.shown);
+  wills = refl;
+  word = refl;
+  later = refl;
+  begins = λ all. all.3;
+  shows = tt;
+}))
+
 pub returns-in-Room-clause-ran : goal.returns-in-Room-clause-ran
 returns-in-Room-clause-ran g c = rw c.in-Room.is (inl (record {
   number = refl;

@@ -1,0 +1,212 @@
+//! What a cleaner has noted of the tombstones of closed segments.
+
+use crate::weighing::listed;
+use driving::master::{Look, Master, Shown};
+use entry::{EntryRef, NoMemory, TOMBSTONE_LEN};
+use replica::Fleet;
+use segment::SegmentRef;
+use std::alloc::Global;
+use std::marker::Model;
+
+/// The bytes of the tombstones that name this segment.
+#[derive(Clone, Copy)]
+struct Named {
+    segment: u64,
+    bytes: u64,
+}
+
+/// What is noted of a closed segment.
+#[derive(Drop)]
+pub(crate) struct Note {
+    pub id: u64,
+    /// The bytes of its opening.
+    pub opening: u64,
+    /// The bytes of its tombstones that name a segment of the digest in force.
+    pub stones: u64,
+    /// These tombstones, by the rising id of the segment that they name.
+    named: Vec<Named>,
+}
+
+/// What a cleaner has noted of a master's closed segments: how long their openings are, and which segments their
+/// tombstones name. So it reads each closed segment once, and none again after the commit of a pass. Notes decide what
+/// is cleaned first, and never whether it is right: contracts see nothing of them.
+#[derive(Drop)]
+pub struct Notes {
+    /// The number of the master, or 0 at first.
+    master: u64,
+    /// The id of the head when the notes were last brought up to date.
+    head: u64,
+    /// What is noted of each closed segment of the digest in force, by rising id.
+    notes: Vec<Note>,
+}
+
+impl Model for Notes {
+    ghost Value = { Unit {0} };
+
+    ghost view = { λ n. tt };
+}
+
+impl Notes {
+    /// Makes empty notes. The call takes no memory.
+    pub fn new(alloc: Global) -> Notes {
+        Notes {
+            master: 0,
+            head: 0,
+            notes: Vec::new(alloc),
+        }
+    }
+
+    /// Where their memory comes from.
+    pub(crate) fn alloc(&self) -> Global {
+        *self.notes.allocator()
+    }
+
+    /// What is noted, by rising id.
+    pub(crate) fn as_slice(&self) -> &[Note] {
+        self.notes.as_slice()
+    }
+
+    /// Whether the master has another head than when the notes were last brought up to date, or is another master. Its
+    /// digest in force is the same if it hasn't.
+    pub(crate) fn are_behind<F: Fleet>(&self, master: &Master<F>) -> bool {
+        self.master != master.number() || self.head != master.head()
+    }
+
+    /// Brings the notes up to date. What left the digest in force is taken out, and each segment that was closed since
+    /// is read. The notes of another master are dropped.
+    pub(crate) fn update<F: Fleet>(&mut self, master: &Master<F>) -> Result<(), NoMemory> {
+        if self.master != master.number() {
+            self.master = master.number();
+            self.notes.clear();
+        }
+        // If memory runs out, they stay behind.
+        self.head = 0;
+        let row = listed(master)?;
+        let ids = row.as_slice();
+        let gone = self.gone(ids)?;
+        self.forget(gone.as_slice());
+        for id in ids {
+            if *id != master.head() {
+                self.add(master, ids, *id)?;
+            }
+        }
+        self.head = master.head();
+        Ok(())
+    }
+
+    /// The noted segments that aren't among these.
+    fn gone(&self, ids: &[u64]) -> Result<Vec<u64>, NoMemory> {
+        let mut gone = Vec::new(self.alloc());
+        for note in self.notes.iter() {
+            if ids.binary_search(&note.id).is_err() {
+                gone.push(note.id)?;
+            }
+        }
+        Ok(gone)
+    }
+
+    /// Takes out the notes of these segments. The tombstones that name one of them are kept no more.
+    fn forget(&mut self, gone: &[u64]) {
+        if gone.is_empty() {
+            return;
+        }
+        self.notes.retain(|note| !gone.contains(&note.id));
+        for note in self.notes.iter_mut() {
+            note.forget(gone);
+        }
+    }
+
+    /// Notes a closed segment, if it isn't noted yet.
+    fn add<F: Fleet>(&mut self, master: &Master<F>, ids: &[u64], id: u64) -> Result<(), NoMemory> {
+        match self.notes.binary_search_by_key(&id, |note| note.id) {
+            Ok(_) => Ok(()),
+            Err(at) => {
+                let note = note_of(self.alloc(), master, ids, id)?;
+                self.notes.insert(at, note)?;
+                Ok(())
+            }
+        }
+    }
+}
+
+impl Note {
+    /// The tombstones that name one of these segments are kept no more.
+    fn forget(&mut self, gone: &[u64]) {
+        for id in gone {
+            if let Ok(at) = self.named.binary_search_by_key(id, |named| named.segment) {
+                self.stones = self.stones.saturating_sub(self.named[at].bytes);
+                self.named[at].bytes = 0;
+            }
+        }
+    }
+}
+
+/// Reads a closed segment of a digest that lists these.
+fn note_of<F: Fleet>(
+    alloc: Global,
+    master: &Master<F>,
+    ids: &[u64],
+    id: u64,
+) -> Result<Note, NoMemory> {
+    let mut named = match &master.look(Look::Image(id)) {
+        Ok(Shown::Image(Some(image))) => all_named(alloc, image.as_slice())?,
+        Ok(_) => Vec::new(alloc),
+        Err(fault) => return Err(*fault),
+    };
+    named.sort_unstable_by_key(|one| one.segment);
+    let named = summed(alloc, named.as_slice(), ids)?;
+    Ok(Note {
+        id,
+        opening: master.opening_len(id).unwrap_or(0) as u64,
+        stones: bytes_of(named.as_slice()),
+        named,
+    })
+}
+
+/// The tombstones of a segment's bytes, each by itself.
+fn all_named(alloc: Global, bytes: &[u8]) -> Result<Vec<Named>, NoMemory> {
+    let mut named = Vec::new(alloc);
+    let Ok(segment) = SegmentRef::read(bytes) else {
+        return Ok(named);
+    };
+    for entry in segment.entries() {
+        let entry: EntryRef<'_> = entry;
+        if let EntryRef::Tombstone(tombstone) = &entry {
+            named.push(Named {
+                segment: tombstone.segment,
+                bytes: (TOMBSTONE_LEN + tombstone.key.bytes.len()) as u64,
+            })?;
+        }
+    }
+    Ok(named)
+}
+
+/// One sum for each of these segments that is named.
+fn summed(alloc: Global, named: &[Named], ids: &[u64]) -> Result<Vec<Named>, NoMemory> {
+    let mut sums = Vec::new(alloc);
+    for one in named {
+        if !add_to_last(&mut sums, *one) && ids.binary_search(&one.segment).is_ok() {
+            sums.push(*one)?;
+        }
+    }
+    Ok(sums)
+}
+
+/// Adds to the last sum if that is of the same segment. False if it isn't.
+fn add_to_last(sums: &mut Vec<Named>, one: Named) -> bool {
+    let count = sums.len();
+    if count == 0 || sums[count - 1].segment != one.segment {
+        return false;
+    }
+    sums[count - 1].bytes = sums[count - 1].bytes.saturating_add(one.bytes);
+    true
+}
+
+/// The bytes of all of them.
+fn bytes_of(named: &[Named]) -> u64 {
+    let mut bytes: u64 = 0;
+    for one in named {
+        bytes = bytes.saturating_add(one.bytes);
+    }
+    bytes
+}
