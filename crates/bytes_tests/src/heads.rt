@@ -16,7 +16,7 @@ fn append(head: &mut Head, object: &[u8]) -> bool {
 }
 
 /// Whether the opening of the head has this many bytes, and the first unit that some replica lacks is of this record.
-fn is_at(head: &Head, len: usize, missing: Option<usize>) -> bool {
+fn is_at(head: &Head, len: usize, missing: Option<u64>) -> bool {
     head.end_of(0) == len && head.first_missing() == missing
 }
 

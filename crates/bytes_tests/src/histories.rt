@@ -1,4 +1,4 @@
-//! A history gives back what it packed, in each of its blocks.
+//! A history gives back what it packed, in each of its blocks, and forgets its first records by blocks.
 
 ghost use Rattle.std.specs.Prelude.{IfSome};
 ghost use Rattle.history.specs.Packing.{HasOneValue};
@@ -11,6 +11,27 @@ use versioned_map::{Command, If, Record, Reply};
 
 /// More than two blocks of rows, and than two of text.
 const RECORDS: usize = 2_200;
+
+/// A second lot of records ends here.
+const TWICE: usize = 4_400;
+
+/// A call of `forget` with a count, and how many records are then forgotten and kept.
+#[derive(Clone, Copy)]
+struct Cut(usize, usize, usize);
+
+/// All that can be forgotten of both lots.
+const LAST: Cut = Cut(TWICE, 4_096, 304);
+
+/// The cuts of a history of `RECORDS` records.
+const CUTS: &[Cut] = &[
+    Cut(0, 0, 2_200),
+    Cut(1_023, 0, 2_200),
+    Cut(1_024, 1_024, 1_176),
+    Cut(2_047, 1_024, 1_176),
+    Cut(2_048, 2_048, 152),
+    Cut(RECORDS, 2_048, 152),
+    Cut(usize::MAX, 2_048, 152),
+];
 
 /// Which record has a value that is longer than a block of text.
 const LONG: usize = 1_500;
@@ -111,9 +132,9 @@ fn same_record(one: &Record, other: &Record) -> bool {
         && same_reply(&one.reply, &other.reply)
 }
 
-/// Packs all records. Whether it could.
-fn fill(alloc: Global, history: &mut History) -> bool {
-    for number in 0..RECORDS {
+/// Packs the records of these numbers. Whether it could.
+fn fill(alloc: Global, history: &mut History, from: usize, to: usize) -> bool {
+    for number in from..to {
         let Some(record) = record_of(alloc, number) else {
             return false;
         };
@@ -139,9 +160,9 @@ fn gives_back(alloc: Global, history: &History, number: usize) -> bool {
     }
 }
 
-/// Whether the history gives back all records as they were.
-fn gives_all_back(alloc: Global, history: &History) -> bool {
-    for number in 0..RECORDS {
+/// Whether the history gives back the records of these numbers as they were.
+fn gives_all_back(alloc: Global, history: &History, from: usize, to: usize) -> bool {
+    for number in from..to {
         if !gives_back(alloc, history, number) {
             return false;
         }
@@ -149,13 +170,58 @@ fn gives_all_back(alloc: Global, history: &History) -> bool {
     true
 }
 
+/// Whether the history finds none of its first records.
+fn finds_none(history: &History, first: usize) -> bool {
+    for number in 0..first {
+        if history.get(number).is_some() || history.reply(number).is_some() {
+            return false;
+        }
+    }
+    true
+}
+
+/// Whether the history has forgotten as much as the cut says, keeps its other records up to `len`, and no more.
+fn is_cut(alloc: Global, history: &History, cut: &Cut, len: usize) -> bool {
+    history.forgotten() == cut.1
+        && history.len() == len
+        && history.get(len).is_none()
+        && finds_none(history, cut.1)
+        && gives_all_back(alloc, history, cut.1, len)
+}
+
+/// Whether a history of all records forgets as the cut says, then takes as many records more, and forgets most of them.
+fn forgets(alloc: Global, history: &mut History, cut: &Cut) -> bool {
+    if !fill(alloc, history, 0, RECORDS) {
+        return false;
+    }
+    history.forget(cut.0);
+    if history.kept() != cut.2 || !is_cut(alloc, history, cut, RECORDS) {
+        return false;
+    }
+    if !fill(alloc, history, RECORDS, TWICE) || !is_cut(alloc, history, cut, TWICE) {
+        return false;
+    }
+    history.forget(TWICE);
+    is_cut(alloc, history, &LAST, TWICE) && history.kept() == LAST.2
+}
+
 #[test]
 fn a_history_gives_back_its_records(rt: HostRuntime) -> Result<(), Fail> {
     let mut history = History::new(rt.alloc());
     assert!(rt; history.is_empty());
-    assert!(rt; fill(rt.alloc(), &mut history));
+    assert!(rt; fill(rt.alloc(), &mut history, 0, RECORDS));
     assert!(rt; history.len() == RECORDS);
     assert!(rt; history.get(RECORDS).is_none());
-    assert!(rt; gives_all_back(rt.alloc(), &history));
+    assert!(rt; gives_all_back(rt.alloc(), &history, 0, RECORDS));
+    Ok(())
+}
+
+#[test]
+fn a_history_forgets_its_first_records(rt: HostRuntime) -> Result<(), Fail> {
+    for cut in CUTS {
+        let mut history = History::new(rt.alloc());
+        let done = forgets(rt.alloc(), &mut history, cut);
+        assert!(rt; done, "{}", cut.0);
+    }
     Ok(())
 }

@@ -12,6 +12,7 @@ use Rattle.master.specs.Keeps.{Keeps}
 use Rattle.master.specs.Steps.{Declines, Steps}
 use Rattle.master.specs.World.{World}
 use Rattle.driving.specs.Served.{IsSpent, LivesOn}
+use Rattle.master.proofs.Keeping.{steps_remember}
 use Rattle.driving.proofs.MasterSteps.{begun_history, compacted_history, pushed_history, spent_begin, spent_compact}
 use Rattle.driving.proofs.MasterSteps.{spent_push}
 use Rattle.driving.proofs.PassSteps.{clean_history, copied_history, freed_history, sealed_history, spent_clean}
@@ -50,6 +51,7 @@ step_goes_on s none old new r steps kept = record {
   origin = kept.origin;
   durable = kept.durable;
   history = same_history s none old new r steps ∙ sym (append-nil old.knows.history);
+  forgotten = steps_remember old new s r steps;
 }
 
 -- only a step that hands an op to a backup is refused as spent, and by a fleet that is

@@ -30,6 +30,7 @@ use Rattle.master.specs.World.{World}
 use Rattle.driving.specs.Rolls.{is_lost}
 use Rattle.driving.specs.Served.{LivesOn, IsSpent, record_of, is_of_push}
 pub use Rattle.driving.specs.GoesOn.{goes_nowhere}
+use Rattle.master.proofs.Keeping.{steps_remember}
 use Rattle.driving.proofs.Outlines.{fixed, mended_fixed, pushed_fixed, turned_fixed}
 
 -- ---- a push
@@ -75,6 +76,7 @@ push_goes_on from old new r before push kept =
       origin = kept.origin ∙ before.origin;
       durable = omega arith;
       history = pushed_history old new r push ∙ before.history;
+      forgotten = steps_remember old new Push r push ∙ before.forgotten;
     }
 
 -- what the test of a push refuses as
@@ -242,6 +244,7 @@ applied_goes_on old new command place reply is kept =
         durable = kept.durable;
         history = ap (λ (l : FailData). l.history) is.0.log
             ∙ ap (λ (x : Reply). old.knows.history ++ record_of command x) (sym same);
+        forgotten = steps_remember old new (Apply 0 command) (Ok (Applied place reply)) is;
       },
       ap place_in is.0.told,
     )

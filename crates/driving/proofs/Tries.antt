@@ -28,6 +28,7 @@ served_at old mid new command at reply applied keeps goes_on durable pushed =
           origin = goes_on.origin ∙ first.0.origin;
           durable = (let before = first.0.durable in let after = goes_on.durable in omega arith);
           history = goes_on.history ∙ append-nil mid.knows.history ∙ first.0.history;
+          forgotten = goes_on.forgotten ∙ first.0.forgotten;
         },
         subst (λ (n : ℕ). n < durable_of (log_of new.knows)) first.1 durable,
       );

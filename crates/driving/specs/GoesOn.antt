@@ -6,7 +6,13 @@ use Rattle.master.specs.master_state.Data.{MasterData}
 use Rattle.driving.specs.Served.{LivesOn, StaysLoaded}
 
 pub goes_nowhere : (d : MasterData) → LivesOn d d []
-goes_nowhere d = record { config = refl; origin = refl; durable = le_refl _; history = sym (append-nil d.history) }
+goes_nowhere d = record {
+  config = refl;
+  origin = refl;
+  durable = le_refl _;
+  history = sym (append-nil d.history);
+  forgotten = refl;
+}
 
 pub goes_further : (old mid new : MasterData) → LivesOn old mid [] → LivesOn mid new [] → LivesOn old new []
 goes_further old mid new before more = record {
@@ -14,6 +20,7 @@ goes_further old mid new before more = record {
   origin = more.origin ∙ before.origin;
   durable = le_trans before.durable more.durable;
   history = more.history ∙ append-nil mid.history ∙ before.history;
+  forgotten = more.forgotten ∙ before.forgotten;
 }
 
 pub loaded_same : (d : MasterData) → StaysLoaded d d

@@ -22,13 +22,14 @@ is_of_push refusal.Spent = true
 is_of_push refusal.NoMemory = true
 is_of_push _ = false
 
--- the master goes on: its configuration is the same, as much is durable or more, and its history has these records
--- more
+-- the master goes on: its configuration is the same, as much is durable or more, its history has these records more,
+-- and it forgot none
 pub record LivesOn (old new : MasterData) (more : List Record) : Type 0 where
   pub config : new.config ≡ old.config
   pub origin : new.origin ≡ old.origin
   pub durable : durable_of (log_of old) ≤ durable_of (log_of new)
   pub history : new.history ≡ old.history ++ more
+  pub forgotten : new.forgotten ≡ old.forgotten
 
 -- a master that is loaded goes on: its configuration is the same, and it has loaded the same
 pub record StaysLoaded (old new : MasterData) : Type 0 where

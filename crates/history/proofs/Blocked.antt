@@ -1,11 +1,18 @@
--- The rows of all blocks as one list: its length, and the block and the slot of each row.
-use Rattle.std.proofs.Common.{◌≡◌, ℕ, zero, suc, ◌+◌, ◌-◌, ◌*◌, ◌/◌, ◌%◌, ◌<◌, ◌≤◌, List, [], ◌∷◌, ◌++◌, Vec}
+-- The rows of all blocks as one list: its length, the block and the slot of each row, and what is left without the
+-- first block.
+use Rattle.std.proofs.Common.{◌≡◌, ℕ, zero, suc, ◌+◌, ◌-◌, ◌*◌, ◌/◌, ◌%◌, ◌<◌, ◌≤◌, List, [], ◌∷◌, ◌++◌, Vec, drop}
 use Rattle.std.proofs.Common.{length, get_or, append_assoc, append-nil, length-append, refl, sym, ap, ◌∙◌, arith}
 use Rattle.std.proofs.lemmas.List.{get_or_append_left, get_or-append_right}
 use Rattle.std.proofs.lemmas.Grind.{flat_map-append}
 use Rattle.std.specs.List.{flat_map, AllByRecursion}
 use Rattle.history.specs.declared.packing.Row.{Row}
 use Rattle.history.specs.Rows.{rows_in, AreBlocks}
+
+dropped_front : (xs ys : List Row) (n : ℕ) → length xs ≡ n → drop n (xs ++ ys) ≡ ys
+dropped_front [] ys zero long = refl
+dropped_front [] ys (suc n) long = absurd (omega (arith, long))
+dropped_front (x ∷ xs) ys zero long = absurd (omega (arith, long))
+dropped_front (x ∷ xs) ys (suc n) long = dropped_front xs ys n (omega (arith, long))
 
 module _ {A : Type 0} where
   full_length : (full : List (Vec Row A)) → AllByRecursion (λ (b : Vec Row A). length b.items ≡ 1024) full
@@ -73,3 +80,16 @@ module _ {A : Type 0} where
   one_more_row full last new x more =
       ap (λ (ys : List Row). flat_map (λ (b : Vec Row A). b.items) full ++ ys) more
       ∙ sym (append_assoc (flat_map (λ (b : Vec Row A). b.items) full) last (x ∷ []))
+
+  -- the first block is given back
+  pub block_dropped : (full left : List (Vec Row A)) (last rows : List Row) → AreBlocks full last
+      → rows_in full last ≡ rows → 0 < length full → left ≡ drop 1 full
+      → (1024 ≤ length rows) × (rows_in left last ≡ drop 1024 rows)
+  block_dropped [] left last rows are view some is = absurd (omega arith)
+  block_dropped (b ∷ bs) left last rows are view some is =
+      let whole : b.items ++ rows_in bs last ≡ rows =
+      sym (append_assoc b.items (flat_map (λ (c : Vec Row A). c.items) bs) last) ∙ view in (
+        omega (arith, ap (λ (l : List Row). length l) whole, length-append b.items (rows_in bs last), are.filled.0),
+        ap (λ (l : List (Vec Row A)). rows_in l last) is
+            ∙ sym (dropped_front b.items (rows_in bs last) 1024 are.filled.0) ∙ ap (λ (l : List Row). drop 1024 l) whole,
+      )

@@ -1,5 +1,6 @@
--- The records of rows: growing texts keep them, one more row adds a record, and a reader finds the record of a row.
-use Rattle.std.proofs.Common.{◌≡◌, ℕ, zero, suc, ◌+◌, ◌<◌, List, [], ◌∷◌, ◌++◌, length, get_or, take, drop, Some, not, true}
+-- The records of rows: growing texts keep them, texts without their first blocks keep those of later rows, one more row
+-- adds a record, and a reader finds the record of a row.
+use Rattle.std.proofs.Common.{◌≡◌, ℕ, zero, suc, ◌+◌, ◌<◌, ◌≤◌, List, [], ◌∷◌, ◌++◌, length, get_or, take, drop, Some, not, true}
 use Rattle.std.proofs.Common.{refl, sym, ap, subst, ◌∙◌, arith}
 use Rattle.std.proofs.lemmas.List.{take-take, drop-drop, drop-take, map-append}
 use Rattle.std.proofs.lemmas.Option.{slice_get-map, slice_get_read}
@@ -12,14 +13,17 @@ use Rattle.history.specs.declared.packing.Row.{Row}
 use Rattle.history.specs.declared.numbers.Numbers.{Numbers}
 use Rattle.history.specs.Numbers.{are_small, front_of, AreWords}
 use Rattle.history.specs.Packing.{unpacked, record_of, row_numbers, front_len, key_of, value_of}
-use Rattle.history.specs.Texts.{TextsValue, text_at, part, IsWithin, KeepsParts}
+use Rattle.history.specs.Texts.{TextsValue, steps_to, text_at, part, IsWithin, KeepsParts, KeepsFrom}
 use Rattle.history.proofs.Fronts.{front_long, numbers_are}
-use Rattle.history.specs.Records.{front_at, key_at, value_at, record_in, records_in, IsRow, AreRows}
+use Rattle.history.specs.Records.{front_at, key_at, value_at, record_in, records_in, IsRow, AreRows, AreFrom, Ascend}
 
--- ---- texts that grow
+-- ---- texts that change
 
-module _ (old new : TextsValue) (keeps : KeepsParts old new) where
-  module _ (r : Row) (is : IsRow old r) where
+-- a row whose parts stay
+module _ (old new : TextsValue) (r : Row) (is : IsRow old r)
+    (within : (start len : ℕ) → IsWithin old r.block start len → IsWithin new r.block start len)
+    (same : (start len : ℕ) → IsWithin old r.block start len → part new r.block start len ≡ part old r.block start len)
+  where
     front_within : IsWithin old r.block r.start (front_len r)
     front_within = record { among = is.within.among; ends = omega (arith, is.within.ends) }
 
@@ -30,17 +34,17 @@ module _ (old new : TextsValue) (keeps : KeepsParts old new) where
     value_within = record { among = is.within.among; ends = omega (arith, is.within.ends) }
 
     front_kept : front_at new r ≡ front_at old r
-    front_kept = keeps.same r.block r.start (front_len r) front_within
+    front_kept = same r.start (front_len r) front_within
 
     key_kept : key_at new r ≡ key_at old r
-    key_kept = keeps.same r.block (r.start + front_len r) r.key_len key_within
+    key_kept = same (r.start + front_len r) r.key_len key_within
 
     value_kept : value_at new r ≡ value_at old r
-    value_kept = keeps.same r.block (r.start + front_len r + r.key_len) r.value_len value_within
+    value_kept = same (r.start + front_len r + r.key_len) r.value_len value_within
 
     row_kept : IsRow new r
     row_kept = record {
-      within = keeps.within r.block r.start (front_len r + r.key_len + r.value_len) is.within;
+      within = within r.start (front_len r + r.key_len + r.value_len) is.within;
       key = subst (λ (bytes : List ℕ). IsKeyBytes bytes) (sym key_kept) is.key;
       value = subst (λ (bytes : List ℕ). IsValue bytes) (sym value_kept) is.value;
     }
@@ -48,13 +52,53 @@ module _ (old new : TextsValue) (keeps : KeepsParts old new) where
     record_kept : record_in new r ≡ record_in old r
     record_kept = λ i. unpacked r (front_kept i) (key_kept i) (value_kept i)
 
+-- texts that grow
+module _ (old new : TextsValue) (keeps : KeepsParts old new) where
   pub rows_kept : (rows : List Row) → AreRows old rows → AreRows new rows
   rows_kept [] are = tt
-  rows_kept (r ∷ rs) are = (row_kept r are.0, rows_kept rs are.1)
+  rows_kept (r ∷ rs) are = (
+    row_kept old new r are.0 (λ start len. keeps.within r.block start len) (λ start len. keeps.same r.block start len),
+    rows_kept rs are.1,
+  )
 
   pub records_kept : (rows : List Row) → AreRows old rows → records_in new rows ≡ records_in old rows
   records_kept [] are = refl
-  records_kept (r ∷ rs) are = λ i. record_kept r are.0 i ∷ records_kept rs are.1 i
+  records_kept (r ∷ rs) are = λ i.
+      record_kept old new r are.0 (λ start len. keeps.within r.block start len)
+      (λ start len. keeps.same r.block start len) i ∷ records_kept rs are.1 i
+
+-- texts whose first ones were given back
+module _ (least : ℕ) (old new : TextsValue) (keeps : KeepsFrom least old new) where
+  pub rows_kept_from : (rows : List Row) → AreFrom old.base least rows → AreRows old rows → AreRows new rows
+  rows_kept_from [] from are = tt
+  rows_kept_from (r ∷ rs) from are = (
+    row_kept old new r are.0 (λ start len is. keeps.within r.block start len from.0 is)
+        (λ start len is. keeps.same r.block start len from.0 is),
+    rows_kept_from rs from.1 are.1,
+  )
+
+  pub records_kept_from : (rows : List Row) → AreFrom old.base least rows → AreRows old rows
+      → records_in new rows ≡ records_in old rows
+  records_kept_from [] from are = refl
+  records_kept_from (r ∷ rs) from are = λ i.
+      record_kept old new r are.0 (λ start len is. keeps.within r.block start len from.0 is)
+      (λ start len is. keeps.same r.block start len from.0 is) i ∷ records_kept_from rs from.1 are.1 i
+
+  -- the rows are as far from each other as before
+  from_kept : (base : ℕ) (rows : List Row) → least ≤ base → AreFrom old.base least rows → AreFrom old.base base rows
+      → (now : ℕ) → now + least ≡ base → AreFrom new.base now rows
+  from_kept base [] above from are now is = tt
+  from_kept base (r ∷ rs) above from are now is = (
+    omega (arith, keeps.steps r.block from.0, are.0, is),
+    from_kept base rs above from.1 are.1 now is,
+  )
+
+  pub ascend_kept : (rows : List Row) → AreFrom old.base least rows → Ascend old.base rows → Ascend new.base rows
+  ascend_kept [] from up = tt
+  ascend_kept (r ∷ rs) from up = (
+    from_kept (steps_to old.base r.block) rs from.0 from.1 up.0 (steps_to new.base r.block) (keeps.steps r.block from.0),
+    ascend_kept rs from.1 up.1,
+  )
 
 -- ---- one more row
 
@@ -94,7 +138,7 @@ module _ (t : TextsValue) (row : Row) (r : Record) (numbers : Numbers) (block st
   pub new_row : IsKeyBytes key → IsValue value → IsRow t row
   new_row is_key is_value = record {
     within = record {
-      among = omega (arith, in_block, within.among);
+      among = subst (λ (b : ℕ). steps_to t.base b ≤ length t.full) (sym in_block) within.among;
       ends = omega (
         arith,
         at_start,
@@ -119,6 +163,51 @@ pub records_and_one : (t : TextsValue) (rows : List Row) (row : Row) (r : Record
 records_and_one t rows row r is =
     map-append (λ (x : Row). record_in t x) rows (row ∷ [])
     ∙ ap (λ (x : Record). records_in t rows ++ x ∷ []) is
+
+from_and_one : (base least : ℕ) (rows : List Row) (row : Row) → AreFrom base least rows
+    → least ≤ steps_to base row.block → AreFrom base least (rows ++ row ∷ [])
+from_and_one base least [] row are above = (above, tt)
+from_and_one base least (r ∷ rs) row are above = (are.0, from_and_one base least rs row are.1 above)
+
+-- a row whose bytes are in the last text
+pub ascend_and_one : (t : TextsValue) (rows : List Row) (row : Row) → AreRows t rows → Ascend t.base rows
+    → steps_to t.base row.block ≡ length t.full → Ascend t.base (rows ++ row ∷ [])
+ascend_and_one t [] row are up last = (tt, tt)
+ascend_and_one t (r ∷ rs) row are up last = (
+  from_and_one t.base (steps_to t.base r.block) rs row up.0 (omega (arith, are.0.within.among, last)),
+  ascend_and_one t rs row are.1 up.1 last,
+)
+
+-- ---- fewer rows
+
+pub rows_drop : (t : TextsValue) (n : ℕ) (rows : List Row) → AreRows t rows → AreRows t (drop n rows)
+rows_drop t zero rows are = are
+rows_drop t (suc n) [] are = tt
+rows_drop t (suc n) (r ∷ rs) are = rows_drop t n rs are.1
+
+pub ascend_drop : (base n : ℕ) (rows : List Row) → Ascend base rows → Ascend base (drop n rows)
+ascend_drop base zero rows up = up
+ascend_drop base (suc n) [] up = tt
+ascend_drop base (suc n) (r ∷ rs) up = ascend_drop base n rs up.1
+
+pub records_cut : (t : TextsValue) (n : ℕ) (rows : List Row)
+    → records_in t (take n rows) ++ records_in t (drop n rows) ≡ records_in t rows
+records_cut t zero rows = refl
+records_cut t (suc n) [] = refl
+records_cut t (suc n) (r ∷ rs) = λ i. record_in t r ∷ records_cut t n rs i
+
+pub taken_length : (t : TextsValue) (n : ℕ) (rows : List Row) → n ≤ length rows
+    → length (records_in t (take n rows)) ≡ n
+taken_length t zero rows few = refl
+taken_length t (suc n) [] few = absurd (omega (arith, few))
+taken_length t (suc n) (r ∷ rs) few = ap suc (taken_length t n rs (omega (arith, few)))
+
+-- no row is before the first
+pub from_first : (base : ℕ) (rows : List Row) (row : Row) → Ascend base rows → 0 < length rows
+    → row ≡ get_or rows 0 row → AreFrom base (steps_to base row.block) rows
+from_first base [] row up some is = tt
+from_first base (r ∷ rs) row up some is =
+    subst (λ (x : Row). AreFrom base (steps_to base x.block) (r ∷ rs)) (sym is) (omega arith, up.0)
 
 -- ---- a row that is read
 

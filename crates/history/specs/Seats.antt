@@ -14,5 +14,4 @@ AreOfSeats seats records = All (λ (r : Record). r.seat < seats) records
 pub record AreAccepted (clients rounds : ℕ) (old new : List Record) : Type 0 where
   pub own : count_of 0 new ≡ count_of 0 old
   pub each : (k : ℕ) → 1 ≤ k → k ≤ clients → count_of k new ≡ count_of k old + 2 * rounds
-  pub idle : (k : ℕ) → clients < k → k < 64 → count_of k new ≡ count_of k old
-  pub seats : AreOfSeats 64 new
+  pub idle : (k : ℕ) → clients < k → count_of k new ≡ count_of k old

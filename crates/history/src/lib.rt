@@ -2,10 +2,12 @@
 //! key and value lie in large blocks of text.
 //!
 //! A contract sees a list of records. `reserve` allocates a block when the last one is full, and `push` allocates no
-//! memory. A record never moves. `RecordRef` is a view of a record, which borrows its bytes from a history or from a
-//! `Record`; *shown_record* is the record that it shows.
+//! memory. A record never moves. `forget` frees the first records, by blocks of 1,024; a contract still sees them in
+//! the list. `RecordRef` is a view of a record, which borrows its bytes from a history or from a `Record`;
+//! *shown_record* is the record that it shows.
 #![tactic(auto)]
 
+mod forgotten;
 mod laws;
 mod numbers;
 mod owning;

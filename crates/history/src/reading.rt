@@ -20,7 +20,7 @@ pub(crate) fn read_row<'a>(texts: &'a Texts, row: &Row) -> RecordRef<'a>
     }
     let key_len = row.key_len as usize;
     let len = key_len + row.value_len as usize;
-    let bytes = texts.part(row.block as usize, row.start as usize, len);
+    let bytes = texts.part(row.block, row.start as usize, len);
     let (key, value) = bytes.split_at(key_len);
     unpack(row, &row.small_numbers(), key, value)
 }
@@ -34,7 +34,7 @@ fn read_long<'a>(texts: &'a Texts, row: &Row) -> RecordRef<'a>
 {
     let key_len = row.key_len as usize;
     let len = NUMBERS_LEN + key_len + row.value_len as usize;
-    let bytes = texts.part(row.block as usize, row.start as usize, len);
+    let bytes = texts.part(row.block, row.start as usize, len);
     let (front, bytes) = bytes.split_at(NUMBERS_LEN);
     let (key, value) = bytes.split_at(key_len);
     unpack(row, &Numbers::from_bytes(front), key, value)
@@ -47,6 +47,6 @@ pub(crate) fn read_reply<'a>(texts: &'a Texts, row: &Row) -> ReplyRef<'a>
     ensures { shown_reply result ≡ (record_in texts.entry.now row.now).reply }
 {
     let start = row.start as usize + row.front_len() + row.key_len as usize;
-    let value = texts.part(row.block as usize, start, row.value_len as usize);
+    let value = texts.part(row.block, start, row.value_len as usize);
     reply_of(row.reply, row.version, ValueRef { bytes: value })
 }

@@ -1,6 +1,6 @@
 //! The rows of a history, in blocks of 1,024.
 
-ghost use Rattle.std.specs.Prelude.{◌≡◌, ◌<◌, ◌∷◌, ◌++◌, [], length, slice_index_or, OnOk, OnErr};
+ghost use Rattle.std.specs.Prelude.{◌≡◌, ◌<◌, ◌≤◌, ◌^◌, ◌∷◌, ◌++◌, [], length, drop, slice_index_or, OnOk, OnErr, MatchBool};
 
 use crate::packing::Row;
 use entry::NoMemory;
@@ -48,7 +48,8 @@ impl Rows {
 
     /// Returns the number of rows.
     pub(crate) fn len(&self) -> usize
-        ensures { result ≡ length self.now.rows }
+        ensures len { result ≡ length self.now.rows }
+        ensures few { result < 2 ^ 43 }
     {
         BLOCK * self.full.len() + self.last.len()
     }
@@ -86,6 +87,20 @@ impl Rows {
         let last = replace(&mut self.last, next);
         self.full.push_reserved(last);
         Ok(())
+    }
+
+    /// Removes the first block of rows and frees its memory, if it is full. Returns true if it was. The call moves the
+    /// 24 bytes that name each other full block.
+    pub(crate) fn drop_block(&mut self) -> bool
+        ensures rows { MatchBool result ((1024 ≤ length self.old.rows) × (self.new.rows ≡ drop 1024 self.old.rows))
+            ((self.new.rows ≡ self.old.rows) × (length self.old.rows ≤ 1024)) }
+        ensures room { self.new.room ≡ self.old.room }
+    {
+        if self.full.is_empty() {
+            return false;
+        }
+        let _block = self.full.remove(0);
+        true
     }
 
     /// Appends a row, for which there is room.

@@ -2,7 +2,7 @@
 
 ghost use Rattle.std.specs.Prelude.{◌≡◌, ◌+◌, ◌<◌, ◌≤◌, ◌++◌, [], length, OnOk, OnErr, vec_len, vec_capacity};
 ghost use Rattle.history.specs.Numbers.{front_of, spelled};
-ghost use Rattle.history.specs.Texts.{text_at, part, IsWithin, KeepsParts};
+ghost use Rattle.history.specs.Texts.{steps_to, text_at, part, IsWithin, KeepsParts, KeepsFrom};
 
 use crate::numbers::Numbers;
 use entry::NoMemory;
@@ -21,6 +21,8 @@ const LIMIT: usize = 4_294_967_296;
 /// into the last one.
 #[derive(Drop)]
 pub(crate) struct Texts {
+    /// The number of the first block.
+    base: u32,
     full: Vec<Vec<u8>>,
     last: Vec<u8>,
     /// How many more bytes are reserved at the end of the last block.
@@ -33,7 +35,12 @@ impl Model for Texts {
 
     ghost Value = { TextsValue };
 
-    ghost view = { λ t. record { full = map (λ b. b.items) t.full.items; last = t.last.items; room = t.room } };
+    ghost view = { λ t. record {
+      base = t.base;
+      full = map (λ b. b.items) t.full.items;
+      last = t.last.items;
+      room = t.room;
+    } };
 
     ghost invariant = { λ t. HasRoom (vec_len t.full) (vec_len t.last) (vec_capacity t.last) t.room };
 }
@@ -41,22 +48,40 @@ impl Model for Texts {
 impl Texts {
     /// Makes texts without bytes. This call allocates no memory.
     pub(crate) fn new(alloc: Global) -> Texts
-        ensures { result ≡ record { full = []; last = []; room = 0 } }
+        ensures { result ≡ record { base = 0; full = []; last = []; room = 0 } }
     {
         Texts {
+            base: 0,
             full: Vec::new(alloc),
             last: Vec::new(alloc),
             room: 0,
         }
     }
 
+    /// Returns how many blocks lie from the first block to the one with this number.
+    #[inline(always)]
+    fn steps_to(&self, block: u32) -> usize
+        ensures { result ≡ steps_to self.now.base block }
+    {
+        (block as usize + LIMIT - self.base as usize) % LIMIT
+    }
+
+    /// Returns the number of the last block.
+    #[inline(always)]
+    pub(crate) fn number(&self) -> u32
+        ensures { steps_to self.now.base result ≡ length self.now.full }
+    {
+        ((self.base as usize + self.full.len()) % LIMIT) as u32
+    }
+
     /// Returns the text of the block with this number: a full block, or else the last one.
     #[inline(always)]
-    fn text(&self, block: usize) -> &[u8]
+    fn text(&self, block: u32) -> &[u8]
         ensures { result.now ≡ text_at self.entry.now block }
     {
-        if block < self.full.len() {
-            self.full[block].as_slice()
+        let at = self.steps_to(block);
+        if at < self.full.len() {
+            self.full[at].as_slice()
         } else {
             self.last.as_slice()
         }
@@ -64,7 +89,7 @@ impl Texts {
 
     /// Returns `len` bytes of a block from offset `start` on.
     #[inline(always)]
-    pub(crate) fn part(&self, block: usize, start: usize, len: usize) -> &[u8]
+    pub(crate) fn part(&self, block: u32, start: usize, len: usize) -> &[u8]
         requires { IsWithin self.now block start len }
         ensures { result.now ≡ part self.entry.now block start len }
     {
@@ -94,12 +119,26 @@ impl Texts {
         Ok(())
     }
 
+    /// Frees the blocks before the one with this number. The call moves the 24 bytes that name each other full block.
+    pub(crate) fn forget(&mut self, block: u32)
+        requires { steps_to self.old.base block ≤ length self.old.full }
+        ensures kept { KeepsFrom (steps_to self.old.base block) self.old self.new }
+        ensures room { self.new.room ≡ self.old.room }
+    {
+        let count = self.steps_to(block);
+        let len = self.full.len();
+        self.full.rotate_left(count);
+        self.full.truncate(len - count);
+        self.base = block;
+    }
+
     /// Appends the bytes of a record, for which room is reserved: the numbers unless they are small, then the key and
     /// the value. Returns the number of the block, and the offset in it at which these bytes begin.
     #[inline(always)]
     pub(crate) fn push(&mut self, numbers: &Numbers, key: &[u8], value: &[u8]) -> (u32, u32)
         requires some { 0 < length key.now }
         requires room { 24 + length key.now + length value.now ≤ self.old.room }
+        ensures number { steps_to self.new.base result.0 ≡ length self.new.full }
         ensures room { self.new.room ≡ 0 }
         ensures parts { KeepsParts self.old self.new }
         ensures within { let n = length (front_of numbers.now) in
@@ -110,7 +149,7 @@ impl Texts {
         ensures value { let n = length (front_of numbers.now) in
             part self.new result.0 (result.1 + n + length key.now) (length value.now) ≡ value.now }
     {
-        let block = self.full.len() as u32;
+        let block = self.number();
         let start = self.last.len() as u32;
         put_front(&mut self.last, numbers);
         self.last.extend_from_slice(key).unwrap();

@@ -18,7 +18,7 @@ use std::marker::Model;
 #[derive(Clone, Copy)]
 pub struct UnitEnd {
     /// The number of the command's record in the history, from 0.
-    pub number: u32,
+    pub number: u64,
     /// The offset in bytes at which the unit ends in the image.
     pub end: u32,
 }
@@ -231,13 +231,13 @@ impl Head {
 
     /// Returns the number of the record of the first unit that some replica lacks. Returns `None` if each replica has
     /// all units.
-    pub fn first_missing(&self) -> Option<usize>
+    pub fn first_missing(&self) -> Option<u64>
         ensures valid { IsHeadValue self.now }
         ensures missing { result ≡ record_at self.now.units (everywhere self.now) }
     {
         match self.units.get(self.everywhere()) {
             None => None,
-            Some(unit) => Some(unit.number as usize),
+            Some(unit) => Some(unit.number),
         }
     }
 
@@ -308,7 +308,7 @@ impl Head {
     pub fn append(
         &mut self,
         unit: &[EntryRef<'_>],
-        number: u32,
+        number: u64,
         limit: usize,
     ) -> Result<(), AppendFault>
         requires some { 0 < length unit.now }

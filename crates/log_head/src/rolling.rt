@@ -66,7 +66,7 @@ impl Head {
 
     /// Returns what the next push does, if some replica lacks a unit of a record up to this number. Returns `None` if
     /// each replica has the units of all records up to this number.
-    pub fn next_for(&self, number: usize) -> Option<Next>
+    pub fn next_for(&self, number: u64) -> Option<Next>
         ensures next { IfSome result (λ next. IsNextPush self.now (Some next)) }
         ensures lacks { is_some result ≡ lacks_to self.now number }
         ensures valid { IsHeadValue self.now }
@@ -81,12 +81,12 @@ impl Head {
     }
 
     /// Returns true if there is a unit at this place, and its record has at most this number.
-    fn has_unit_to(&self, place: usize, number: usize) -> bool
+    fn has_unit_to(&self, place: usize, number: u64) -> bool
         ensures { result ≡ is_up_to number (record_at self.now.units place) }
     {
         match self.units.get(place) {
             None => false,
-            Some(unit) => unit.number as usize <= number,
+            Some(unit) => unit.number <= number,
         }
     }
 

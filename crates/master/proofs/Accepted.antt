@@ -16,7 +16,7 @@ use Rattle.master.specs.Keeps.{Keeps}
 use Rattle.master.specs.Steps.{Accepts, Declines}
 use Rattle.master.specs.World.{World}
 use Rattle.master.proofs.Applied.{applied_kept}
-use Rattle.master.proofs.Keeping.{steps_keep}
+use Rattle.master.proofs.Keeping.{steps_keep, steps_remember}
 
 -- the answer of the step, by what the call answered
 module _ (A : Type 0) (answer_of : A → StepAnswer) where
@@ -61,3 +61,12 @@ module _ (A : Type 0) (answer_of : A → StepAnswer) where
       steps_keep old new (Apply seat command) (Ok (answer_of a)) kept accepted
   command_keeps old new seat command (Err r) kept accepted refused =
       steps_keep old new (Apply seat command) (Err r) kept refused
+
+  -- and forgets nothing
+  pub command_remembers : (old new : World) (seat : ℕ) (command : Command) (result : Result A Refusal)
+      → IfOk result (λ a. Accepts old (Apply seat command) (answer_of a) new)
+      → IfErr result (λ r. Declines old (Apply seat command) r new) → new.knows.forgotten ≡ old.knows.forgotten
+  command_remembers old new seat command (Ok a) accepted refused =
+      steps_remember old new (Apply seat command) (Ok (answer_of a)) accepted
+  command_remembers old new seat command (Err r) accepted refused =
+      steps_remember old new (Apply seat command) (Err r) refused

@@ -51,7 +51,8 @@ use Rattle.master_core.specs.master_state.Data.{MasterData}
 use Rattle.master_core.specs.master_state.Ledger.{forgotten, took_in, shut_in, posted}
 use Rattle.master_core.specs.master_state.Log.{home, mode_of, durable_now, log_of, memory_of}
 use Rattle.master_core.specs.master_state.Steps.{Applies, BeginsRoll, Compacts, BeginsPass, Copies, record_now, rolling_data}
-use Rattle.master_core.specs.master_state.Steps.{sealed_data, lost_data}
+use Rattle.master_core.specs.master_state.Steps.{sealed_data, lost_data, halted, pushed_data}
+use Rattle.master_core.specs.master_failover.Mending.{mended_data, turned_data}
 use Rattle.master_core.specs.master_state.Waits.{next_seal}
 use Rattle.master_core.proofs.master_state.Imaging.{other_id}
 use Rattle.master_core.proofs.master_state.Refusals.{is_admitted, passed_early, unit_working, working_parts, may_begin}
@@ -81,6 +82,7 @@ keeps_same most w = record {
   others = λ b m s other. refl;
   least = λ m other. refl;
   durable = omega arith;
+  forgotten = omega arith;
   history = ([], sym (append-nil w.knows.history));
 }
 
@@ -89,6 +91,7 @@ keeps_on m n a b c first later =
     let low = first.takes.0 in let high = first.takes.1 in
     let low' = later.takes.0 in let high' = later.takes.1 in
     let rise = first.durable in let rise' = later.durable in
+    let gone = first.forgotten in let gone' = later.forgotten in
     record {
       config = later.config ∙ first.config;
       origin = later.origin ∙ first.origin;
@@ -97,6 +100,7 @@ keeps_on m n a b c first later =
           ∙ first.others k o s other;
       least = λ k other. later.least k (λ is. other (is ∙ ap (λ c. c.master) first.config)) ∙ first.least k other;
       durable = omega arith;
+      forgotten = omega arith;
       history = (
         first.history.0 ++ later.history.0,
         later.history.1 ∙ ap (λ rs. rs ++ later.history.0) first.history.1
@@ -293,16 +297,64 @@ module _ (d : FailData) (m : FailMemory) (p : ModelShown) (i : IsIntact d m p) (
 -- a replica that was sealed changes nothing but its image and the ledger
 log_sealed : (d : MasterData)
     → (log_of (sealed_data d) ≡ log_of d) × ((sealed_data d).config ≡ d.config) × ((sealed_data d).origin ≡ d.origin)
+    × ((sealed_data d).forgotten ≡ d.forgotten)
 log_sealed d = go (next_seal d) where
   gives : Option (ℕ × ℕ) → MasterData
   gives o = option_map_or (λ (x : ℕ × ℕ). record d { closed = changed d.closed x.0 more_replicas }) o d
 
   go : (o : Option (ℕ × ℕ)) → (log_of (gives o) ≡ log_of d) × ((gives o).config ≡ d.config)
-      × ((gives o).origin ≡ d.origin)
-  go None = (refl, refl, refl)
-  go (Some x) = (refl, refl, refl)
+      × ((gives o).origin ≡ d.origin) × ((gives o).forgotten ≡ d.forgotten)
+  go None = (refl, refl, refl, refl)
+  go (Some x) = (refl, refl, refl, refl)
 
-module _ (old new : World) (kept : IsWellKept old.knows old.fleet) where
+-- what is forgotten stays so, and nothing else is
+module _ (old new : World) where
+  abbrev Remembers : Type 0
+  Remembers = new.knows.forgotten ≡ old.knows.forgotten
+
+  by_rest : (e : MasterData) → new.knows ≡ e → e.forgotten ≡ old.knows.forgotten → Remembers
+  by_rest e is same = ap (λ (x : MasterData). x.forgotten) is ∙ same
+
+  by_nothing : new ≡ old → Remembers
+  by_nothing same = ap (λ (w : World). w.knows.forgotten) same
+
+  by_fault : (IsOp : Op → Type 0) (r : Refusal) → FailsTake IsOp old r new → Remembers
+  by_fault IsOp r t =
+      take_failed IsOp old new r t by_nothing (λ b f. by_rest (lost_data old.knows b) f.1 refl)
+      (λ f. by_rest (halted old.knows) f.1 refl)
+
+  by_push : (r : Refusal) → IsStuck old r new ⊎ (FailsTurn old r new ⊎ FailsPush old r new) → Remembers
+  by_push r (inl t) = ap (λ (w : World). w.knows.forgotten) t.3
+  by_push r (inr (inl t)) = by_rest (halted (turned_data old.knows)) t.3 (turned_rest old.knows).5
+  by_push r (inr (inr t)) = by_fault (IsPushOp old) r t.1
+
+  pub steps_remember : (step : Step) (result : Result StepAnswer Refusal) → Steps old step result new → Remembers
+  steps_remember (Apply seat command) (Ok answer) t = by_rest _ t.0.rest refl
+  steps_remember (Apply seat command) (Err r) t = by_nothing t.0
+  steps_remember BeginRoll (Ok answer) t = by_rest _ t.0.rest refl
+  steps_remember BeginRoll (Err r) t = by_nothing t.0
+  steps_remember (Compact id) (Ok answer) t = by_rest _ t.0.rest refl
+  steps_remember (Compact id) (Err r) t = by_nothing t.0
+  steps_remember (BeginClean ids) (Ok answer) t = by_rest _ t.0.rest refl
+  steps_remember (BeginClean ids) (Err r) t = by_nothing t.0
+  steps_remember Copy (Ok answer) t = by_rest _ t.0.rest refl
+  steps_remember Copy (Err r) t = by_nothing t.0
+  steps_remember Push (Ok answer) (inl t) = by_rest (pushed_data old.knows t.push) t.rest (same_rest old.knows t.push).5
+  steps_remember Push (Ok answer) (inr t) = by_rest (mended_data old.knows t.mend) t.rest (mended_rest old.knows t.mend).5
+  steps_remember Push (Err r) (inl t) = by_nothing t.1
+  steps_remember Push (Err r) (inr t) = by_push r t.1
+  steps_remember Seal (Ok answer) t =
+      let b = home old.knows.config old.knows.failed t.next.segment t.next.replica in
+      let as_posted = posted old.knows (posting.Took t.next.segment b) in
+      by_rest (sealed_data as_posted) t.rest (log_sealed as_posted).3
+  steps_remember Seal (Err r) (inl t) = by_nothing t.1
+  steps_remember Seal (Err r) (inr t) = by_fault (IsSealOp old.knows) r t.1
+  steps_remember Free (Ok answer) t = by_rest _ t.rest refl
+  steps_remember Free (Err r) (inl t) = by_nothing t.1
+  steps_remember Free (Err r) (inr t) = by_fault (IsFreeOp old.knows) r t.1
+
+module _ (old new : World) (kept : IsWellKept old.knows old.fleet)
+    (remembers : new.knows.forgotten ≡ old.knows.forgotten) where
   abbrev d : MasterData
   d = old.knows
 
@@ -324,6 +376,7 @@ module _ (old new : World) (kept : IsWellKept old.knows old.fleet) where
     others = beside.others;
     least = beside.least;
     durable = durable;
+    forgotten = omega (arith, remembers);
     history = ([], history ∙ sym (append-nil old.knows.history));
   }
 
@@ -362,6 +415,7 @@ module _ (old new : World) (kept : IsWellKept old.knows old.fleet) where
               shown = read_of (log_of d) old.fleet;
               halted = false;
             }) intact.log (may_apply command a.passed seat, refl));
+        forgotten = omega (arith, remembers);
         history = (record_now d seat command ∷ [], ap (λ (l : FailData). l.history) a.log);
       }
 
@@ -497,6 +551,7 @@ module _ (old new : World) (kept : IsWellKept old.knows old.fleet) where
     others = λ b m s other. refl;
     least = λ m other. refl;
     durable = omega arith;
+    forgotten = omega arith;
     history = ([], sym (append-nil old.knows.history));
   })
 
@@ -541,4 +596,5 @@ module _ (old new : World) (kept : IsWellKept old.knows old.fleet) where
 pub steps_keep : (old new : World) (step : Step) (result : Result StepAnswer Refusal) → IsWellKept old.knows old.fleet
     → Steps old step result new
     → Keeps 1 old new
-steps_keep old new step result kept t = step_keeps old new kept step result t
+steps_keep old new step result kept t =
+    step_keeps old new kept (steps_remember old new step result t) step result t

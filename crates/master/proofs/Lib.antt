@@ -35,6 +35,7 @@ pub mod PushedRest
 pub mod MendedRest
 pub mod Keeping
 pub mod KeptLoading
+pub mod Forgetting
 pub mod Accepted
 pub mod Runs
 pub mod NewestHomes

@@ -43,6 +43,7 @@ rest_on c b a later first = (
   later.2 ∙ first.2,
   later.3 ∙ first.3,
   later.4 ∙ first.4,
+  later.5 ∙ first.5,
 )
 
 -- the new head takes the place of the first, or a roll to it begins
@@ -65,8 +66,8 @@ turned_by d t =
 pub turned_rest : (d : MasterData) → SameRest (turned_data d) d
 turned_rest d = go (was_headless d) where
   go : (t : Bool) → SameRest (turned_by d t) d
-  go true = (refl, refl, refl, refl, refl)
-  go false = (refl, refl, refl, refl, refl)
+  go true = (refl, refl, refl, refl, refl, refl)
+  go false = (refl, refl, refl, refl, refl, refl)
 
 raised_rest : (d : MasterData) → SameRest (raised_data d) d
 raised_rest d = go (was_headless d) where
@@ -76,8 +77,8 @@ raised_rest d = go (was_headless d) where
       else with_part d part.Closes
 
   go : (t : Bool) → SameRest (gives t) d
-  go true = (refl, refl, refl, refl, refl)
-  go false = (refl, refl, refl, refl, refl)
+  go true = (refl, refl, refl, refl, refl, refl)
+  go false = (refl, refl, refl, refl, refl, refl)
 
 repaired_rest : (d : MasterData) → SameRest (repaired_data d) d
 repaired_rest d = go (is_none (first_lost d)) where
@@ -85,8 +86,8 @@ repaired_rest d = go (is_none (first_lost d)) where
   gives t = if t then record d { failover = None } else d
 
   go : (t : Bool) → SameRest (gives t) d
-  go true = (refl, refl, refl, refl, refl)
-  go false = (refl, refl, refl, refl, refl)
+  go true = (refl, refl, refl, refl, refl, refl)
+  go false = (refl, refl, refl, refl, refl, refl)
 
 closed_more_rest : (d : MasterData) (j : ℕ) (r : Roll) → SameRest (closed_more d j r) d
 closed_more_rest d j r = go (suc j == d.config.replicas) where
@@ -113,14 +114,14 @@ pub mended_rest : (d : MasterData) (m : Mend) → SameRest (mended_data d m) d
 mended_rest d (mend.Extend j) = same_rest d (next.Extend j)
 mended_rest d (mend.Replace j) = same_rest d (next.OpenWhole j)
 mended_rest d mend.Turn = turned_rest d
-mended_rest d (mend.Open j) = (refl, refl, refl, refl, refl)
+mended_rest d (mend.Open j) = (refl, refl, refl, refl, refl, refl)
 mended_rest d (mend.Raise id) = raised_rest d
 mended_rest d (mend.Close j) = go d.head.roll where
   gives : Option Roll → MasterData
   gives o = option_map_or (closed_more d j) o d
 
   go : (o : Option Roll) → SameRest (gives o) d
-  go None = (refl, refl, refl, refl, refl)
+  go None = (refl, refl, refl, refl, refl, refl)
   go (Some r) = closed_more_rest d j r
 mended_rest d (mend.Repair s j) = repaired_rest (record d {
   closed = changed d.closed s more_replicas;

@@ -1,4 +1,4 @@
--- What a push for a record keeps, and when it is made.
+-- What a push for a record keeps, what it leaves, and when it is made.
 use Rattle.std.proofs.Common.{◌≡◌, ℕ, ◌<◌, ◌≤◌, inl, inr, Bool, true, false, length, sym, ap, subst, ◌∙◌, arith}
 use Rattle.std.specs.Prelude.{Result, Ok, Err, nat_lt}
 use Rattle.std.proofs.lemmas.Bool.{ltb-false, ltb-true}
@@ -13,13 +13,19 @@ use Rattle.master.specs.Keeps.{Keeps}
 use Rattle.master.specs.Steps.{PushesFor}
 use Rattle.master.specs.World.{World}
 use Rattle.master.proofs.Counting.{counted, kept_unfailed}
-use Rattle.master.proofs.Keeping.{keeps_same, steps_keep}
+use Rattle.master.proofs.Keeping.{keeps_same, steps_keep, steps_remember}
 
 pub pushes_keep : (place : ℕ) (old new : World) (r : Result Bool Refusal) → IsWellKept old.knows old.fleet
     → PushesFor place old r new → Keeps 1 old new
 pushes_keep place old new (Ok true) kept is = subst (Keeps 1 old) (sym is.1) (keeps_same 1 old)
 pushes_keep place old new (Ok false) kept is = steps_keep old new Push (Ok is.1) kept is.2
 pushes_keep place old new (Err r) kept is = steps_keep old new Push (Err r) kept is.1
+
+pub pushes_remember : (place : ℕ) (old new : World) (r : Result Bool Refusal) → PushesFor place old r new
+    → new.knows.forgotten ≡ old.knows.forgotten
+pushes_remember place old new (Ok true) is = ap (λ (w : World). w.knows.forgotten) is.1
+pushes_remember place old new (Ok false) is = steps_remember old new Push (Ok is.1) is.2
+pushes_remember place old new (Err r) is = steps_remember old new Push (Err r) is.1
 
 -- ---- whether the record is durable
 

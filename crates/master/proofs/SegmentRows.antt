@@ -6,7 +6,7 @@ use Rattle.std.specs.Option.{option_map}
 use Rattle.entry.specs.declared.entry.Entry.{Entry}
 use Rattle.entry.specs.Text.{text_of}
 use Rattle.images.specs.Image.{Image}
-use Rattle.images.specs.Sorted.{AreRising, image_of, segment_of}
+use Rattle.images.specs.Sorted.{AreRising, segment_of}
 use Rattle.images.proofs.Counts.{image_read}
 use Rattle.images.proofs.Fronts.{own_place}
 use Rattle.log_head.specs.declared.head.Roll.{Roll}
@@ -21,7 +21,6 @@ use Rattle.master_core.specs.master_state.Log.{images_of, log_set_ids}
 use Rattle.master_core.proofs.master_state.Imaging.{same_id, other_id}
 use Rattle.master.specs.declared.segments.Role.{Role}
 use Rattle.master.specs.declared.segments.Role.TheVariants as role
-use Rattle.master.specs.declared.segments.SegmentRow.{SegmentRow}
 use Rattle.master.specs.Segments.{role_of, image_row, head_row, opening_row}
 
 -- ---- what a segment is

@@ -16,5 +16,7 @@ pub record Keeps (most : ℕ) (old new : World) : Type 0 where
   pub least : (m : ℕ) → (m ≡ old.knows.config.master → ⊥) → new.fleet.least m ≡ old.fleet.least m
   -- what was durable stays durable
   pub durable : durable_of (log_of old.knows) ≤ durable_of (log_of new.knows)
+  -- what was forgotten stays so
+  pub forgotten : old.knows.forgotten ≤ new.knows.forgotten
   -- the history only grows, at its end
   pub history : (more : List Record) × (new.knows.history ≡ old.knows.history ++ more)

@@ -13,6 +13,7 @@ use Rattle.master_core.specs.master_state.Budget.{used_seglets}
 use Rattle.master_core.specs.master_state.Causes.{is_done}
 use Rattle.master_core.specs.master_state.Config.{config_fault}
 use Rattle.master_core.specs.master_state.Data.{MasterData}
+use Rattle.master_core.specs.master_state.Kept.{AreFewKept}
 use Rattle.master_core.specs.master_state.Log.{opening_of, log_of, state_now, durable_now, image_of, memory_of, IsIndexed}
 use Rattle.master_core.specs.master_state.Invariant.{AreWhole}
 use Rattle.master.specs.Placed.{IsPlaced}
@@ -30,7 +31,8 @@ IsGivenUp d s = ((log_of d).mode ≡ Mends) × ((log_of d).head.start.id ≡ 0) 
 -- with the history.
 pub record IsValid (d : MasterData) (f : FleetState) : Type 0 where
   pub config : config_fault d.config ≡ None
-  pub history : length d.history ≤ d.config.history
+  -- no more records are kept than the configuration allows
+  pub history : AreFewKept (length d.history) d.forgotten d.config.history
   -- the replies are the versioned map's
   pub legal : IsLegal (opening_of d) d.history
   -- the index finds exactly the map's objects

@@ -11,7 +11,8 @@
 //! (`specs/Left.antt`). What a master knows is `master_core`'s, and the fleet is `replica`'s.
 //!
 //! `Loading` is a master that isn't one yet. It loads what a recovery rebuilt, and then its history begins with that
-//! (`specs/Loading.antt`). `Master::retire` frees what other masters left on the backups.
+//! (`specs/Loading.antt`). `Master::retire` frees what other masters left on the backups, and `Master::forget` the memory
+//! of the first records that are durable.
 #![tactic(auto)]
 
 mod cleaning;

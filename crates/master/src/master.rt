@@ -1,7 +1,7 @@
 //! One master over a fleet of backups.
 
 ghost use Rattle.std.specs.Prelude.{List, ◌⊎◌, ◌≡◌, ◌≤◌, ◌<◌, ℕ, None, Ok, Err, length, IfOk, IfErr, IfSome};
-ghost use Rattle.std.specs.Prelude.{OnOk, OnErr, ◌↔◌, ◌+◌, ◌*◌};
+ghost use Rattle.std.specs.Prelude.{OnOk, OnErr, ◌↔◌, ◌+◌, ◌*◌, ◌^◌};
 ghost use Rattle.std.specs.Result.{result_err};
 ghost use Rattle.history.specs.View.{shown_command};
 ghost use Rattle.master_core.specs.log_laws.Data.{durable_of};
@@ -11,6 +11,7 @@ ghost use Rattle.master_core.specs.master_state.Causes.{command_refusal};
 ghost use Rattle.master_core.specs.master_state.Steps.{IsFound, reply_now};
 ghost use Rattle.master_core.specs.master_state.Config.{config_fault};
 ghost use Rattle.master_core.specs.master_state.Data.{fresh_data};
+ghost use Rattle.master_core.specs.master_state.Forgetting.{ForgetsTo, may_forget};
 ghost use Rattle.master_core.specs.master_state.Log.{log_of};
 ghost use Rattle.master.specs.Invariant.{IsWellKept};
 ghost use Rattle.master.specs.Keeps.{Keeps};
@@ -44,7 +45,7 @@ use versioned_map::{Command, Reply};
 ///   `Halted`, the master takes no further step, and a recovery goes on.
 /// - Cost: a command hashes its key, looks it up, and copies its unit to the end of the head; it scans nothing. An
 ///   object takes its entry in a segment and a place in the index, and each command a record in the history until the
-///   master ends.
+///   master forgets it (`forget`) or ends.
 ///
 /// ```text
 /// let mut master = Master::new(alloc, config, fleet)?;
@@ -173,9 +174,17 @@ impl<F: Fleet> Master<F> {
 
     /// The accepted commands, with their replies.
     pub fn history(&self) -> &History
-        ensures { result.now.records ≡ self.now.knows.history }
+        ensures records { result.now.records ≡ self.now.knows.history }
+        ensures forgotten { result.now.forgotten ≡ self.now.knows.forgotten }
     {
         self.core.history()
+    }
+
+    /// How many of the first records are forgotten: the history no longer has them.
+    pub fn forgotten(&self) -> u64
+        ensures { result ≡ self.now.knows.forgotten }
+    {
+        self.core.history().forgotten() as u64
     }
 
     /// How many pushes the open failover still needs, at most: 0 just if none is open. Each of its pushes lowers it.
@@ -212,6 +221,7 @@ impl<F: Fleet> Master<F> {
         ensures gives { Steps (world F.state self.old) step result (world F.state self.new) }
         ensures goes_on { GoesOn (world F.state self.old) step result (world F.state self.new) }
         ensures keeps { Keeps 1 (world F.state self.old) (world F.state self.new) }
+        ensures remembers { self.new.knows.forgotten ≡ self.old.knows.forgotten }
         ensures valid { IsValid self.new.knows (F.state self.new.fleet) }
     {
         self.show_valid();
@@ -244,6 +254,7 @@ impl<F: Fleet> Master<F> {
             Steps (world F.state self.old) (Step.Apply seat (shown_command command.now)) (Err r)
             (world F.state self.new)) }
         ensures keeps { Keeps 1 (world F.state self.old) (world F.state self.new) }
+        ensures remembers { self.new.knows.forgotten ≡ self.old.knows.forgotten }
         ensures valid { IsValid self.new.knows (F.state self.new.fleet) }
     {
         self.show_valid();
@@ -313,6 +324,7 @@ impl<F: Fleet> Master<F> {
         ensures was_valid { IsValid self.old.knows (F.state self.old.fleet) }
         ensures gives { PushesFor place (world F.state self.old) result (world F.state self.new) }
         ensures keeps { Keeps 1 (world F.state self.old) (world F.state self.new) }
+        ensures remembers { self.new.knows.forgotten ≡ self.old.knows.forgotten }
         ensures valid { IsValid self.new.knows (F.state self.new.fleet) }
     {
         self.show_valid();
@@ -322,12 +334,30 @@ impl<F: Fleet> Master<F> {
         is_durable
     }
 
+    /// Forgets the first `n` records, or those of them that are durable, but for the last 1,024 of these at most: their
+    /// memory is freed, and nothing else changes. A record that is forgotten still counts, and contracts still see it.
+    pub fn forget(&mut self, n: u64)
+        ensures was_valid { IsValid self.old.knows (F.state self.old.fleet) }
+        ensures gives { ForgetsTo n self.old.knows self.new.knows }
+        ensures near { may_forget n self.old.knows ≤ 2 ^ 62
+            → may_forget n self.old.knows ≤ self.new.knows.forgotten + 1024 }
+        ensures fleet { self.new.fleet ≡ self.old.fleet }
+        ensures keeps { Keeps 0 (world F.state self.old) (world F.state self.new) }
+        ensures valid { IsValid self.new.knows (F.state self.new.fleet) }
+    {
+        self.show_valid();
+        self.show_kept();
+        self.core.forget(n);
+        self.show_valid();
+    }
+
     /// Makes the steps in order, and answers what each of them answered. All memory for this is taken before the first
     /// step, so NoMemory means that no step was made. A run of no steps takes none.
     pub fn run(&mut self, steps: &[Step]) -> Result<Vec<Result<StepAnswer, Refusal>>, NoMemory>
         ensures ran { IfOk result (λ answers.
             IsRun (world F.state self.old) steps.now answers.items (world F.state self.new)) }
         ensures keeps { Keeps (length steps.now) (world F.state self.old) (world F.state self.new) }
+        ensures remembers { self.new.knows.forgotten ≡ self.old.knows.forgotten }
         ensures valid { IsValid self.new.knows (F.state self.new.fleet) }
         ensures refused { OnErr result (world F.state self.new ≡ world F.state self.old) }
         ensures needed { OnErr result (0 < length steps.now) }

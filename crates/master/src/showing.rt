@@ -1,6 +1,8 @@
 //! What a master shows of itself and of its fleet.
 
-ghost use Rattle.std.specs.Prelude.{IfOk, OnErr, nat_lt};
+ghost use Rattle.std.specs.Prelude.{◌≡◌, IfOk, OnErr, length, nat_lt};
+ghost use Rattle.log_head.specs.Head.{digest_of};
+ghost use Rattle.master_core.specs.master_state.Budget.{free_seglets};
 ghost use Rattle.replica.specs.Picture.{AreLabelsOf, left_on};
 ghost use Rattle.master.specs.Shown.{IsShown, NeedsMemory};
 ghost use Rattle.master.specs.World.{world};
@@ -42,6 +44,20 @@ pub enum Shown {
 }
 
 impl<F: Fleet> Master<F> {
+    /// How many seglets of memory are free.
+    pub fn free_seglets(&self) -> u64
+        ensures { result ≡ free_seglets self.now.knows }
+    {
+        self.core.free()
+    }
+
+    /// How many ids the digest in force lists.
+    pub fn digest_len(&self) -> u64
+        ensures { result ≡ length (digest_of self.now.knows.head.image) }
+    {
+        self.core.digest_len()
+    }
+
     /// Shows what the look asks for. Nothing changes.
     pub fn look(&self, look: Look) -> Result<Shown, NoMemory>
         ensures shown { IfOk result (λ shown. IsShown (world F.state self.now) look shown) }

@@ -471,8 +471,10 @@ module _ (d : MasterData) (core : IsCore d) (command : Command) (change : Change
     added_core = record {
       config = core.config;
       replicas = (same_appended d.head (length d.history) unit).1 ∙ core.replicas;
-      history = (let room = admitted.room in let count = length-append d.history
-          (record_now d seat command ∷ []) in omega arith);
+      history = (let room = admitted.room in let was = core.history in
+          let within = was.within in
+          let count = length-append d.history (record_now d seat command ∷ []) in
+          record { within = omega arith; few = omega arith; places = was.places });
       head = head;
       image = (head_appended d.config.master d.head (length d.history) unit core.image head).1;
       within = within_then d.head (length d.history) d.config.segment unit core.within (fits passed);

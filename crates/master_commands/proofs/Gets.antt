@@ -33,12 +33,13 @@ module _ (d : MasterData) (core : IsCore d) (k : Key) (seat : ℕ) (passed : com
   abbrev pub with_found : Option Versioned → List Record
   with_found x = d.history ++ record { seat = seat; command = Get k; reply = found x } ∷ []
 
-  module _ (new : List Record) (x : Option Versioned) (added : new ≡ with_found x) (is : x ≡ held_now d (Get k)) where
+  module _ (new : List Record) (gone : ℕ) (x : Option Versioned) (added : new ≡ with_found x)
+      (same : gone ≡ d.forgotten) (is : x ≡ held_now d (Get k)) where
     abbrev pub left : MasterData
-    left = record d { history = new }
+    left = record d { history = new; forgotten = gone }
 
     knows : read ≡ left
-    knows = λ i. record d { history = sym (added ∙ ap with_found is) i }
+    knows = λ i. record d { history = sym (added ∙ ap with_found is) i; forgotten = sym same i }
 
     pub read_core : IsCore left
     read_core =

@@ -144,12 +144,12 @@ fn add(core: &mut Core, accepted: &RecordRef<'_>, judged: &Judged) -> Result<u64
     ensures valid { OnOk result (IsCore core.new) }
     ensures refused { OnErr result (core.new ≡ core.old) }
 {
-    let place = core.history.len();
+    let place = core.history.len() as u64;
     enact(
         &mut core.head,
         &mut core.index,
         &mut core.history,
-        place as u32,
+        place,
         accepted.byte_len(),
         &accepted.command,
         judged,
@@ -161,7 +161,7 @@ fn add(core: &mut Core, accepted: &RecordRef<'_>, judged: &Judged) -> Result<u64
     core.live = judged.live;
     replies_have_one_value();
     core.history.push(accepted);
-    Ok(place as u64)
+    Ok(place)
 }
 
 /// Adds a put or a delete that passed all tests, with the reply that follows from its change. Returns the place of the

@@ -63,6 +63,7 @@ fn record_get<'a>(
           command = Command.Get (shown_key key.now);
           reply = found (found_at images judged.now.present judged.now.held.place);
         } ∷ []) }
+    ensures forgotten { history.new.forgotten ≡ history.old.forgotten }
     ensures refused { OnErr result (history.new.records ≡ history.old.records) }
 {
     let accepted = RecordRef {

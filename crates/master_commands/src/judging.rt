@@ -36,7 +36,7 @@ fn admit(core: &Core, command: &CommandRef<'_>) -> Result<(), Refusal>
     if !core.config.tablets.have(&key_of(command)) {
         return Err(Refusal::NoTablet);
     }
-    if core.history.len() as u64 >= core.config.history {
+    if core.history.kept() as u64 >= core.config.history {
         return Err(Refusal::HistoryFull);
     }
     Ok(())

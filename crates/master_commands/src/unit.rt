@@ -94,7 +94,7 @@ fn append_change(
     command: &CommandRef<'_>,
     change: &Change,
     segment: u64,
-    number: u32,
+    number: u64,
     limit: usize,
 ) -> Result<(), AppendFault>
     requires limit { limit ≤ 8388608 }
@@ -135,7 +135,7 @@ pub fn enact(
     head: &mut Head,
     index: &mut Index,
     history: &mut History,
-    number: u32,
+    number: u64,
     bytes: usize,
     command: &CommandRef<'_>,
     judged: &Judged,
@@ -157,6 +157,7 @@ pub fn enact(
         × IsMoved index.old.held judged.now.change (command_key (shown_command command.now)) judged.now.held.place
         (record { segment = head.old.id; at = at }) index.new.held) }
     ensures history { history.new.records ≡ history.old.records }
+    ensures forgotten { history.new.forgotten ≡ history.old.forgotten }
     ensures room { OnOk result (history.new.room ≡ bytes) }
     ensures err { OnErr result ((head.new ≡ head.old) × (index.new.held ≡ index.old.held)) }
 {

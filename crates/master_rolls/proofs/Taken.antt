@@ -27,7 +27,7 @@ use Rattle.master_state.specs.Images.{new_image_or}
 use Rattle.master_state.specs.Invariant.{IsOpenPass, IsCore, AreWhole, listed_with}
 use Rattle.master_state.specs.Log.{image_of}
 use Rattle.master_state.specs.Steps.{roll_ended, closed_data, taken_data}
-use Rattle.master_state.proofs.Posted.{rest_core}
+use Rattle.master_state.proofs.Posted.{counted_core}
 use Rattle.master_rolls.proofs.Committed.{committed_core, committed_whole, image_gone, image_stays}
 use Rattle.master_state.proofs.Imaging.{ids_in, same_roll}
 use Rattle.master_state.proofs.LogIds.{open_of}
@@ -141,10 +141,10 @@ module _ (d : MasterData) (core : IsCore d) where
   pub taken_core : d.failover ≡ None → (push : Next) → IsNextPush d.head (Some push)
       → IsHeadValue (taken_data d push).head → IsCore (taken_data d push)
   taken_core calm (next.OpenFirst j) is valid =
-      rest_core d (d.head.taken ++ 0 ∷ []) d.is_halted d.ledger core valid
+      counted_core d (d.head.taken ++ 0 ∷ []) core valid
       (let more = length-append d.head.taken (0 ∷ []) in omega arith)
   taken_core calm (next.Extend j) is valid =
-      rest_core d (slice_set d.head.taken j (length d.head.units)) d.is_halted d.ledger core valid
+      counted_core d (slice_set d.head.taken j (length d.head.units)) core valid
       (let same = length-set d.head.taken j (length d.head.units) in omega arith)
   taken_core calm (next.OpenWhole j) is valid = absurd is
   taken_core calm (next.OpenNew j) is valid =

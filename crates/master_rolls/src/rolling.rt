@@ -108,7 +108,7 @@ impl Rolls for Core {
         ensures durable { self.now.failover ≡ None → is_none result ≡ nat_lt place (durable_now self.now) }
         ensures valid { IsCore self.now }
     {
-        self.head.next_for(place as usize)
+        self.head.next_for(place)
     }
 
     #[inline(always)]

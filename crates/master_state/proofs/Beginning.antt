@@ -73,7 +73,7 @@ module _ (c : Config) (safe : ℕ)
       record {
         config = ok;
         replicas = refl;
-        history = omega arith;
+        history = record { within = omega arith; few = omega arith; places = omega arith };
         head = head;
         image = image;
         within = omega arith;

@@ -7,6 +7,7 @@ pub mod Counted
 pub mod Beginning
 pub mod Posted
 pub mod Passing
+pub mod Forgetting
 pub mod Holding
 pub mod Naming
 pub mod Rising

@@ -1,4 +1,5 @@
--- A core keeps the invariant when its ledger changes, when it halts, and when replicas of its head take more units.
+-- A core keeps the invariant when its ledger changes, when it halts, when replicas of its head take more units, and when
+-- it forgets records.
 use Rattle.std.proofs.Common.{◌≡◌, ℕ, ◌≤◌, Bool, true, List, length, refl, arith}
 use Rattle.std.specs.Prelude.{Option, Some, None, IfSome, not, nat_le}
 use Rattle.std.specs.Option.{option_map_or}
@@ -11,13 +12,14 @@ use Rattle.log_head.proofs.HeadLog.{image_with_counts}
 use Rattle.master_state.specs.declared.failover.Failover.{Failover}
 use Rattle.master_state.specs.declared.ledger.Posting.{Posting}
 use Rattle.master_state.specs.Data.{MasterData}
+use Rattle.master_state.specs.Kept.{AreFewKept}
 use Rattle.master_state.specs.Invariant.{IsRollOf, IsOpenPass, IsFailover, IsCore}
 use Rattle.master_state.specs.Steps.{halted}
 use Rattle.master_state.proofs.Passing.{GoesOn, goes_on}
 
-module _ (d : MasterData) (ks : List ℕ) (t : Bool) (ps : List Posting) where
+module _ (d : MasterData) (ks : List ℕ) (t : Bool) (ps : List Posting) (n : ℕ) where
   abbrev e : MasterData
-  e = record d { head = record d.head { taken = ks }; is_halted = t; ledger = ps }
+  e = record d { head = record d.head { taken = ks }; is_halted = t; ledger = ps; forgotten = n }
 
   rest_goes : (p : OpenPass) → IsOpenPass d p → GoesOn d e p
   rest_goes p is = record {
@@ -37,11 +39,12 @@ module _ (d : MasterData) (ks : List ℕ) (t : Bool) (ps : List Posting) where
     rolls = λ commits some. some;
   }
 
-  pub rest_core : IsCore d → IsHeadValue (record d.head { taken = ks }) → length d.head.taken ≤ length ks → IsCore e
-  rest_core core head more = record {
+  pub rest_core : IsCore d → AreFewKept (length d.history) n d.config.history
+      → IsHeadValue (record d.head { taken = ks }) → length d.head.taken ≤ length ks → IsCore e
+  rest_core core few head more = record {
     config = core.config;
     replicas = core.replicas;
-    history = core.history;
+    history = few;
     head = head;
     image = image_with_counts d.config.master d.head (head_of d.head) core.image ks;
     within = core.within;
@@ -106,12 +109,17 @@ module _ (d : MasterData) (ks : List ℕ) (t : Bool) (ps : List Posting) where
     }
 
 pub posted_core : (d : MasterData) (ps : List Posting) → IsCore d → IsCore (record d { ledger = ps })
-posted_core d ps core = rest_core d d.head.taken d.is_halted ps core core.head (omega arith)
+posted_core d ps core = rest_core d d.head.taken d.is_halted ps d.forgotten core core.history core.head (omega arith)
 
 pub halted_core : (d : MasterData) → IsCore d → IsCore (halted d)
-halted_core d core = rest_core d d.head.taken true d.ledger core core.head (omega arith)
+halted_core d core = rest_core d d.head.taken true d.ledger d.forgotten core core.history core.head (omega arith)
 
 -- only what replicas have changed
 pub counted_core : (d : MasterData) (ks : List ℕ) → IsCore d → IsHeadValue (record d.head { taken = ks })
     → length d.head.taken ≤ length ks → IsCore (record d { head = record d.head { taken = ks } })
-counted_core d ks core head more = rest_core d ks d.is_halted d.ledger core head more
+counted_core d ks core head more = rest_core d ks d.is_halted d.ledger d.forgotten core core.history head more
+
+-- only what is forgotten has changed
+pub forgotten_core : (d : MasterData) (n : ℕ) → IsCore d → AreFewKept (length d.history) n d.config.history
+    → IsCore (record d { forgotten = n })
+forgotten_core d n core few = rest_core d d.head.taken d.is_halted d.ledger n core few core.head (omega arith)

@@ -1,6 +1,6 @@
 -- Which test refuses a step.
 use Rattle.std.proofs.Common.{◌≡◌, ◌+◌, ◌<◌, ◌≤◌, Bool, true, false, cond, List, length, refl, arith}
-use Rattle.std.specs.Prelude.{Option, Some, None, ◌^◌, ◌*◌, ◌/◌, ◌%◌, not, nat_le, nat_lt, ◌==◌, ◌&&◌, ◌||◌, is_none}
+use Rattle.std.specs.Prelude.{Option, Some, None, ◌-◌, ◌^◌, ◌*◌, ◌/◌, ◌%◌, not, nat_le, nat_lt, ◌==◌, ◌&&◌, ◌||◌, is_none}
 use Rattle.std.proofs.lemmas.Bool.{and_parts, not-false, leb-true, leb-false, ltb-false, eqb-true}
 use Rattle.std.proofs.lemmas.Bool.Decides.{nat_tests}
 use Rattle.std.proofs.Math.Bool.{and-false}
@@ -91,15 +91,16 @@ few_records c ok =
 pub record IsAdmitted (d : MasterData) (command : Command) : Type 0 where
   pub running : d.is_halted ≡ false
   pub key : have_key d.config.tablets (command_key command) ≡ true
-  pub room : length d.history < d.config.history
+  pub room : length d.history - d.forgotten < d.config.history
 
 pub is_admitted : (d : MasterData) (command : Command) → early_refusal d command ≡ None → IsAdmitted d command
 is_admitted d command e =
     let a = passes d.is_halted Halted _ e in
     let b = passes (is_too_big command d.config.segment || is_longer command d.config.largest) TooBig _ a.1 in
     let t = passes (not (have_key d.config.tablets (command_key command))) NoTablet _ b.1 in
-    let h = passes (nat_le d.config.history (length d.history)) HistoryFull None t.1 in
-    record { running = a.0; key = not-false _ t.0; room = leb-false d.config.history (length d.history) h.0 }
+    let kept = length d.history - d.forgotten in
+    let h = passes (nat_le d.config.history kept) HistoryFull None t.1 in
+    record { running = a.0; key = not-false _ t.0; room = leb-false d.config.history kept h.0 }
 
 early_first : (d : MasterData) (command : Command) (o late : Option Refusal) → cond (is_none o) late o ≡ None
     → (o ≡ None) × (late ≡ None)

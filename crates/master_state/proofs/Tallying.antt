@@ -1,10 +1,8 @@
 -- Tallies of a core stay right where the index and the images stay, and where a segment begins.
-use Rattle.std.proofs.Common.{◌≡◌, inl, ℕ, ◌<◌, Bool, ◌==◌, ◌||◌, List, [], ◌∷◌, ◌++◌, map, refl, sym, ap, subst, ◌∙◌}
+use Rattle.std.proofs.Common.{◌≡◌, inl, ℕ, ◌<◌, Bool, ◌==◌, ◌||◌, List, [], ◌∷◌, refl, sym, ap, subst, ◌∙◌}
 use Rattle.std.specs.Prelude.{filter}
 use Rattle.entry.specs.Bag.{IsAmong}
-use Rattle.entry.specs.declared.entry.Tombstone.{Tombstone}
 use Rattle.entry.specs.declared.entry.Entry.{Entry}
-use Rattle.entry.specs.declared.entry.Entry.TheVariants as entry
 use Rattle.entry.specs.Text.{is_data}
 use Rattle.log_head.specs.log_laws.Ids.{has}
 use Rattle.places.specs.Map.{Places}

@@ -1,5 +1,5 @@
 -- Why a step is refused.
-use Rattle.std.specs.Prelude.{ℕ, ◌+◌, ◌*◌, ◌/◌, ◌^◌, ◌==◌, ◌&&◌, length, Bool, nat_le, nat_lt, not, Option, Some, None}
+use Rattle.std.specs.Prelude.{ℕ, ◌+◌, ◌-◌, ◌*◌, ◌/◌, ◌^◌, ◌==◌, ◌&&◌, length, Bool, nat_le, nat_lt, not, Option, Some, None}
 use Rattle.std.specs.Prelude.{List}
 use Rattle.std.specs.Prelude.{is_none, is_some, true, false, [], ◌∷◌, ◌||◌, if◌then◌else◌}
 use Rattle.std.specs.Option.{option_map_or}
@@ -52,7 +52,7 @@ early_refusal d command =
     if d.is_halted then Some Halted
     else if is_too_big command d.config.segment || is_longer command d.config.largest then Some TooBig
     else if not (have_key d.config.tablets (command_key command)) then Some NoTablet
-    else if nat_le d.config.history (length d.history) then Some HistoryFull
+    else if nat_le d.config.history (length d.history - d.forgotten) then Some HistoryFull
     else None
 
 -- the head's image with the unit isn't longer than a segment

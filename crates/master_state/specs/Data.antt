@@ -37,6 +37,8 @@ pub record MasterData : Type 0 where
   -- the version that the next new key gets
   pub safe : ℕ
   pub history : List Record
+  -- how many of the first records are forgotten: the master no longer holds them
+  pub forgotten : ℕ
   -- the open pass
   pub pass : Option Pass
   -- victims of earlier passes, in the order in which their replicas are freed
@@ -65,6 +67,7 @@ fresh_data config = record {
   index = no_places (secret_seed config.hasher.secret);
   safe = 1;
   history = [];
+  forgotten = 0;
   pass = None;
   waiting = [];
   failed = [];

@@ -16,6 +16,7 @@ use Rattle.log_head.specs.log_laws.Ids.{has, all_inserted, without}
 use Rattle.entry.specs.declared.key.Key.{Key}
 use Rattle.std.specs.List.{AllByRecursion}
 use Rattle.entry.specs.Text.{text_of, IsSegment}
+use Rattle.master_state.specs.Kept.{AreFewKept}
 use Rattle.places.specs.declared.place.Place.{Place}
 use Rattle.places.specs.Map.{AreKept}
 use Rattle.images.specs.Image.{Image}
@@ -170,7 +171,7 @@ NameBelow images unused = (s : ℕ) (t : Tombstone) → IsAmong (entry.Tombstone
 pub record IsCore (d : MasterData) : Type 0 where
   pub config : config_fault d.config ≡ None
   pub replicas : d.head.replicas ≡ d.config.replicas
-  pub history : length d.history ≤ d.config.history
+  pub history : AreFewKept (length d.history) d.forgotten d.config.history
   pub head : IsHeadValue d.head
   pub image : IsImageOf d.config.master d.head (head_of d.head)
   pub within : length (text_of d.head.image) ≤ d.config.segment

@@ -1,9 +1,11 @@
 pub mod Config
 pub mod Images
 pub mod Data
+pub mod Kept
 pub mod Live
 pub mod Ledger
 pub mod Log
+pub mod Forgetting
 pub mod Budget
 pub mod Causes
 pub mod Steps

@@ -1,7 +1,7 @@
 //! How much memory a core counts, and when a roll may begin.
 
 ghost use Rattle.std.specs.Prelude.{◌≡◌, ◌+◌, ◌-◌, ◌*◌, ◌≤◌, ◌^◌, length, true, IfSome};
-ghost use Rattle.log_head.specs.Head.{is_open};
+ghost use Rattle.log_head.specs.Head.{is_open, digest_of};
 ghost use Rattle.master_state.specs.Budget.{used_seglets, free_seglets, seglets_of, is_working, may_roll, may_commit};
 ghost use Rattle.master_state.specs.Budget.{has_abandoned, commit_listed, may_turn, turn_listed, turn_need};
 ghost use Rattle.master_state.specs.declared.failover.Part.TheVariants as part;
@@ -32,6 +32,13 @@ impl Core {
         ensures { result ≡ free_seglets self.now }
     {
         self.config.seglets - self.used()
+    }
+
+    /// How many ids the digest in force lists.
+    pub fn digest_len(&self) -> u64
+        ensures { result ≡ length (digest_of self.now.head.image) }
+    {
+        self.closed.len() as u64 + 1 - self.survivors()
     }
 
     /// How many seglets the head counts once it is closed.

@@ -8,6 +8,7 @@ ghost use Rattle.master_state.specs.Causes.{step_refusal};
 ghost use Rattle.master_state.specs.Config.{config_fault};
 ghost use Rattle.std.specs.Result.{result_err};
 ghost use Rattle.master_state.specs.Data.{fresh_data};
+ghost use Rattle.master_state.specs.Forgetting.{ForgetsTo};
 ghost use Rattle.master_state.specs.Invariant.{IsCore};
 ghost use Rattle.log_memory.specs.log_laws.Steps.{restored};
 ghost use Rattle.master_state.specs.Loading.{restored_data, IsBare};
@@ -95,6 +96,7 @@ impl Model for Core {
       index = m.index.held;
       safe = m.safe;
       history = m.history.records;
+      forgotten = m.history.forgotten;
       pass = m.pass;
       waiting = m.waiting.items;
       failed = m.failed;
@@ -117,6 +119,7 @@ impl Model for Core {
           index = m.index.held;
           safe = m.safe;
           history = m.history.records;
+          forgotten = m.history.forgotten;
           pass = m.pass;
           waiting = m.waiting.items;
           failed = m.failed;
@@ -137,6 +140,7 @@ impl Model for Core {
           index = m.index.held;
           safe = m.safe;
           history = m.history.records;
+          forgotten = m.history.forgotten;
           pass = m.pass;
           waiting = m.waiting.items;
           failed = m.failed;
@@ -265,7 +269,8 @@ impl Core {
 
     /// The accepted commands, with their replies.
     pub fn history(&self) -> &History
-        ensures { result.now.records ≡ self.now.history }
+        ensures records { result.now.records ≡ self.now.history }
+        ensures forgotten { result.now.forgotten ≡ self.now.forgotten }
     {
         &self.history
     }
@@ -280,8 +285,18 @@ impl Core {
         }
         match self.head.first_missing() {
             None => self.history.len() as u64,
-            Some(number) => number as u64,
+            Some(number) => number,
         }
+    }
+
+    /// Forgets the first `n` records, or those of them that are durable, but for the last 1,024 of these at most. Their
+    /// memory is freed.
+    pub fn forget(&mut self, n: u64)
+        ensures forgets { ForgetsTo n self.old self.new }
+        ensures valid { IsCore self.new }
+    {
+        let most = n.min(self.durable());
+        self.history.forget(most as usize);
     }
 
     // ---- the ledger

@@ -1,5 +1,4 @@
 use Rattle.std.proofs.Common.{◌≡◌, ℕ, List, ◌++◌, ◌∷◌, [], None, ◌<◌, length, rules, refl, sym, ap, subst, ◌∙◌}
-use Rattle.std.proofs.Common.{arith}
 use Rattle.versioned_map.specs.declared.command.Command.{Command}
 use Rattle.versioned_map.specs.declared.command.Record.{Record}
 use Rattle.versioned_map.specs.declared.command.Reply.{Reply}
@@ -19,7 +18,7 @@ use Rattle.master_commands.proofs.Indexed.{IsMovedBy, moved_by}
 use Rattle.master_state.specs.Invariant.{AreTallied, IsCore}
 use Rattle.std.specs.Prelude.{IsSome}
 use Rattle.std.proofs.lemmas.Result.{err_from_is_err_and}
-use Rattle.master_state.proofs.Refusals.{sizes_of, few_records, is_admitted, passed_early}
+use Rattle.master_state.proofs.Refusals.{sizes_of}
 use Rattle.places.specs.Hashing.{hash_of}
 use Rattle.master_commands.proofs.Changes.{put_is_some}
 use Rattle.history.specs.Packing.{IsReplyTo}
@@ -38,15 +37,6 @@ enact-requires-clause-fits c =
     let judged : IsJudged d command c.args.judged.now.change c.args.judged.now.held.place.segment =
     rw (← c.core.view_is) at c.requires.judged in
     fits d c.core.invariant.2 command c.args.judged.now.change c.args.judged.now.held.place.segment judged passed
-
-pub overflow_cast-place : goal.overflow_cast-place
-overflow_cast-place c =
-    let d : MasterData = the_view c.core.inside in
-    let command = shown_command c.args.accepted.now.command in
-    let passed : command_refusal d command ≡ None = rw (← c.core.view_is) at c.requires.passed in
-    let room = (is_admitted d command (passed_early d command passed)).room in
-    let few = few_records d.config c.core.invariant.2.config in
-    omega (arith, c.len-place.ensures, room, few)
 
 -- ---- the core with the record, where memory was given
 
@@ -106,6 +96,9 @@ module _ (c : goal.After-push) where
   items : c.push.new.self.records ≡ d.history ++ shown_record c.args.accepted.now ∷ []
   items = rw (c.push.ensures.records, c.enact.ensures.history) refl
 
+  gone : c.push.new.self.forgotten ≡ d.forgotten
+  gone = c.push.ensures.forgotten ∙ c.enact.ensures.forgotten
+
   abbrev e : MasterData
   e =
       let there = c.in_ok-enact.ensures.index in
@@ -119,6 +112,7 @@ module _ (c : goal.After-push) where
     index = c.enact.new.index.held;
     safe = c.safe_after-core-inside.result;
     history = c.push.new.self.records;
+    forgotten = c.push.new.self.forgotten;
     live = c.args.judged.now.live;
   }
 
@@ -131,6 +125,7 @@ module _ (c : goal.After-push) where
     index = c.enact.new.index.held;
     safe = sym c.safe_after-core-inside.ensures i;
     history = sym (items ∙ ap with_reply reply) i;
+    forgotten = sym gone i;
     live = sym live i;
   }
 
@@ -215,11 +210,13 @@ module _ (c : goal.After-from_residual) where
     head = c.enact.new.head;
     index = c.enact.new.index.held;
     history = c.enact.new.history.records;
+    forgotten = c.enact.new.history.forgotten;
   }
   unchanged =
       let kept = c.in_err-enact.ensures.err in
       let history = c.in_err-enact.ensures.history in
-      λ i. record was { head = sym kept.0 i; index = sym kept.1 i; history = sym history i }
+      let gone = c.in_err-enact.ensures.forgotten in
+      λ i. record was { head = sym kept.0 i; index = sym kept.1 i; history = sym history i; forgotten = sym gone i }
 
 pub invariant_of-core : goal.invariant_of-core
 invariant_of-core c = (

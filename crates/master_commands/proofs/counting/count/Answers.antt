@@ -1,8 +1,8 @@
 use Rattle.std.proofs.Common.{◌≡◌, ℕ, List, refl, subst}
 use Rattle.tally.specs.declared.tallies.Tally.{Tally}
-use Rattle.tally.specs.Rows.{more, less, IsChangedAt}
+use Rattle.tally.specs.Rows.{more, IsChangedAt}
 use Rattle.history.specs.View.{shown_command}
-use Rattle.master_commands.specs.Counts.{put_len, stone_len, IsCounted}
+use Rattle.master_commands.specs.Counts.{put_len, stone_len}
 use Rattle.master_commands.proofs.counting.count.Goals as goal
 
 -- a segment has so many bytes more, by equal numbers

@@ -1,4 +1,4 @@
-use Rattle.std.proofs.Common.{◌≡◌, ℕ, List, None, rules, length, sym, ap, subst, ◌∙◌}
+use Rattle.std.proofs.Common.{◌≡◌, ℕ, List, None, rules, length, sym, subst, ◌∙◌}
 use Rattle.std.specs.Prelude.{Option}
 use Rattle.std.proofs.lemmas.Result.{err_from_is_err_and}
 use Rattle.entry.specs.declared.key.Key.{Key}
@@ -34,17 +34,28 @@ module _ (c : After-record_get) where
   present : IsPresent d (Get k) c.args.judged.now.present c.args.judged.now.held.place
   present = rw (← c.core.view_is) at c.requires.present
 
-  -- the core with other records
-  abbrev with : List Record → MasterData
-  with records = record d { history = records }
+  abbrev records : List Record
+  records = c.record_get.new.history.records
+
+  abbrev gone : ℕ
+  gone = c.record_get.new.history.forgotten
+
+  same : gone ≡ d.forgotten
+  same = c.record_get.ensures.forgotten
+
+  abbrev left : MasterData
+  left = record d { history = records; forgotten = gone }
+
+  unchanged : records ≡ d.history → d ≡ left
+  unchanged refused = λ i. record d { history = sym refused i; forgotten = sym same i }
 
 pub invariant_of-core-2 : goal.invariant_of-core-2
 invariant_of-core-2 c =
     let t = (goal.at.invariant_of-core-2 c).After-record_get in (
       c.core.invariant.0,
       c.core.invariant.1,
-      read_core (d t) c.core.invariant.2 (k t) c.args.seat (passed t) c.record_get.new.history.records (held t)
-          c.in_ok-record_get.ensures.added (present t).stands,
+      read_core (d t) c.core.invariant.2 (k t) c.args.seat (passed t) (records t) (gone t) (held t)
+          c.in_ok-record_get.ensures.added (same t) (present t).stands,
       c.core.invariant.3,
       c.core.invariant.4,
     )
@@ -55,9 +66,9 @@ returns-clause-added c =
     let number : c.len-place.result ≡ length (d t).history = search rules in
     rw (← c.core.view_is)
     (subst (λ (n : ℕ). Applies (d t) c.args.seat (Get (k t)) (Applied n (reply_now (d t) (Get (k t))))
-    (with t c.record_get.new.history.records)) (sym number)
-    (read_applies (d t) c.core.invariant.2 (k t) c.args.seat (passed t) c.record_get.new.history.records (held t)
-    c.in_ok-record_get.ensures.added (present t).stands))
+    (left t)) (sym number)
+    (read_applies (d t) c.core.invariant.2 (k t) c.args.seat (passed t) (records t) (gone t) (held t)
+    c.in_ok-record_get.ensures.added (same t) (present t).stands))
 
 pub returns-clause-may : goal.returns-clause-may
 returns-clause-may c =
@@ -68,8 +79,8 @@ returns-clause-may c =
 pub returns-clause-valid : goal.returns-clause-valid
 returns-clause-valid c =
     let t = (goal.at.returns-clause-valid c).After-record_get in
-    read_core (d t) c.core.invariant.2 (k t) c.args.seat (passed t) c.record_get.new.history.records (held t)
-    c.in_ok-record_get.ensures.added (present t).stands
+    read_core (d t) c.core.invariant.2 (k t) c.args.seat (passed t) (records t) (gone t) (held t)
+    c.in_ok-record_get.ensures.added (same t) (present t).stands
 
 -- ---- the core as it was, where memory was refused
 
@@ -78,8 +89,7 @@ invariant_of-core c =
     let t = (goal.at.invariant_of-core c).After-record_get in (
       c.core.invariant.0,
       c.core.invariant.1,
-      subst (λ (records : List Record). IsCore (with t records)) (sym c.in_err-record_get.ensures.refused)
-          c.core.invariant.2,
+      subst IsCore (unchanged t c.in_err-record_get.ensures.refused) c.core.invariant.2,
       c.core.invariant.3,
       c.core.invariant.4,
     )
@@ -88,4 +98,4 @@ pub returns-in_err-record_get-clause-refused : goal.returns-in_err-record_get-cl
 returns-in_err-record_get-clause-refused c =
     let t = (goal.at.returns-in_err-record_get-clause-refused c).After-record_get in
     let failed = err_from_is_err_and c.from_residual.result c.from_residual.ensures.1 in
-    rw failed.1 (ap (with t) c.in_err-record_get.ensures.refused ∙ c.core.view_is)
+    rw failed.1 (sym (unchanged t c.in_err-record_get.ensures.refused) ∙ c.core.view_is)

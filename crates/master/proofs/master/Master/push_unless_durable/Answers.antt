@@ -1,6 +1,6 @@
 use Rattle.std.proofs.Common.{◌<◌, inl, length, subst, sym}
 use Rattle.master.specs.World.{MasterValue, world, world_of}
-use Rattle.master.proofs.PushedFor.{pushes_keep}
+use Rattle.master.proofs.PushedFor.{pushes_keep, pushes_remember}
 use Rattle.master.proofs.master.Master.push_unless_durable.Goals as goal
 
 pub push_unless_durable-is_durable-requires : goal.push_unless_durable-is_durable-requires
@@ -22,3 +22,9 @@ returns-clause-keeps g c =
     pushes_keep c.args.place (world g.F.Fleet.state c.args.self.now)
     (world_of pushed.new.core (g.F.Fleet.state pushed.new.fleet)) pushed.result c.show_kept.ensures
     (returns-clause-gives g c)
+
+pub returns-clause-remembers : goal.returns-clause-remembers
+returns-clause-remembers g c =
+    let pushed = c.push_unless_durable-is_durable in
+    pushes_remember c.args.place (world g.F.Fleet.state c.args.self.now)
+    (world_of pushed.new.core (g.F.Fleet.state pushed.new.fleet)) pushed.result (returns-clause-gives g c)

@@ -1,4 +1,4 @@
-use Rattle.std.proofs.Common.{◌≡◌, ◌+◌, ◌++◌, ◌∷◌, [], length, vec_len, rules, arith}
+use Rattle.std.proofs.Common.{◌≡◌, ◌+◌, ◌++◌, ◌∷◌, [], length, vec_len, refl, ◌∙◌, rules, arith}
 use Rattle.std.proofs.lemmas.List.{length-append}
 use Rattle.master.specs.World.{world}
 use Rattle.master.proofs.Keeping.{keeps_same, keeps_pushed}
@@ -25,6 +25,7 @@ loop-step-preserved g c =
       keeps = keeps_pushed (world g.F.Fleet.state c.args.self.now) (world g.F.Fleet.state c.loop-step.self)
           (world g.F.Fleet.state c.step-answer.new.self) c.loop-step.yielded c.in-Some.step before.keeps
           c.step-answer.ensures.keeps;
+      remembers = c.step-answer.ensures.remembers ∙ before.remembers;
       count = omega (arith, length-append c.loop-step.yielded (c.in-Some.step ∷ []));
       room = rw c.push_reserved.ensures.capacity room;
     }
@@ -33,6 +34,7 @@ pub loop-step-init : goal.loop-step-init
 loop-step-init g c = record {
   ran = search rules;
   keeps = keeps_same 0 (world g.F.Fleet.state c.args.self.now);
+  remembers = refl;
   count = search rules;
   room = search rules;
 }

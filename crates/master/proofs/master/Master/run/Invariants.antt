@@ -8,6 +8,7 @@ abbrev pub invariant-loop-step : goal.invariant-loop-step
 invariant-loop-step g l = record {
   ran : IsRun (world g.F.Fleet.state l.fn.self) l.yielded l.answers.items (world g.F.Fleet.state l.self);
   keeps : Keeps (length l.yielded) (world g.F.Fleet.state l.fn.self) (world g.F.Fleet.state l.self);
+  remembers : l.self.knows.forgotten ≡ l.fn.self.knows.forgotten;
   count : vec_len l.answers ≡ length l.yielded;
   room : length l.fn.steps ≤ vec_capacity l.answers;
 }

@@ -8,7 +8,7 @@ use Rattle.master_core.specs.master_state.declared.step.StepAnswer.{StepAnswer}
 use Rattle.master.specs.Steps.{Accepts, Declines, Steps}
 use Rattle.master.specs.World.{World, world}
 use Rattle.master.proofs.GoingOn.{step_goes_on}
-use Rattle.master.proofs.Keeping.{steps_keep}
+use Rattle.master.proofs.Keeping.{steps_keep, steps_remember}
 use Rattle.master.proofs.master.Master.step.Goals.{in-Apply, in-Push, in-BeginRoll, in-Compact, in-BeginClean, in-Copy}
 use Rattle.master.proofs.master.Master.step.Goals.{in-Seal, in-Free}
 use Rattle.master.proofs.master.Master.step.Goals as goal
@@ -61,3 +61,8 @@ pub returns-clause-goes_on : goal.returns-clause-goes_on
 returns-clause-goes_on g c =
     step_goes_on (world g.F.Fleet.state c.args.self.now) c.args.step c.match-step.outcome
     (world g.F.Fleet.state c.match-step.self) c.show_kept.ensures (returns-clause-gives g c)
+
+pub returns-clause-remembers : goal.returns-clause-remembers
+returns-clause-remembers g c =
+    steps_remember (world g.F.Fleet.state c.args.self.now) (world g.F.Fleet.state c.match-step.self) c.args.step
+    c.match-step.outcome (returns-clause-gives g c)

@@ -1,4 +1,5 @@
 use Rattle.std.proofs.Common.{◌≡◌, [], rules, ap, subst}
+use Rattle.history.specs.Records.{HistoryValue}
 use Rattle.images.specs.Images.{ImagesValue}
 use Rattle.places.specs.Map.{IndexValue}
 use Rattle.places.specs.Relocation.{no_places}
@@ -19,7 +20,8 @@ invariant_of-core c =
     let ledger : c.empty.result.postings ≡ [] = search rules in
     let index : c.with_hasher.result.held ≡ no_places (secret_seed c.args.config.hasher.secret) =
     ap (λ (v : IndexValue). v.held) c.with_hasher.ensures in
-    let history : c.new.result.records ≡ [] = search rules in
+    let history : c.new.result.records ≡ [] = ap (λ (h : HistoryValue). h.records) c.new.ensures in
+    let forgotten : c.new.result.forgotten ≡ 0 = ap (λ (h : HistoryValue). h.forgotten) c.new.ensures in
     let waiting : c.new-2.result.items ≡ [] = search rules in
     let head : c.in_ok-head.head ≡ fresh_head c.args.config.master c.args.config.replicas
     (lone_start 1 c.args.config.format c.args.safe) = search rules in
@@ -32,7 +34,7 @@ invariant_of-core c =
     let closed : c.new-closed.result.images ≡ [] = ap (λ (v : ImagesValue). v.images) made in
     let failed : c.none.result ≡ [] = c.none.ensures in
     let abandoned : c.none-2.result.heads ≡ [] = c.none-2.ensures in
-    rw (head, closed, index, history, waiting, nothing, ledger, failed, abandoned) (
+    rw (head, closed, index, history, forgotten, waiting, nothing, ledger, failed, abandoned) (
       (λ never. absurd (cc)),
       record { segment = sizes.segment; seglet = sizes.seglet; seglets = sizes.seglets },
       restored_core c.args.config c.args.safe (subst (λ (h : HeadValue). IsHeadValue h) head
@@ -45,7 +47,7 @@ pub returns-clause-log : goal.returns-clause-log
 returns-clause-log c =
     let nothing : c.nothing.result.objects ≡ [] = search rules in
     let ledger : c.empty.result.postings ≡ [] = search rules in
-    let history : c.new.result.records ≡ [] = search rules in
+    let history : c.new.result.records ≡ [] = ap (λ (h : HistoryValue). h.records) c.new.ensures in
     let head : c.in_ok-head.head ≡ fresh_head c.args.config.master c.args.config.replicas
     (lone_start 1 c.args.config.format c.args.safe) = search rules in
     let failed : c.none.result ≡ [] = c.none.ensures in
