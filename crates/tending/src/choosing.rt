@@ -7,7 +7,7 @@ ghost use Rattle.tending.specs.Low.{MayRest};
 ghost use Rattle.tending.specs.Tends.{IsBegin};
 
 use crate::notes::Notes;
-use crate::policy::{Policy, product, room_of};
+use crate::policy::{Policy, product};
 use crate::weighing::{Weight, count_all, weigh_all};
 use driving::master::{Master, Step};
 use entry::{NoMemory, Row};
@@ -36,13 +36,10 @@ fn best_of(policy: &Policy, weights: &[Weight]) -> Option<u64> {
 
 /// Whether a pass comes before a compaction: the log has many segments for its memory or for its digest.
 fn wants_pass<F: Fleet>(master: &Master<F>, policy: &Policy, weights: &[Weight]) -> bool {
-    let room = room_of(master);
-    let memory = room
-        .used
-        .saturating_add(room.free)
-        .saturating_mul(policy.seglet);
-    let stored = (weights.len() as u64).saturating_mul(policy.segment);
-    policy.is_crowded_by(weights.len().saturating_add(1))
+    let memory = master.config().seglets.saturating_mul(policy.seglet);
+    let closed = weights.len() as u64;
+    let stored = closed.saturating_mul(policy.segment);
+    policy.is_crowded_by(closed.saturating_add(1))
         || product(stored, 100) >= product(policy.stored, memory)
 }
 
@@ -139,7 +136,8 @@ fn pass_of(
     Some(Step::BeginClean(Row::new(choice.victims)))
 }
 
-/// What begins if nothing is under way. It notes and counts segments, and changes nothing else.
+/// What begins if nothing is under way. It notes and counts segments, and changes nothing else. Each roll's segment is
+/// noted at the next call, so that no call has to note many.
 pub(crate) fn begin<F: Fleet>(
     master: &mut Master<F>,
     policy: &Policy,
@@ -150,12 +148,12 @@ pub(crate) fn begin<F: Fleet>(
     ensures none { IfOk result (λ step. step ≡ None → MayRest policy.now master.new.knows) }
     ensures same { world F.state master.new ≡ world F.state master.old }
 {
-    if !policy.is_low(master)? {
-        return Ok(None);
-    }
     if notes.are_behind(master) {
         count_all(master)?;
         notes.update(master)?;
+    }
+    if !policy.is_low(master) {
+        return Ok(None);
     }
     begin_by(master, policy, notes)
 }
@@ -177,7 +175,7 @@ fn begin_by<F: Fleet>(
             return Ok(Some(Step::Compact(id)));
         }
     }
-    let free = room_of(master).free;
+    let free = master.free_seglets();
     let choice = choose(policy, notes.alloc(), free, weights.as_slice())?;
     if let Some(step) = pass_of(policy, free, weights.len() as u64, choice, best) {
         return Ok(Some(step));

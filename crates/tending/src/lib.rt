@@ -17,4 +17,4 @@ pub use driving;
 pub use notes::Notes;
 pub use policy::Policy;
 pub use rounds::make_room;
-pub use steps::tend;
+pub use steps::{choose_step, tend};

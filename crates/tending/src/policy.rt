@@ -1,12 +1,11 @@
 //! When a cleaner begins something, and what.
 
-ghost use Rattle.std.specs.Prelude.{◌≡◌, ◌+◌, ◌*◌, ◌/◌, nat_lt, IfOk};
-ghost use Rattle.driving.specs.master.master_state.Budget.{free_seglets};
+ghost use Rattle.std.specs.Prelude.{◌≡◌, ◌+◌, ◌*◌, ◌/◌, nat_lt};
 ghost use Rattle.tending.specs.Low.{is_low, is_short, usual_for};
 
 use crate::weighing::Weight;
-use driving::master::{Config, Look, Master, Shown};
-use entry::{HEADER_LEN, NoMemory};
+use driving::master::{Config, Master};
+use entry::HEADER_LEN;
 use replica::Fleet;
 
 /// When a cleaner begins something, and whether it compacts a segment or begins a pass. These numbers decide what is
@@ -21,26 +20,6 @@ pub struct Policy {
     pub spare: u64,
     /// A pass comes first if the closed segments, each counted whole, are so many percent of memory or more.
     pub stored: u64,
-}
-
-/// The seglets of memory that a master counts, and those that are free.
-#[derive(Clone, Copy)]
-pub(crate) struct Room {
-    pub used: u64,
-    pub free: u64,
-}
-
-/// The room of a master. It takes no memory.
-pub(crate) fn room_of<F: Fleet>(master: &Master<F>) -> Room
-    ensures { result.free ≡ free_seglets master.now.knows }
-{
-    match &master.look(Look::Room) {
-        Ok(Shown::Room(used, free)) => Room {
-            used: *used,
-            free: *free,
-        },
-        _ => unreachable!(),
-    }
 }
 
 /// The product of two numbers.
@@ -63,32 +42,25 @@ impl Policy {
         }
     }
 
-    /// Whether fewer whole segments are free than the policy spares. It takes no memory.
+    /// Whether fewer whole segments are free than the policy spares.
     fn is_short<F: Fleet>(&self, master: &Master<F>) -> bool
         ensures { result ≡ is_short self.now master.now.knows }
     {
-        product(room_of(master).free, self.seglet) < product(self.spare, self.segment)
+        product(master.free_seglets(), self.seglet) < product(self.spare, self.segment)
     }
 
     /// Whether a digest that lists so many segments has room for fewer than the policy spares.
-    pub(crate) fn is_crowded_by(&self, listed: usize) -> bool
+    pub(crate) fn is_crowded_by(&self, listed: u64) -> bool
         ensures { result ≡ nat_lt (self.now.segment / 32) (listed + self.now.spare) }
     {
         ((self.segment / 32) as u128) < listed as u128 + self.spare as u128
     }
 
     /// Whether something has to begin: few whole segments are free, or the digest has little room.
-    pub(crate) fn is_low<F: Fleet>(&self, master: &Master<F>) -> Result<bool, NoMemory>
-        ensures { IfOk result (λ low. low ≡ is_low self.now master.now.knows) }
+    pub(crate) fn is_low<F: Fleet>(&self, master: &Master<F>) -> bool
+        ensures { result ≡ is_low self.now master.now.knows }
     {
-        if self.is_short(master) {
-            return Ok(true);
-        }
-        match &master.look(Look::Digest) {
-            Ok(Shown::Digest(ids)) => Ok(self.is_crowded_by(ids.as_slice().len())),
-            Ok(_) => unreachable!(),
-            Err(fault) => Err(*fault),
-        }
+        self.is_short(master) || self.is_crowded_by(master.digest_len())
     }
 
     /// The seglets of so many bytes.

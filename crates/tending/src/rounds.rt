@@ -8,7 +8,7 @@ ghost use Rattle.tending.specs.Tends.{TendsUntil};
 
 use crate::choosing::begin;
 use crate::notes::Notes;
-use crate::policy::{Policy, room_of};
+use crate::policy::Policy;
 use driving::master::{Master, Refusal};
 use replica::Fleet;
 
@@ -56,14 +56,14 @@ pub fn make_room<F: Fleet>(
     ensures goes_on { LivesOn master.old.knows master.new.knows [] }
     ensures spent { IfErr result (λ r. r ≡ Refusal.Spent → IsSpent (F.state master.new.fleet)) }
 {
-    let free = room_of(master).free;
+    let free = master.free_seglets();
     match finish(master) {
         Ok(true) => {}
         Ok(false) => return Ok(false),
         Err(refusal) => return Err(refusal),
     }
     let Some(step) = begin(master, policy, notes)? else {
-        return Ok(room_of(master).free > free);
+        return Ok(master.free_seglets() > free);
     };
     if let Err(refusal) = master.step(step) {
         match refusal {
@@ -72,7 +72,7 @@ pub fn make_room<F: Fleet>(
         }
     }
     match finish(master) {
-        Ok(true) => Ok(room_of(master).free > free),
+        Ok(true) => Ok(master.free_seglets() > free),
         Ok(false) => Ok(false),
         Err(refusal) => Err(refusal),
     }

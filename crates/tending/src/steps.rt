@@ -15,8 +15,9 @@ use driving::master::{Master, Refusal, Step};
 use entry::NoMemory;
 use replica::Fleet;
 
-/// The next step of the cleaner, if there is one. It counts segments, and changes nothing else.
-fn next<F: Fleet>(
+/// The next step of the cleaner, if there is one: what is under way goes on first. For whoever makes the steps one by
+/// one. It notes and counts segments, and changes nothing else. If memory runs out for that, it chooses nothing.
+pub fn choose_step<F: Fleet>(
     master: &mut Master<F>,
     policy: &Policy,
     notes: &mut Notes,
@@ -56,7 +57,7 @@ pub fn tend<F: Fleet>(
         made < most → is_low policy.now master.new.knows ≡ true → next_step master.new.knows ≡ None) }
 {
     for made in 0..most {
-        let Some(step) = next(master, policy, notes)? else {
+        let Some(step) = choose_step(master, policy, notes)? else {
             return Ok(made);
         };
         if let Err(refusal) = master.step(step) {

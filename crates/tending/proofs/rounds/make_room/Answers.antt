@@ -81,7 +81,7 @@ returns-in-Ok-true-finish-clause-round g c =
     let ends = c.finish-2.ensures.finished (c.in-Ok-true-finish.is ∙ ap Ok c.in-Ok-true-finish.field-0-test) in
     inl (
       inr (mid, first, begun, s, begins, goes, ends),
-      ap₂ nat_lt c.room_of-free.ensures c.room_of-in-Ok-true-finish.ensures,
+      ap₂ nat_lt c.free_seglets-free.ensures c.free_seglets-in-Ok-true-finish.ensures,
     )
 
 pub returns-in-Ok-false-finish-clause-round : goal.returns-in-Ok-false-finish-clause-round

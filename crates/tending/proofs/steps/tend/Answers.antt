@@ -17,13 +17,13 @@ use Rattle.tending.proofs.steps.tend.Goals as goal
 pub returns-in_default-refusal : goal.returns-in_default-refusal
 returns-in_default-refusal g c =
     let old = world g.F.Fleet.state c.args.master.now in
-    let mid = world g.F.Fleet.state c.next.new.master in
+    let mid = world g.F.Fleet.state c.choose_step.new.master in
     let new = world g.F.Fleet.state c.step.new.self in
-    let is : IsTendStep c.next.new.master.knows c.in-Some.step =
-    subst (λ (o : Option Step). IfSome o (λ (s : Step). IsTendStep c.next.new.master.knows s)) c.in-Some.is
+    let is : IsTendStep c.choose_step.new.master.knows c.in-Some.step =
+    subst (λ (o : Option Step). IfSome o (λ (s : Step). IsTendStep c.choose_step.new.master.knows s)) c.in-Some.is
     c.in_ok-step.ensures.some in
     let so : IsSoFar c.loop-made.made old mid =
-    subst (λ (w : World). IsSoFar c.loop-made.made old w) (sym c.next.ensures.same) c.loop-made.invariant in
+    subst (λ (w : World). IsSoFar c.loop-made.made old w) (sym c.choose_step.ensures.same) c.loop-made.invariant in
     record {
       tended = tt;
       able = tt;
@@ -43,20 +43,20 @@ returns-in_default-refusal g c =
           c.step.ensures.keeps;
       keeps = keeps_one_more c.loop-made.made c.args.most old mid new c.loop-made-test.true so.keeps
           c.step.ensures.keeps;
-      spent = λ spent. (step_spent c.in-Some.step (no_record c.next.new.master.knows c.in-Some.step is) mid new
+      spent = λ spent. (step_spent c.in-Some.step (no_record c.choose_step.new.master.knows c.in-Some.step is) mid new
           c.in-Err.refusal c.in-Err.ensures.gives spent).0;
     }
 
 pub loop-made-preserved : goal.loop-made-preserved
 loop-made-preserved g c =
     let old = world g.F.Fleet.state c.args.master.now in
-    let mid = world g.F.Fleet.state c.next.new.master in
+    let mid = world g.F.Fleet.state c.choose_step.new.master in
     let new = world g.F.Fleet.state c.step.new.self in
-    let is : IsTendStep c.next.new.master.knows c.in-Some.step =
-    subst (λ (o : Option Step). IfSome o (λ (s : Step). IsTendStep c.next.new.master.knows s)) c.in-Some.is
+    let is : IsTendStep c.choose_step.new.master.knows c.in-Some.step =
+    subst (λ (o : Option Step). IfSome o (λ (s : Step). IsTendStep c.choose_step.new.master.knows s)) c.in-Some.is
     c.in_ok-step.ensures.some in
     let so : IsSoFar c.loop-made.made old mid =
-    subst (λ (w : World). IsSoFar c.loop-made.made old w) (sym c.next.ensures.same) c.loop-made.invariant in
+    subst (λ (w : World). IsSoFar c.loop-made.made old w) (sym c.choose_step.ensures.same) c.loop-made.invariant in
     let ok : (a : StepAnswer) → c.step.result ≡ Ok a → IsSoFar (c.loop-made.made + 1) old new = λ a r.
     so_far_more c.loop-made.made old mid new c.in-Some.step c.step.result so is
     c.step.ensures.gives (goes_ok c.in-Some.step mid new c.step.result a r c.step.ensures.gives)
