@@ -1,6 +1,6 @@
 //! A life of a master, behind a store of one seat.
 
-ghost use Rattle.std.specs.Prelude.{◌≡◌, ◌≤◌, IfErr};
+ghost use Rattle.std.specs.Prelude.{◌≡◌, ◌≤◌, IfErr, length};
 ghost use Rattle.store_lines.specs.locked_log.Ends.{IsFresh};
 ghost use Rattle.backup.specs.State.{fleet_state};
 ghost use Rattle.store_lines.specs.locked_log.Made.{IsMade};
@@ -69,6 +69,7 @@ fn live_in<B: Naming, R: Wait, O: Write>(
     requires fresh { IsFresh blank.row master.knows }
     requires seats { (1 ≤ blank.seats) × (blank.seats ≤ 64) }
     requires cells { (blank.cells ≡ B.cells) × (blank.seats ≡ B.made.seats) }
+    requires start { B.start ≡ length master.knows.history }
     requires ledger { (blank.name ≡ B.name) × (blank.parts ≡ B.parts) }
     requires mark { blank.table ≡ B.table }
     requires made { IsMade B.made (world fleet_state master) }

@@ -27,6 +27,7 @@ pub const OPTIONS: Options = Options {
     largest: u64::MAX,
     live: u64::MAX,
     tend: 0,
+    forget: false,
 };
 
 /// A script with tombstones.

@@ -167,15 +167,19 @@ module _ (m e : MasterValue MemoryFleet) (on : IsMade (made_now 64 (world fleet_
   work_refused refusal.Spent new a (inr (is, stay, unspent)) = unknown new a is stay
   work_refused r new a refuses = refused r new a refuses (λ is. absurd (cc))
 
+  cell_refused : (new : Node) (a : Answer) → a ≡ answer.CellRefused → new ≡ Up e → Answered d new config at line a
+  cell_refused new a is stay =
+      subst (λ (n : Node). Answered d n config at line a) (sym stay)
+      (subst (λ (x : Answer). Answered d (Up e) config at line x) (sym is)
+      (uncounted_told answer.CellRefused (uncounted None)))
+
   call_refused : (fault : CallFault) (new : Node) (a : Answer) → RefusesCall (Up e) fault new a
       → Answered d new config at line a
   call_refused (call_fault.Refused r) new a refuses = work_refused r new a refuses
   call_refused (call_fault.Unsure place r) new a refuses = work_refused r new a refuses
   call_refused call_fault.SeatUnknown new a (is, stay) = unknown new a is stay
-  call_refused call_fault.CellRefused new a (is, stay) =
-      subst (λ (n : Node). Answered d n config at line a) (sym stay)
-      (subst (λ (x : Answer). Answered d (Up e) config at line x) (sym is)
-      (uncounted_told answer.CellRefused (uncounted None)))
+  call_refused call_fault.CellRefused new a (is, stay) = cell_refused new a is stay
+  call_refused call_fault.CellsSpent new a (is, stay) = cell_refused new a is stay
   call_refused call_fault.NotYours new a (is, stay) = unknown new a is stay
 
 -- ---- of a node
@@ -237,6 +241,7 @@ module _ (old : Node) (m e : MasterValue MemoryFleet) (there : old ≡ Up m) (cl
   call_made (call_fault.Unsure place r) new a refuses = work_made r new a refuses
   call_made call_fault.SeatUnknown new a (is, same) = (is, stays_in new a answer.SeatUnknown is same refl)
   call_made call_fault.CellRefused new a (is, same) = (is, stays_in new a answer.CellRefused is same refl)
+  call_made call_fault.CellsSpent new a (is, same) = (is, stays_in new a answer.CellRefused is same refl)
   call_made call_fault.NotYours new a (is, same) = (is, stays_in new a answer.SeatUnknown is same refl)
 
   pub refused_made : (fault : CallFault)
@@ -321,6 +326,7 @@ no_count node new (call_fault.Unsure place r) a clients rounds calls refuses cou
     no_work node new r a clients rounds calls refuses counts
 no_count node new call_fault.SeatUnknown a clients rounds calls (is, same) counts = let both = sym is ∙ counts in cc
 no_count node new call_fault.CellRefused a clients rounds calls (is, same) counts = let both = sym is ∙ counts in cc
+no_count node new call_fault.CellsSpent a clients rounds calls (is, same) counts = let both = sym is ∙ counts in cc
 no_count node new call_fault.NotYours a clients rounds calls (is, same) counts = let both = sym is ∙ counts in cc
 
 -- a node without a master makes no clients

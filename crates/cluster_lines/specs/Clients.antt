@@ -49,6 +49,7 @@ IsClientsAnswer f clients rounds (Err (call_fault.Refused r)) answer = IsClients
 IsClientsAnswer f clients rounds (Err (call_fault.Unsure place r)) answer = IsClientsRefusal f r answer
 IsClientsAnswer f clients rounds (Err call_fault.SeatUnknown) answer = answer ≡ answers.SeatUnknown
 IsClientsAnswer f clients rounds (Err call_fault.CellRefused) answer = answer ≡ answers.CellRefused
+IsClientsAnswer f clients rounds (Err call_fault.CellsSpent) answer = answer ≡ answers.CellRefused
 -- clients settle nothing, so this never comes
 IsClientsAnswer f clients rounds (Err call_fault.NotYours) answer = answer ≡ answers.SeatUnknown
 
@@ -74,6 +75,7 @@ RefusesCall old (call_fault.Refused r) new answer = RefusesWork old r new answer
 RefusesCall old (call_fault.Unsure place r) new answer = RefusesWork old r new answer
 RefusesCall old call_fault.SeatUnknown new answer = (answer ≡ answers.SeatUnknown) × (new ≡ old)
 RefusesCall old call_fault.CellRefused new answer = (answer ≡ answers.CellRefused) × (new ≡ old)
+RefusesCall old call_fault.CellsSpent new answer = (answer ≡ answers.CellRefused) × (new ≡ old)
 RefusesCall old call_fault.NotYours new answer = (answer ≡ answers.SeatUnknown) × (new ≡ old)
 
 -- Just these clients make their rounds over the master of a node that is up, and the answer tells what comes of them.

@@ -105,6 +105,8 @@ fn refuse_call(node: &mut Node, fault: CallFault) -> Answer
         CallFault::Unsure(_, refusal) => refuse_work(node, refusal),
         CallFault::SeatUnknown => Answer::SeatUnknown,
         CallFault::CellRefused => Answer::CellRefused,
+        // The history is full before the cells are spent. Only tests show that this never comes.
+        CallFault::CellsSpent => Answer::CellRefused,
         // Clients settle nothing, so this never comes.
         CallFault::NotYours => Answer::SeatUnknown,
     }

@@ -1,7 +1,7 @@
 //! A store for whoever counts its calls, and looks at no reply.
 //!
 //! `call` makes one call: with Ok its seat made just one record more. `take_back` closes a store, always gives its
-//! master, and answers whether the history has just the records that the given seats count. The promises of clients
+//! master, and answers whether the given seats count their records since the store was made. The promises of clients
 //! rest on these two calls. Wrong programs that would break those promises are tried here, since this crate is proved
 //! fast.
 //!

@@ -1,6 +1,6 @@
 -- Rows of slots.
-use Rattle.std.proofs.Common.{◌≡◌, ◌<◌, ℕ, zero, suc, ◌+◌, List, [], ◌∷◌, ◌++◌, Option, Some, None, Bool, true, false}
-use Rattle.std.proofs.Common.{MatchBool, length, set, get_or, replicate, refl, sym, ap, ◌∙◌, arith, IfSome}
+use Rattle.std.proofs.Common.{◌≡◌, ◌<◌, ◌≤◌, ℕ, zero, suc, ◌+◌, ◌-◌, List, [], ◌∷◌, ◌++◌, Option, Some, None, Bool, true, false}
+use Rattle.std.proofs.Common.{MatchBool, length, drop, set, get_or, replicate, refl, sym, ap, ◌∙◌, arith, IfSome}
 use Rattle.std.specs.Prelude.{slice_get, slice_set}
 use Rattle.std.proofs.lemmas.List.{map-set, map-append, replicate-append-replicate}
 use Rattle.std.proofs.Math.Seq.{map-set_same}
@@ -56,3 +56,14 @@ row_has [] (r ∷ rs) k is l = absurd is
 row_has (c ∷ cs) [] k is l = absurd (omega arith)
 row_has (c ∷ cs) (r ∷ rs) zero is l = (r, refl, ap Some is.0)
 row_has (c ∷ cs) (r ∷ rs) (suc k) is l = row_has cs rs k is.1 (omega arith)
+
+-- a place of a list is one of its rest
+pub get_behind : {X : Type 0} (xs : List X) (n i : ℕ) → n ≤ i → i < length xs
+    → (i - n < length (drop n xs)) × (slice_get (drop n xs) (i - n) ≡ slice_get xs i)
+get_behind xs zero i h l = let e : i - zero ≡ i = omega arith in (omega (arith, l), ap (slice_get xs) e)
+get_behind [] (suc n) i h l = absurd (omega arith)
+get_behind (x ∷ xs) (suc n) zero h l = absurd (omega arith)
+get_behind (x ∷ xs) (suc n) (suc i) h l =
+    let e : suc i - suc n ≡ i - n = omega arith in
+    let r = get_behind xs n i (omega arith) (omega arith) in
+    (omega (arith, r.0, e), ap (slice_get (drop n xs)) e ∙ r.1)

@@ -17,7 +17,7 @@ pub struct Receipt<B: Labels> {
 }
 
 impl<B: Labels> Model for Receipt<B> {
-    ghost use Rattle.std.specs.Prelude.{◌≡◌, Some, slice_get};
+    ghost use Rattle.std.specs.Prelude.{◌≡◌, ◌≤◌, ◌-◌, Some, slice_get};
     ghost use Rattle.history_row.specs.Receipts.{Told};
     ghost use Rattle.history_row.specs.Rows.{known_of};
 
@@ -25,7 +25,7 @@ impl<B: Labels> Model for Receipt<B> {
 
     ghost view = { λ r. record { place = r.place; what = known_of r.note.known } };
 
-    ghost invariant = { λ r. slice_get B.cells r.place ≡ Some r.note.cell };
+    ghost invariant = { λ r. (B.start ≤ r.place) × (slice_get B.cells (r.place - B.start) ≡ Some r.note.cell) };
 }
 
 impl<B: Labels> Receipt<B> {

@@ -1,7 +1,7 @@
-//! The cells of a history, in order.
+//! The cells of a history, in order, from some place on.
 
-ghost use Rattle.std.specs.Prelude.{◌≡◌, ◌<◌, List, length, slice_get, slice_set, Some, None, IfOk, IfSome, MatchBool};
-ghost use Rattle.std.specs.Prelude.{replicate};
+ghost use Rattle.std.specs.Prelude.{◌≡◌, ◌<◌, ◌≤◌, ◌+◌, ◌-◌, ◌↔◌, List, length, drop, slice_get, slice_set, Some, None};
+ghost use Rattle.std.specs.Prelude.{IfOk, IfSome, IsTrue, MatchBool, replicate};
 ghost use Rattle.history.specs.View.{shown_record};
 ghost use Rattle.history_row.specs.Rows.{IsRowOf};
 ghost use Rattle.versioned_map.specs.declared.command.Record.{Record};
@@ -30,9 +30,11 @@ impl Model for Cells {
     ghost view = { λ c. record { names = names c.slots.items; row = row_of c.slots.items } };
 }
 
-/// The cells of a history. Contracts see which record each is known to have.
+/// The cells of a history, from a place on that the brand names. Contracts see which record each is known to have.
 #[derive(Drop)]
 pub struct Row<B: Labels> {
+    /// The place of the first cell.
+    start: usize,
     slots: Vec<Slot>,
     /// The box that was reserved for the next record, if one was.
     spare: Vec<Box<Kept>>,
@@ -49,7 +51,7 @@ impl<B: Labels> Model for Row<B> {
 
     ghost view = { λ r. row_of r.slots.items };
 
-    ghost invariant = { λ r. names r.slots.items ≡ B.cells };
+    ghost invariant = { λ r. (r.start ≡ B.start) × (names r.slots.items ≡ B.cells) };
 }
 
 impl Cells {
@@ -65,13 +67,15 @@ impl Cells {
         Ok(Cells { slots, spare })
     }
 
-    /// The same cells, under the name that the brand has for them.
-    pub fn named<B: Labels>(self) -> Row<B>
-        requires { self.names ≡ B.cells }
+    /// The same cells, under the name that the brand has for them, for the records from this place on.
+    pub fn named<B: Labels>(self, start: usize) -> Row<B>
+        requires cells { self.names ≡ B.cells }
+        requires start { start ≡ B.start }
         ensures { result ≡ self.row }
     {
         let Cells { slots, spare } = self;
         Row {
+            start,
             slots,
             spare,
             of: PhantomData,
@@ -80,12 +84,26 @@ impl Cells {
 }
 
 impl<B: Labels> Row<B> {
+    /// The place of the first cell.
+    pub fn start(&self) -> usize
+        ensures { result ≡ B.start }
+    {
+        self.start
+    }
+
     /// How many cells there are.
     #[tactic(auto, using(std::proofs::lemmas::Grind::common_steps))]
     pub fn len(&self) -> usize
         ensures { result ≡ length self.now }
     {
         self.slots.len()
+    }
+
+    /// Whether the place is below that behind the last cell.
+    pub fn reaches(&self, place: usize) -> bool
+        ensures { IsTrue result ↔ (place < B.start + length self.now) }
+    {
+        place < self.start || place - self.start < self.len()
     }
 
     /// Takes memory for one record, unless there is some. The next `set` then asks for none. The cells stay as they
@@ -118,24 +136,24 @@ impl<B: Labels> Row<B> {
     /// Sets a cell to this record, and answers whether the cell took it. If it did not, nothing changes. Memory is
     /// asked for only if none was reserved. If it is refused, the cell doesn't take the record.
     pub fn set(&mut self, alloc: Global, place: usize, what: &RecordRef<'_>) -> bool
-        requires { place < length self.old }
-        ensures { MatchBool result (self.new ≡ slice_set self.old place (Some (shown_record what.now)))
-            (self.new ≡ self.old) }
+        requires { (B.start ≤ place) × (place < B.start + length self.old) }
+        ensures { MatchBool result
+            (self.new ≡ slice_set self.old (place - B.start) (Some (shown_record what.now))) (self.new ≡ self.old) }
     {
         let Some(kept) = self.boxed(alloc, what) else {
             return false;
         };
-        let slot = &mut self.slots[place];
+        let slot = &mut self.slots[place - self.start];
         slot.set(kept)
     }
 
     /// A receipt of a place.
     pub fn receipt(&mut self, place: usize) -> Receipt<B>
-        requires { place < length self.old }
+        requires { (B.start ≤ place) × (place < B.start + length self.old) }
         ensures same { self.new ≡ self.old }
-        ensures receipt { (result.place ≡ place) × (slice_get self.old place ≡ Some result.what) }
+        ensures receipt { (result.place ≡ place) × (slice_get self.old (place - B.start) ≡ Some result.what) }
     {
-        let slot = &mut self.slots[place];
+        let slot = &mut self.slots[place - self.start];
         Receipt {
             place: place as u64,
             note: slot.again(),
@@ -143,17 +161,17 @@ impl<B: Labels> Row<B> {
         }
     }
 
-    /// Shows that the history has the receipt's record at its place, if this is the row of that history. Nothing
-    /// changes.
+    /// Shows that the history has the receipt's record at its place, if this is the row of that history from its first
+    /// cell on. Nothing changes.
     pub fn tell(&mut self, receipt: &mut Receipt<B>)
-        requires { receipt.old.place < length self.old }
+        requires { receipt.old.place < B.start + length self.old }
         ensures same { (self.new ≡ self.old) × (receipt.new ≡ receipt.old) }
-        ensures history { (h : List Record) (r : Record) → IsRowOf self.old h → receipt.old.place < length h →
-            receipt.old.what ≡ Some r → slice_get h receipt.old.place ≡ Some r }
+        ensures history { (h : List Record) (r : Record) → IsRowOf self.old (drop B.start h) →
+            receipt.old.place < length h → receipt.old.what ≡ Some r → slice_get h receipt.old.place ≡ Some r }
         ensures told { (r : Record) (q : Record) → receipt.old.what ≡ Some r →
-            slice_get self.old receipt.old.place ≡ Some (Some q) → q ≡ r }
+            slice_get self.old (receipt.old.place - B.start) ≡ Some (Some q) → q ≡ r }
     {
-        let slot = &mut self.slots[receipt.place as usize];
+        let slot = &mut self.slots[receipt.place as usize - self.start];
         slot.compare(receipt.note.again());
     }
 }

@@ -1,5 +1,5 @@
 -- What a command under the lock did, from its step and from how its record was filed.
-use Rattle.std.proofs.Common.{◌≡◌, ◌≤◌, ℕ, ◌+◌, List, [], ◌∷◌, ◌++◌, Option, Some, true, false, length, get_or, refl, sym}
+use Rattle.std.proofs.Common.{◌≡◌, ◌≤◌, ◌<◌, ℕ, ◌+◌, ◌-◌, List, [], ◌∷◌, ◌++◌, Option, Some, true, false, length, get_or, refl, sym}
 use Rattle.std.proofs.Common.{ap, ◌∙◌, subst, arith, inr}
 use Rattle.std.specs.Prelude.{slice_get, slice_set, Result, Ok, Err}
 use Rattle.replica.specs.Picture.{FleetState}
@@ -22,80 +22,93 @@ use Rattle.store_step.specs.master.World.{World, world}
 use Rattle.store_seat.specs.declared.fault.CallFault.{CallFault}
 use Rattle.store_seat.specs.declared.fault.CallFault.TheVariants.{CellRefused}
 use Rattle.locked_log.specs.Applies.{AppliesHeld, Counts}
-use Rattle.locked_log.specs.Held.{StateValue, Held, held, history, durable}
+use Rattle.locked_log.specs.Held.{StateValue, Held, held, history, made_since, durable}
 use Rattle.store_seat.specs.Made.{Made}
 use Rattle.store_seat.specs.Seats.{SeatValue, record_by, told, noted, unnoted}
 use Rattle.store_seat.specs.Accounts.{account, Knows}
 use Rattle.locked_log.specs.States.{IsState, Lasts}
 use Rattle.locked_log.proofs.Adding.{place_is, history_is}
-use Rattle.locked_log.proofs.Filing.{filed, filed_lasts}
+use Rattle.locked_log.proofs.Counting.{get_last}
+use Rattle.locked_log.proofs.Filing.{filed, filed_lasts, more, same_length}
 use Rattle.store_seat.proofs.Places.{get_there}
-use Rattle.locked_log.proofs.Refiling.{get_last}
 use Rattle.locked_log.proofs.Writing.{row_whole, row_short}
 
 -- what is durable are records that there are, also while a failover is open
-durable_within : (w : World) → IsWellKept w.knows w.fleet → durable_of (log_of w.knows) ≤ length w.knows.history
+pub durable_within : (w : World) → IsWellKept w.knows w.fleet → durable_of (log_of w.knows) ≤ length w.knows.history
 durable_within w kept = durable_is_within (log_of w.knows) (read_of (log_of w.knows) w.fleet) kept.kept.intact.log
+
+-- without a history nothing is durable
+pub none_durable : (w : World) → IsWellKept w.knows w.fleet → w.knows.history ≡ [] → durable_of (log_of w.knows) ≡ 0
+none_durable w kept none = omega (arith, durable_within w kept, ap length none)
 
 module _ (s t : Held) (m : SeatValue) (command : Command) (place : ℕ) (reply : Reply) (made : Made)
     (st : IsState s made) (known : Knows s.book m) (off : s.is_refused ≡ false)
-    (accepted : Accepts s.world (Apply m.number command) (Applied place reply) t.world) where
-  at_end : place ≡ length (history s)
-  at_end = place_is s.world t.world m.number command place reply accepted
+    (accepted : Accepts s.world (Apply m.number command) (Applied place reply) t.world) (begun : t.start ≡ s.start)
+  where
+    at_end : place ≡ length (history s)
+    at_end = place_is s.world t.world m.number command place reply accepted
 
-  pub counts : durable s ≤ length (history s) → t.book ≡ slice_set s.book m.number (account m.first (m.count + 1))
-      → t.total ≡ s.total + 1 → Counts s m command place reply t
-  counts within book total = record {
-    known = known;
-    first = omega (
-      arith,
-      at_end,
-      st.firsts m.number (account m.first m.count) known,
-      within,
-    );
-    accepted = accepted;
-    book = book;
-    total = total;
-  }
+    pub counts : durable s ≤ length (history s) → t.book ≡ slice_set s.book m.number (account m.first (m.count + 1))
+        → t.total ≡ s.total + 1 → Counts s m command place reply t
+    counts within book total = record {
+      known = known;
+      first = omega (
+        arith,
+        at_end,
+        st.firsts m.number (account m.first m.count) known,
+        within,
+      );
+      accepted = accepted;
+      book = book;
+      total = total;
+    }
 
-  -- what lies in the history at its place
-  pub what_is : (what : Record) → what ≡ get_or (history t) place what → what ≡ record_by m.number command reply
-  what_is what is = get_there (history t) place what (record_by m.number command reply) there is
-    where
-      there : slice_get (history t) place ≡ Some (record_by m.number command reply)
-      there =
-          ap (λ (l : List Record). slice_get l place) (history_is s.world t.world m.number command place reply accepted)
-          ∙ ap (slice_get (history s ++ record_by m.number command reply ∷ [])) at_end
-          ∙ get_last (history s) (record_by m.number command reply)
+    -- what lies in the history at its place
+    pub what_is : (what : Record) → what ≡ get_or (history t) place what → what ≡ record_by m.number command reply
+    what_is what is = get_there (history t) place what (record_by m.number command reply) there is
+      where
+        there : slice_get (history t) place ≡ Some (record_by m.number command reply)
+        there =
+            ap (λ (l : List Record). slice_get l place) (history_is s.world t.world m.number command place reply accepted)
+            ∙ ap (slice_get (history s ++ record_by m.number command reply ∷ [])) at_end
+            ∙ get_last (history s) (record_by m.number command reply)
 
-  pub writes : (what : Record) (n : SeatValue) → Counts s m command place reply t → what ≡ get_or (history t) place what
-      → t.row ≡ slice_set s.row place (Some what) → t.is_refused ≡ false → n ≡ noted m (told place what)
-      → AppliesHeld s m command (Ok (place, reply)) t n
-  writes what n counted is row refused seat = record {
-    counts = counted;
-    row = row ∙ ap (λ (w : Record). slice_set s.row place (Some w)) (what_is what is);
-    refused = refused;
-    seat = seat ∙ ap (λ (w : Record). noted m (told place w)) (what_is what is);
-  }
-
-  pub loses : (n : SeatValue) → Counts s m command place reply t → t.row ≡ s.row → t.is_refused ≡ true → n ≡ unnoted m
-      → AppliesHeld s m command (Err CellRefused) t n
-  loses n counted row refused seat = inr (
-    place,
-    reply,
-    record {
+    pub writes : (what : Record) (n : SeatValue) → Counts s m command place reply t → what ≡ get_or (history t) place what
+        → t.row ≡ slice_set s.row (place - s.start) (Some what) → t.is_refused ≡ false → n ≡ noted m (told place what)
+        → AppliesHeld s m command (Ok (place, reply)) t n
+    writes what n counted is row refused seat = record {
       counts = counted;
-      row = row;
-      short = λ whole. row_short s.row (history s) (record_by m.number command reply)
-          (row_whole s.row (history s) s.is_refused st.written off)
-          (subst (λ (l : List Record). IsRowOf s.row l) (history_is s.world t.world m.number command place reply
-          accepted) (subst (λ (r : List (Option Record)). IsRowOf r (history t)) row whole));
+      row = row ∙ ap (λ (w : Record). slice_set s.row (place - s.start) (Some w)) (what_is what is);
       refused = refused;
-      seat = seat;
-    },
-  )
+      seat = seat ∙ ap (λ (w : Record). noted m (told place w)) (what_is what is);
+    }
+
+    pub loses : (n : SeatValue) → Counts s m command place reply t → t.row ≡ s.row → t.is_refused ≡ true → n ≡ unnoted m
+        → AppliesHeld s m command (Err CellRefused) t n
+    loses n counted row refused seat = inr (
+      place,
+      reply,
+      record {
+        counts = counted;
+        row = row;
+        short = λ whole. row_short s.row (made_since s) (record_by m.number command reply)
+            (row_whole s.row (made_since s) s.is_refused st.written off)
+            (subst (λ (l : List Record). IsRowOf s.row l) (more s t m command place reply counted begun st.start)
+            (subst (λ (r : List (Option Record)). IsRowOf r (made_since t)) row whole));
+        refused = refused;
+        seat = seat;
+      },
+    )
 
 -- ---- from what the calls of the body ensure
+
+-- the next place has a cell, if there is one for the next record
+pub has_room : {F : Type 0} (state : F → FleetState) (v x : StateValue F) → v ≡ x → (place : ℕ)
+    → place ≡ length v.master.knows.history → length x.master.knows.history < x.start + length x.row
+    → place < v.start + length v.row
+has_room state v x same place at_end room =
+    let there = subst (λ (y : StateValue _). length y.master.knows.history < y.start + length y.row) (sym same) room in
+    omega (arith, at_end, there)
 
 -- what a command under the lock ensures
 pub record Done (s : Held) (m : SeatValue) (command : Command) (r : Result (ℕ × Reply) CallFault) (t : Held)
@@ -117,7 +130,9 @@ module _ {F : Type 0} (state : F → FleetState) (v x : StateValue F) (same : v 
       (st : IsState (held state v) made) (kept : IsWellKept v.master.knows (state v.master.fleet))
       (known : Knows x.book m) (off : v.is_refused ≡ false)
       (gives : Accepts (world state v.master) (Apply k command) (Applied place reply) t.world)
-      (keeps : Keeps 1 (world state v.master) t.world) (valid : IsValid t.world.knows t.world.fleet)
+      (keeps : Keeps 1 (world state v.master) t.world)
+      (remembers : t.world.knows.forgotten ≡ v.master.knows.forgotten) (valid : IsValid t.world.knows t.world.fleet)
+      (begun : t.start ≡ v.start) (room : place < v.start + length v.row)
       (is : what ≡ get_or (history t) place what)
       (book : t.book ≡ slice_set v.book m.number (account m.first (m.count + 1))) (total : t.total ≡ v.total + 1) where
     abbrev s : Held
@@ -138,26 +153,36 @@ module _ {F : Type 0} (state : F → FleetState) (v x : StateValue F) (same : v 
     keeps_at : Keeps 1 s.world t.world
     keeps_at = subst (λ (y : StateValue F). Keeps 1 (world state y.master) t.world) same keeps
 
+    begun_at : t.start ≡ s.start
+    begun_at = begun ∙ ap (λ (y : StateValue F). y.start) same
+
+    room_at : place < s.start + length s.row
+    room_at = subst (λ (y : StateValue F). place < y.start + length y.row) same room
+
+    kept_at : t.world.knows.forgotten ≡ s.world.knows.forgotten
+    kept_at = remembers ∙ ap (λ (y : StateValue F). y.master.knows.forgotten) same
+
     counted : Counts s m command place reply t
-    counted = counts s t m command place reply made st_at known off_at gives_at
+    counted = counts s t m command place reply made st_at known off_at gives_at begun_at
         (subst (λ (y : StateValue F). durable (held state y) ≤ length (history (held state y))) same
         (durable_within (world state v.master) kept))
         (book ∙ ap (λ (y : StateValue F). slice_set y.book m.number (account m.first (m.count + 1))) same)
         (total ∙ ap (λ (y : StateValue F). y.total + 1) same)
 
     own : what ≡ record_by m.number command reply
-    own = what_is s t m command place reply made st_at known off_at gives_at what is
+    own = what_is s t m command place reply made st_at known off_at gives_at begun_at what is
 
-    pub took : (n : SeatValue) → t.row ≡ slice_set v.row place (Some what) → t.is_refused ≡ v.is_refused
+    pub took : (n : SeatValue) → t.row ≡ slice_set v.row (place - v.start) (Some what) → t.is_refused ≡ v.is_refused
         → n ≡ noted m (told place what) → Done s m command (Ok (place, reply)) t n made
     took n row flag noted_is =
-        let row_at : t.row ≡ slice_set s.row place (Some what) = row
-        ∙ ap (λ (y : StateValue F). slice_set y.row place (Some what)) same in record {
-          applies = writes s t m command place reply made st_at known off_at gives_at what n counted is row_at
+        let row_at : t.row ≡ slice_set s.row (place - s.start) (Some what) = row
+        ∙ ap (λ (y : StateValue F). slice_set y.row (place - y.start) (Some what)) same in record {
+          applies = writes s t m command place reply made st_at known off_at gives_at begun_at what n counted is row_at
               (flag ∙ off) noted_is;
-          lasts = filed_lasts s t m command place reply counted keeps_at (λ on. absurd (both on));
-          valid = filed s t m command place reply counted made st_at keeps_at valid true off_at
-              (row_at ∙ ap (λ (w : Record). slice_set s.row place (Some w)) own) (λ c. refl);
+          lasts = filed_lasts s t m command place reply counted begun_at keeps_at
+              (same_length true s.row t.row (place - s.start) (Some what) row_at) (λ on. absurd (both on));
+          valid = filed s t m command place reply counted begun_at made st_at keeps_at valid kept_at room_at true off_at
+              (row_at ∙ ap (λ (w : Record). slice_set s.row (place - s.start) (Some w)) own) (λ c. refl);
         }
       where
         both : s.is_refused ≡ true → ⊥
@@ -167,10 +192,11 @@ module _ {F : Type 0} (state : F → FleetState) (v x : StateValue F) (same : v 
         → Done s m command (Err CellRefused) t n made
     missed n row flag unnoted_is =
         let row_at : t.row ≡ s.row = row ∙ ap (λ (y : StateValue F). y.row) same in record {
-          applies = loses s t m command place reply made st_at known off_at gives_at n counted row_at flag unnoted_is;
-          lasts = filed_lasts s t m command place reply counted keeps_at (λ on. flag);
-          valid = filed s t m command place reply counted made st_at keeps_at valid false off_at row_at
-              (λ c. absurd (both c));
+          applies = loses s t m command place reply made st_at known off_at gives_at begun_at n counted row_at flag
+              unnoted_is;
+          lasts = filed_lasts s t m command place reply counted begun_at keeps_at (ap length row_at) (λ on. flag);
+          valid = filed s t m command place reply counted begun_at made st_at keeps_at valid kept_at room_at false off_at
+              row_at (λ c. absurd (both c));
         }
       where
         both : t.is_refused ≡ false → ⊥

@@ -27,6 +27,17 @@ in_book [] i a e = absurd (cc)
 in_book (x ∷ xs) zero a e = omega arith
 in_book (x ∷ xs) (suc i) a e = omega (arith, in_book xs i a e)
 
+pub get_last : {X : Type 0} (xs : List X) (y : X) → slice_get (xs ++ y ∷ []) (length xs) ≡ Some y
+get_last [] y = refl
+get_last (x ∷ xs) y = get_last xs y
+
+-- what stood before the last place stands there still
+pub get_before : {X : Type 0} (xs : List X) (y : X) (i : ℕ) → i < length xs
+    → slice_get (xs ++ y ∷ []) i ≡ slice_get xs i
+get_before [] y i l = absurd (omega arith)
+get_before (x ∷ xs) y zero l = refl
+get_before (x ∷ xs) y (suc i) l = get_before xs y i (omega arith)
+
 -- ---- counts
 
 pub count_push : (k : ℕ) (h : List Record) (r : Record)

@@ -2,20 +2,21 @@
 use Rattle.std.proofs.Common.{◌≡◌, ◌≤◌, ◌<◌, ◌+◌, ◌==◌, length, arith}
 use Rattle.std.specs.Prelude.{None, ◌^◌, not}
 use Rattle.std.proofs.lemmas.Bool.{and_parts, not-false, leb-true}
+use Rattle.std.proofs.lemmas.List.{length-drop}
 use Rattle.std.proofs.lemmas.List.Sums.{count_by-le-length}
 use Rattle.versioned_map.specs.declared.command.Record.{Record}
 use Rattle.store_step.specs.master.master_state.declared.config.Config.{Config}
 use Rattle.store_step.specs.master.master_state.Config.{config_fault, has_backups, has_step, has_seglet, has_segment, has_budget}
 use Rattle.store_step.specs.master.master_state.Config.{has_tablets, has_history}
 use Rattle.store_step.proofs.of_master.master_state.Refusals.{passes}
-use Rattle.locked_log.specs.Held.{Held, history}
+use Rattle.locked_log.specs.Held.{Held, history, made_since}
 use Rattle.store_seat.specs.Made.{Made}
 use Rattle.store_seat.specs.Seats.{SeatValue}
 use Rattle.store_seat.specs.Accounts.{account, Knows}
 use Rattle.locked_log.specs.States.{IsState}
 use Rattle.history.specs.Seats.{count_of}
 
-pub few_records : (c : Config) → config_fault c ≡ None → c.history ≤ 1048576
+few_records : (c : Config) → config_fault c ≡ None → c.history ≤ 1048576
 few_records c ok =
     let a = passes (not (has_backups c)) _ _ ok in
     let b = passes (not (has_step c)) _ _ a.1 in
@@ -30,7 +31,16 @@ few_records c ok =
 -- its count can rise
 pub small : (h : Held) (made : Made) (m : SeatValue) → IsState h made → Knows h.book m → m.count + 1 < 2 ^ 64
 small h made m st known =
-    let mine : m.count ≡ count_of m.number (history h) = st.counts m.number (account m.first m.count) known in
-    let all : count_of m.number (history h) ≤ length (history h) =
-    count_by-le-length (λ (r : Record). r.seat == m.number) (history h) in
-    omega (arith, mine, all, st.valid.history, few_records h.world.knows.config st.valid.config)
+    let mine : m.count ≡ count_of m.number (made_since h) = st.counts m.number (account m.first m.count) known in
+    let all : count_of m.number (made_since h) ≤ length (made_since h) =
+    count_by-le-length (λ (r : Record). r.seat == m.number) (made_since h) in
+    let some = length-drop h.start (history h) in
+    omega (
+      arith,
+      mine,
+      all,
+      some,
+      st.valid.history.few,
+      st.valid.history.places,
+      few_records h.world.knows.config st.valid.config,
+    )

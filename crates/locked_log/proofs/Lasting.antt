@@ -21,6 +21,7 @@ keeps_same most w = record {
   others = λ b m s other. refl;
   least = λ m other. refl;
   durable = omega arith;
+  forgotten = omega arith;
   history = ([], sym (append-nil w.knows.history));
 }
 
@@ -39,8 +40,14 @@ firsts_set book i c d at up k a b e f =
     (get_set book i k d b f)
 
 pub lasts_same : (most : ℕ) (h : Held) → Lasts most h h
-lasts_same most h =
-    record { keeps = keeps_same most h.world; accounts = refl; firsts = firsts_same h.book; refused = λ on. on }
+lasts_same most h = record {
+  keeps = keeps_same most h.world;
+  accounts = refl;
+  firsts = firsts_same h.book;
+  start = refl;
+  cells = refl;
+  refused = λ on. on;
+}
 
 -- it stays the master that the store was made of
 pub made_lasts : (most : ℕ) (s t : World) (made : Made) → Keeps most s t → IsMade made s → IsMade made t

@@ -5,7 +5,7 @@ use Rattle.versioned_map.specs.declared.command.Command.{Command}
 use Rattle.versioned_map.specs.declared.command.Record.{Record}
 use Rattle.versioned_map.specs.declared.command.Reply.{Reply}
 use Rattle.store_seat.specs.declared.fault.CallFault.{CallFault}
-use Rattle.store_seat.specs.declared.fault.CallFault.TheVariants.{Refused, Unsure, SeatUnknown, CellRefused, NotYours}
+use Rattle.store_seat.specs.declared.fault.CallFault.TheVariants.{Refused, Unsure, SeatUnknown, CellRefused, NotYours, CellsSpent}
 use Rattle.store_seat.specs.Calls.{AppliesSeat}
 use Rattle.store_seat.specs.Seats.{SeatValue, told, answered}
 use Rattle.history_row.specs.Receipts.{Told}
@@ -25,6 +25,7 @@ seat_of s t m n command (Err (Unsure place e)) h waits = h
 seat_of s t m n command (Err SeatUnknown) h waits = h.3
 seat_of s t m n command (Err CellRefused) h waits = ⊎_elim (λ x. inl x.2) (λ x. inr x.2.seat) h
 seat_of s t m n command (Err NotYours) h waits = h
+seat_of s t m n command (Err CellsSpent) h waits = h.5
 
 own_of : (records : List Record) (m : SeatValue) (place : ℕ) (reply : Reply) (receipt : Told)
     → Hands records m place reply receipt → IsOwn m place reply receipt
@@ -45,6 +46,7 @@ claim_of s m place (Err (Unsure at e)) h = (h.3, h.4)
 claim_of s m place (Err SeatUnknown) h = tt
 claim_of s m place (Err CellRefused) h = tt
 claim_of s m place (Err NotYours) h = tt
+claim_of s m place (Err CellsSpent) h = h
 
 pub settle_of : (s t : Held) (m n : SeatValue) (place : ℕ) (r : Bool)
     → MatchBool r (Settles s m place t n) (DoesNotSettle s m place t n)

@@ -1,12 +1,12 @@
 -- A seat is answered up to a place; and a store that refuses all later calls.
-use Rattle.std.proofs.Common.{◌≡◌, ◌≢◌, ◌≤◌, ◌<◌, ⊎_elim, ℕ, ◌+◌, List, Some, Bool, true, false, MatchBool, sym, ap}
+use Rattle.std.proofs.Common.{◌≡◌, ◌≢◌, ◌≤◌, ◌<◌, ⊎_elim, ℕ, ◌+◌, List, Some, Bool, true, false, MatchBool, refl, sym, ap}
 use Rattle.std.proofs.Common.{◌∙◌, subst, arith, length-set}
 use Rattle.std.specs.Prelude.{slice_get, slice_set}
 use Rattle.replica.specs.Picture.{FleetState}
 use Rattle.store_step.specs.master.World.{world}
 use Rattle.store_seat.specs.declared.account.Account.{Account}
 use Rattle.locked_log.specs.Applies.{Settles, DoesNotSettle}
-use Rattle.locked_log.specs.Held.{StateValue, Held, held, history, durable}
+use Rattle.locked_log.specs.Held.{StateValue, Held, held, made_since, durable}
 use Rattle.store_seat.specs.Made.{Made}
 use Rattle.store_seat.specs.Seats.{SeatValue, answered}
 use Rattle.store_seat.specs.Accounts.{account, Knows, SettlesIn, SettlesNothingIn}
@@ -32,14 +32,16 @@ module _ (s : Held) (m : SeatValue) (place : ℕ) (known : Knows s.book m) where
     keeps = keeps_same 0 s.world;
     accounts = length-set s.book m.number next;
     firsts = firsts_set s.book m.number mine next known (omega arith);
+    start = refl;
+    cells = refl;
     refused = λ on. on;
   }
 
-  pub settled_state : (made : Made) → IsState s made → place < durable s → IsState settled made
-  settled_state made st here = record {
+  pub settled_state : (made : Made) → IsState s made → place < durable s → m.first ≤ place → IsState settled made
+  settled_state made st here up = record {
     valid = st.valid;
     master = st.master;
-    cells = st.cells;
+    start = st.start;
     written = st.written;
     accounts = length-set s.book m.number next ∙ st.accounts;
     firsts = λ k a got. ⊎_elim
@@ -48,24 +50,38 @@ module _ (s : Held) (m : SeatValue) (place : ℕ) (known : Knows s.book m) where
         (get_set s.book m.number k next a got);
     counts = λ k a got. ⊎_elim
         (λ (x : (k ≡ m.number) × (next ≡ a)). sym (ap (λ (y : Account). y.count) x.1) ∙ st.counts m.number mine known
-        ∙ ap (λ n. count_of n (history s)) (sym x.0))
+        ∙ ap (λ n. count_of n (made_since s)) (sym x.0))
         (λ (x : (k ≢ m.number) × (slice_get s.book k ≡ Some a)). st.counts k a x.1)
         (get_set s.book m.number k next a got);
     no_others = st.no_others;
     total = st.total;
+    settled = λ at since below waits.
+        let r = waits.1 in
+        ⊎_elim
+        (λ (x : (r.seat ≡ m.number) × (next ≡ waits.0)). st.settled at since below (
+          mine,
+          r,
+          waits.2,
+          ap (λ n. slice_get s.book n) x.0 ∙ known,
+          omega (arith, waits.4, ap (λ (y : Account). y.first) x.1, up),
+        ))
+        (λ (x : (r.seat ≢ m.number) × (slice_get s.book r.seat ≡ Some waits.0)). st.settled at since below
+        (waits.0, r, waits.2, x.1, waits.4))
+        (get_set s.book m.number r.seat next waits.0 waits.3);
   }
 
 pub refused_state : (s : Held) (made : Made) → IsState s made → IsState (record s { is_refused = true }) made
 refused_state s made st = record {
   valid = st.valid;
   master = st.master;
-  cells = st.cells;
-  written = written_refused s.row (history s) s.is_refused st.written;
+  start = st.start;
+  written = written_refused s.row (made_since s) s.is_refused st.written;
   accounts = st.accounts;
   firsts = st.firsts;
   counts = st.counts;
   no_others = st.no_others;
   total = st.total;
+  settled = st.settled;
 }
 
 -- ---- from what the calls of the body ensure
@@ -76,7 +92,14 @@ module _ {F : Type 0} (state : F → FleetState) (v x : StateValue F) (same : v 
     (first : m.first ≤ place)
     (book : List Account) (book_is : book ≡ slice_set v.book m.number (account (place + 1) m.count)) where
   abbrev t : Held
-  t = record { world = world state v.master; book = book; total = v.total; row = v.row; is_refused = v.is_refused }
+  t = record {
+    world = world state v.master;
+    book = book;
+    total = v.total;
+    start = v.start;
+    row = v.row;
+    is_refused = v.is_refused;
+  }
 
   known_at : Knows v.book m
   known_at = subst (λ (y : StateValue F). Knows y.book m) (sym same) known
@@ -86,6 +109,7 @@ module _ {F : Type 0} (state : F → FleetState) (v x : StateValue F) (same : v 
     world = world state v.master;
     book = book_is i;
     total = v.total;
+    start = v.start;
     row = v.row;
     is_refused = v.is_refused;
   }
@@ -95,6 +119,7 @@ module _ {F : Type 0} (state : F → FleetState) (v x : StateValue F) (same : v 
         world = world state v.master;
         book = book;
         total = v.total;
+        start = v.start;
         row = v.row;
         is_refused = v.is_refused;
       }) n
@@ -104,16 +129,18 @@ module _ {F : Type 0} (state : F → FleetState) (v x : StateValue F) (same : v 
     world = world state v.master;
     book = book;
     total = v.total;
+    start = v.start;
     row = v.row;
     is_refused = v.is_refused;
   }) made
   settled_then = subst (λ (h : Held). IsState h made) (sym t_is)
-      (settled_state (held state v) m place known_at made st here)
+      (settled_state (held state v) m place known_at made st here first)
 
   pub lasts_then : Lasts 0 (held state x) (record {
     world = world state v.master;
     book = book;
     total = v.total;
+    start = v.start;
     row = v.row;
     is_refused = v.is_refused;
   })
@@ -137,6 +164,7 @@ pub settled_by : {F : Type 0} (state : F → FleetState) (v x : StateValue F) �
       world = world state v.master;
       book = book;
       total = v.total;
+      start = v.start;
       row = v.row;
       is_refused = v.is_refused;
     }) n made
@@ -152,6 +180,7 @@ settled_by state v x same m place made st first d is book n false h =
       world = world state v.master;
       book = book;
       total = v.total;
+      start = v.start;
       row = v.row;
       is_refused = v.is_refused;
     } in
@@ -159,6 +188,7 @@ settled_by state v x same m place made st first d is book n false h =
       world = world state v.master;
       book = h.1 i;
       total = v.total;
+      start = v.start;
       row = v.row;
       is_refused = v.is_refused;
     } in record {

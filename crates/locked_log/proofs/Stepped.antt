@@ -1,10 +1,11 @@
 -- A step that is no command adds no record.
-use Rattle.std.proofs.Common.{◌≡◌, ◌⊎◌, ℕ, inl, inr, Bool, true, false, [], Option, Some, None, refl, sym, ap, ◌∙◌}
+use Rattle.std.proofs.Common.{◌≡◌, ◌⊎◌, ℕ, inl, inr, Bool, true, false, List, [], drop, Option, Some, None, refl, sym, ap, ◌∙◌}
 use Rattle.std.proofs.Common.{subst, arith}
 use Rattle.std.specs.Prelude.{Result, Ok, Err, ◌==◌, not, length, is_some, if◌then◌else◌}
 use Rattle.std.proofs.lemmas.List.{append-nil}
 use Rattle.std.specs.Option.{option_map_or}
 use Rattle.replica.specs.Picture.{FleetState}
+use Rattle.versioned_map.specs.declared.command.Record.{Record}
 use Rattle.store_step.specs.master.cleaner.declared.pass.Pass.{Pass}
 use Rattle.store_step.specs.master.cleaner.Passes.{is_at_end, next_seal}
 use Rattle.store_step.specs.master.log_head.Head.{is_open}
@@ -33,6 +34,7 @@ use Rattle.store_step.proofs.of_master.PushedRest.{same_rest}
 use Rattle.store_step.specs.declared.turn.CleanTurn.{CleanTurn}
 use Rattle.store_step.specs.declared.turn.CleanTurn.TheVariants as turn
 use Rattle.locked_log.specs.Held.{StateValue, Held, held, history, knows}
+use Rattle.store_seat.specs.Accounts.{IsSettled}
 use Rattle.store_seat.specs.Made.{Made}
 use Rattle.locked_log.specs.States.{IsState, Lasts}
 use Rattle.history.specs.Seats.{count_of}
@@ -157,21 +159,28 @@ module _ (s : Held) (w : World) where
   moved = record s { world = w }
 
   pub moved_lasts : (most : ℕ) → Keeps most s.world w → Lasts most s moved
-  moved_lasts most keeps =
-      record { keeps = keeps; accounts = refl; firsts = firsts_same s.book; refused = λ on. on }
+  moved_lasts most keeps = record {
+    keeps = keeps;
+    accounts = refl;
+    firsts = firsts_same s.book;
+    start = refl;
+    cells = refl;
+    refused = λ on. on;
+  }
 
   pub moved_state : (most : ℕ) (made : Made) → IsState s made → Keeps most s.world w → IsValid w.knows w.fleet
-      → w.knows.history ≡ history s → IsState moved made
-  moved_state most made st keeps valid same = record {
+      → w.knows.history ≡ history s → IsSettled s.start s.book (history s) w.knows.forgotten → IsState moved made
+  moved_state most made st keeps valid same settled = record {
     valid = valid;
     master = made_lasts most s.world w made keeps st.master;
-    cells = st.cells;
+    start = rw same st.start;
     written = rw same st.written;
     accounts = st.accounts;
     firsts = λ k a e. omega (arith, st.firsts k a e, keeps.durable);
-    counts = λ k a e. st.counts k a e ∙ ap (count_of k) (sym same);
+    counts = λ k a e. st.counts k a e ∙ ap (λ (l : List Record). count_of k (drop s.start l)) (sym same);
     no_others = rw same st.no_others;
     total = rw same st.total;
+    settled = rw same settled;
   }
 
 -- the fleet takes another number of ops
@@ -184,11 +193,13 @@ module _ (s : Held) (n : ℕ) (w : World) (is : w ≡ limited_world s.world n) (
     others = λ b m k other. refl;
     least = λ m other. refl;
     durable = omega arith;
+    forgotten = omega arith;
     history = ([], sym (append-nil s.world.knows.history));
   })
 
   pub limited_state : (made : Made) → IsState s made → IsState (record s { world = w }) made
   limited_state made st = moved_state s w 0 made st keeps valid (ap (λ (v : World). v.knows.history) is)
+      (rw (ap (λ (v : World). v.knows.forgotten) is) st.settled)
 
 -- a fault is asked for, which no clause sees
 pub same_state : (s : Held) (w : World) → w ≡ s.world → (made : Made) → IsState s made
@@ -235,22 +246,30 @@ pub record Turned (s : Held) (asked : CleanTurn) (answer : Result StepAnswer Ref
 pub turned : {F : Type 0} (state : F → FleetState) (v x : StateValue F) → v ≡ x
     → (asked : CleanTurn) (answer : Result StepAnswer Refusal)
     (w : World) (made : Made) → IsState (held state v) made → MakesTurn (world state v.master) asked answer w
-    → Keeps 1 (world state v.master) w → IsValid w.knows w.fleet
+    → Keeps 1 (world state v.master) w → w.knows.forgotten ≡ v.master.knows.forgotten → IsValid w.knows w.fleet
     → Turned (held state x) asked answer (record {
       world = w;
       book = v.book;
       total = v.total;
+      start = v.start;
       row = v.row;
       is_refused = v.is_refused;
     }) made
-turned state v x same asked answer w made st gives kept valid =
+turned state v x same asked answer w made st gives kept remembers valid =
     let stays = turn_history (world state v.master) w asked answer gives in
     subst (λ (y : StateValue _). Turned (held state y) asked answer
-    (record { world = w; book = v.book; total = v.total; row = v.row; is_refused = v.is_refused })
+    (record {
+      world = w;
+      book = v.book;
+      total = v.total;
+      start = v.start;
+      row = v.row;
+      is_refused = v.is_refused;
+    })
     made) same (record {
       turns = record { steps = gives; history = stays; book = refl; row = refl; total = refl; refused = refl };
       lasts = moved_lasts (held state v) w 1 kept;
-      valid = moved_state (held state v) w 1 made st kept valid stays;
+      valid = moved_state (held state v) w 1 made st kept valid stays (rw remembers st.settled);
       nothing = λ next nothing. turn_nothing (world state v.master) w answer
           (subst (λ (a : CleanTurn). MakesTurn (world state v.master) a answer w) next gives) nothing;
     })

@@ -1,6 +1,6 @@
 //! A record that a seat asks for again, under the lock.
 
-ghost use Rattle.std.specs.Prelude.{◌≡◌, ◌↔◌, IsTrue};
+ghost use Rattle.std.specs.Prelude.{◌≡◌, ◌≤◌, ◌↔◌, IsTrue};
 ghost use Rattle.locked_log.specs.Applies.{ClaimsHeld};
 ghost use Rattle.locked_log.specs.Held.{held};
 ghost use Rattle.store_seat.specs.Claims.{Owns};
@@ -12,12 +12,13 @@ use store_seat::{CallFault, Naming, Seat, claim, owns};
 use store_step::master::Reply;
 
 impl<F: Fleet, B: Naming> State<F, B> {
-    /// Whether the record at the place is this seat's, and the place isn't below the seat's first number. False if
-    /// there is no record. It takes no memory.
+    /// Whether the record at the place is this seat's, was made since the store was, and isn't below the seat's first
+    /// number. False if there is no record, or if it was forgotten. It takes no memory.
     pub fn owns_held(&self, seat: &Seat<B>, place: u64) -> bool
-        ensures { IsTrue result ↔ Owns self.now.master.knows.history seat.now place }
+        ensures { IsTrue result ↔ (Owns self.now.start self.now.master.knows.history seat.now place
+            × (self.now.master.knows.forgotten ≤ place)) }
     {
-        owns(self.master.history(), seat, place)
+        owns(self.master.history(), &self.row, seat, place)
     }
 
     /// The reply of a record that is the seat's own, and a receipt of its place. Nothing changes.

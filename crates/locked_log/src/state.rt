@@ -17,7 +17,7 @@ use std::sync::ledger::Book;
 use store_seat::{Account, Naming, Seat, is_known};
 use store_step::master::{Look, Master, Shown};
 
-/// The master with the book of the seats, the ledger's book and the row of the history's cells.
+/// The master with the book of the seats, the ledger's book and the row of its records' cells.
 #[derive(Drop)]
 pub struct State<F: Fleet, B: Naming> {
     pub(crate) alloc: Global,
@@ -41,6 +41,7 @@ impl<F: Fleet, B: Naming> Model for State<F, B> {
       master = s.master;
       book = s.book.items;
       total = s.total.total;
+      start = B.start;
       row = s.row;
       is_refused = s.is_refused;
     } };
@@ -49,6 +50,7 @@ impl<F: Fleet, B: Naming> Model for State<F, B> {
       world = world F.state s.master;
       book = s.book.items;
       total = s.total.total;
+      start = B.start;
       row = s.row;
       is_refused = s.is_refused;
     }) B.made };
@@ -56,9 +58,9 @@ impl<F: Fleet, B: Naming> Model for State<F, B> {
 
 impl<F: Fleet, B: Naming> State<F, B> {
     /// Shows what is true whenever the lock is free. The master is valid: its history is legal, memory and the
-    /// replicas hold its map, and whichever backups are left, they hold a prefix with each durable record. The row is
-    /// the history up to a cell that refused its record, each account is of the history, and the ledger's total is the
-    /// history's length.
+    /// replicas hold its map, and whichever backups are left, they hold a prefix with each durable record. Up to a cell
+    /// that refused its record the row is the records that were made since the store was, each account counts those of
+    /// its seat, and the ledger's total is how many they are.
     pub fn show_valid(&self)
         ensures { IsState (held F.state self.now) B.made }
     {

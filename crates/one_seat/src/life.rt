@@ -110,6 +110,7 @@ impl<B: Naming> Life<B> {
             }
             Err(CallFault::SeatUnknown) => Err(LineFault::SeatUnknown),
             Err(CallFault::CellRefused) => Err(LineFault::CellRefused),
+            Err(CallFault::CellsSpent) => Err(LineFault::CellsSpent),
             // Nothing is settled here, so this never comes.
             Err(CallFault::NotYours) => Err(LineFault::SeatUnknown),
         }
@@ -204,7 +205,7 @@ fn is_told<B: Naming>(
     history: &History,
 ) -> bool {
     let place = receipt.place() as usize;
-    if place >= row.len() {
+    if !row.reaches(place) {
         return false;
     }
     row.tell(receipt);

@@ -1,6 +1,6 @@
 //! Runs the lines of one life.
 
-ghost use Rattle.std.specs.Prelude.{◌≡◌, ◌≤◌};
+ghost use Rattle.std.specs.Prelude.{◌≡◌, ◌≤◌, length};
 ghost use Rattle.store_lines.specs.locked_log.Ends.{IsFresh};
 ghost use Rattle.backup.specs.State.{fleet_state};
 ghost use Rattle.store_lines.specs.locked_log.Made.{IsMade};
@@ -54,6 +54,7 @@ fn live_in<B: Naming, R: Wait, I: BufRead + Drop, O: Write + Drop>(
     requires fresh { IsFresh blank.row master.knows }
     requires seats { (1 ≤ blank.seats) × (blank.seats ≤ 64) }
     requires cells { (blank.cells ≡ B.cells) × (blank.seats ≡ B.made.seats) }
+    requires start { B.start ≡ length master.knows.history }
     requires ledger { (blank.name ≡ B.name) × (blank.parts ≡ B.parts) }
     requires mark { blank.table ≡ B.table }
     requires made { IsMade B.made (world fleet_state master) }

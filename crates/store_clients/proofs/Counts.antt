@@ -1,21 +1,28 @@
 -- What clients make of the counts of seats.
 use Rattle.std.proofs.Common.{◌≡◌, ◌<◌, ◌≤◌, ℕ, zero, suc, ◌+◌, ◌-◌, ◌*◌, List, [], ◌∷◌, ◌++◌}
-use Rattle.std.proofs.Common.{Option, Some, Result, Ok, Err, take, drop, refl, sym, ap, ◌∙◌, subst, arith}
-use Rattle.std.proofs.Common.{mul-le-mul_left}
+use Rattle.std.proofs.Common.{Option, Some, Result, Ok, Err, length, take, drop, refl, sym, ap, ◌∙◌, subst, arith}
+use Rattle.std.proofs.Common.{◌⊎◌, inl, inr, ⊎_elim, ◌==◌, cond, length-append, mul-le-mul_left}
 use Rattle.std.specs.Prelude.{◌^◌, slice_get, IfOk, IfSome, IsOk}
+use Rattle.std.proofs.lemmas.Bool.Decides.{nat_tests}
+use Rattle.std.proofs.lemmas.List.Sums.{sum_by-append}
 use Rattle.std.proofs.lemmas.Option.{same_Some}
-use Rattle.entry.proofs.ListLemmas.{slice_get_left}
+use Rattle.std.proofs.Math.Seq.{drop-append_seam}
+use Rattle.entry.proofs.ListLemmas.{slice_get_left, slice_get_last}
 use Rattle.versioned_map.specs.declared.command.Record.{Record}
 use Rattle.counted_calls.specs.master.master_state.Data.{MasterData}
 use Rattle.counted_calls.specs.locked_log.store_seat.declared.fault.CallFault.{CallFault}
 use Rattle.counted_calls.specs.locked_log.Ends.{AreServed}
-use Rattle.counted_calls.specs.locked_log.store_seat.Seats.{SeatValue}
-use Rattle.counted_calls.specs.locked_log.Sharing.{AreSeatsAfter, seat_after}
+use Rattle.counted_calls.specs.locked_log.store_seat.Seats.{SeatValue, fresh_seat, fresh_seats}
 use Rattle.history.specs.Seats.{AreAccepted, count_of, AreOfSeats}
 use Rattle.store_clients.specs.declared.client.Client.{Client}
 use Rattle.store_clients.specs.Clients.{Matches, IsClient, HasMade, IsSeatOf}
 use Rattle.store_clients.specs.Workloads.{HasServed, IsBack}
 use Rattle.store_clients.proofs.Matching.{matches_both}
+
+lt_or : (a b : ℕ) → (a < b) ⊎ (b ≤ a)
+lt_or a zero = inr (omega arith)
+lt_or zero (suc b) = inl (omega arith)
+lt_or (suc a) (suc b) = ⊎_elim (λ l. inl (omega (arith, l))) (λ l. inr (omega (arith, l))) (lt_or a b)
 
 -- ---- places of lists
 
@@ -66,59 +73,109 @@ pub all_served : {B : Type 0} (rounds : ℕ) (given served : List SeatValue) (cl
 all_served {B} rounds given served clients =
     matches_both (IsClient rounds) IsBack (HasServed rounds) given clients served (served_is rounds)
 
+-- ---- fresh seats
+
+fresh_length : (first n : ℕ) → length (fresh_seats first n) ≡ n
+fresh_length first zero = refl
+fresh_length first (suc n) =
+    omega (arith, length-append (fresh_seats first n) (fresh_seat first n ∷ []), fresh_length first n)
+
+fresh_at : (first n k : ℕ) → k < n → slice_get (fresh_seats first n) k ≡ Some (fresh_seat first k)
+fresh_at first zero k l = absurd (omega arith)
+fresh_at first (suc n) k l = ⊎_elim
+    (λ (below : k < n). slice_get_left (fresh_seats first n) (fresh_seat first n ∷ []) k (fresh_seat first k)
+    (fresh_at first n k below))
+    (λ (from : n ≤ k).
+    let e : k ≡ n = omega (arith, from, l) in
+    ap (slice_get (fresh_seats first n ++ fresh_seat first n ∷ [])) (e ∙ sym (fresh_length first n))
+    ∙ slice_get_last (fresh_seats first n) (fresh_seat first n) ∙ ap (λ i. Some (fresh_seat first i)) (sym e))
+    (lt_or k n)
+
 -- ---- counts
 
--- The seats are those after the old history. Behind the first are the clients', which served, and all came back known.
-module _ (clients rounds : ℕ) (old new : List Record) (d : MasterData) (is : d.history ≡ new)
-    (seats served final : List SeatValue) (fit : clients < 64) (after : AreSeatsAfter old 64 seats)
+count_both : (k : ℕ) (old more : List Record) → count_of k (old ++ more) ≡ count_of k old + count_of k more
+count_both k old more = sum_by-append (λ (r : Record). cond (r.seat == k) 1 0) old more
+
+-- none is of a seat beyond all
+none_of : (n k : ℕ) (rs : List Record) → AreOfSeats n rs → n ≤ k → count_of k rs ≡ 0
+none_of n k [] all from = refl
+none_of n k (r ∷ rs) all from =
+    let rest = none_of n k rs (λ i d l. all (suc i) d (omega (arith, l))) from in
+    let first : r.seat < n = all zero r (omega arith) in
+    let both = count_both k (r ∷ []) rs in
+    let one : count_of k (r ∷ []) ≡ 0 = grind (arith, nat_tests) in
+    omega (arith, both, one, rest)
+
+-- The seats are those of a new store over the old history. Behind the first are the clients', which served, and all came
+-- back known.
+module _ (clients rounds first start : ℕ) (old more : List Record) (d : MasterData) (is : d.history ≡ old ++ more)
+    (begun : start ≡ length old)
+    (seats served final : List SeatValue) (fit : clients < 64) (fresh : seats ≡ fresh_seats first 64)
     (back : final ≡ take 1 (take (1 + clients) seats) ++ (served ++ drop (1 + clients) seats))
     (made : Matches (HasServed rounds) (drop 1 (take (1 + clients) seats)) served)
-    (known : AreServed d final) (all : AreOfSeats 64 new) where
+    (known : AreServed start d final) (all : AreOfSeats 64 (drop start d.history)) where
   abbrev own : List SeatValue
   own = take 1 (take (1 + clients) seats)
 
   abbrev others : List SeatValue
   others = drop (1 + clients) seats
 
-  count_by_seat : (s : SeatValue) → Has final s → count_of s.number new ≡ s.count
-  count_by_seat s h = ap (λ l. count_of s.number l) (sym is) ∙ sym (known h.place s h.is).count
+  new_ones : drop start d.history ≡ more
+  new_ones = (λ i. drop (begun i) (is i)) ∙ drop-append_seam old more
 
-  own_there : Has final (seat_after old 0 (after.each 0 (omega arith)).0)
-  own_there = let first = after.each 0 (omega arith) in rw back (has_left own (served ++ others) _ (record {
+  seat_at : (k : ℕ) → k < 64 → slice_get seats k ≡ Some (fresh_seat first k)
+  seat_at k below = ap (λ l. slice_get l k) fresh ∙ fresh_at first 64 k below
+
+  count_by_seat : (s : SeatValue) → Has final s → count_of s.number more ≡ s.count
+  count_by_seat s h = ap (λ l. count_of s.number l) (sym new_ones) ∙ sym (known h.place s h.is).count
+
+  -- a seat of which that many records are new
+  count_is : (k n : ℕ) → count_of k more ≡ n → count_of k d.history ≡ count_of k old + n
+  count_is k n few = ap (λ l. count_of k l) is ∙ count_both k old more ∙ ap (λ c. count_of k old + c) few
+
+  own_there : Has final (fresh_seat first 0)
+  own_there = rw back (has_left own (served ++ others) _ (record {
     place = 0;
     is =
         get_take 1 (take (1 + clients) seats) 0 (omega arith)
-        ∙ get_take (1 + clients) seats 0 (omega arith) ∙ first.1;
+        ∙ get_take (1 + clients) seats 0 (omega arith) ∙ seat_at 0 (omega arith);
   }))
 
-  idle_at : (k : ℕ) → clients < k → k < 64 → count_of k new ≡ count_of k old
-  idle_at k low high =
+  idle_seat : (k : ℕ) → clients < k → k < 64 → count_of k more ≡ 0
+  idle_seat k low high =
       let j = k - (1 + clients) in
       let e : (1 + clients) + (k - (1 + clients)) ≡ k = omega (arith, low) in
-      let a = after.each k high in
-      let there : Has others (seat_after old k a.0) =
-      record { place = j; is = get_drop (1 + clients) seats j ∙ ap (slice_get seats) e ∙ a.1 } in
-      count_by_seat (seat_after old k a.0) (rw back (has_right own (served ++ others) _
+      let there : Has others (fresh_seat first k) =
+      record { place = j; is = get_drop (1 + clients) seats j ∙ ap (slice_get seats) e ∙ seat_at k high } in
+      count_by_seat (fresh_seat first k) (rw back (has_right own (served ++ others) _
       (has_right served others _ there)))
 
-  each_at : (k : ℕ) → 1 ≤ k → k ≤ clients → count_of k new ≡ count_of k old + 2 * rounds
+  idle_at : (k : ℕ) → clients < k → count_of k d.history ≡ count_of k old
+  idle_at k low =
+      let none : count_of k more ≡ 0 = ⊎_elim
+      (λ (below : k < 64). idle_seat k low below)
+      (λ (from : 64 ≤ k). none_of 64 k more (subst (λ l. AreOfSeats 64 l) new_ones all) from)
+      (lt_or k 64) in
+      omega (arith, count_is k 0 none)
+
+  each_at : (k : ℕ) → 1 ≤ k → k ≤ clients → count_of k d.history ≡ count_of k old + 2 * rounds
   each_at k low high =
       let e : 1 + (k - 1) ≡ k = omega (arith, low) in
-      let a = after.each k (omega (arith, high, fit)) in
       let front = take (1 + clients) seats in
-      let at : slice_get (drop 1 (take (1 + clients) seats)) (k - 1) ≡ Some (seat_after old k a.0) =
-      get_drop 1 front (k - 1) ∙ ap (slice_get front) e ∙ get_take (1 + clients) seats k (omega (arith, high)) ∙ a.1 in
-      let s = made.each (k - 1) (seat_after old k a.0) at in
-      let there : Has final s.0 = rw back (has_right own (served ++ others) s.0
-      (has_left served others s.0 (record { place = k - 1; is = s.1 }))) in
-      ap (λ n. count_of n new) (sym s.2.0) ∙ count_by_seat s.0 there ∙ s.2.1
+      let at : slice_get (drop 1 (take (1 + clients) seats)) (k - 1) ≡ Some (fresh_seat first k) =
+      get_drop 1 front (k - 1) ∙ ap (slice_get front) e ∙ get_take (1 + clients) seats k (omega (arith, high))
+      ∙ seat_at k (omega (arith, high, fit)) in
+      let s = made.each (k - 1) (fresh_seat first k) at in
+      let there : Has final s.0 = subst (λ (l : List SeatValue). Has l s.0) (sym back)
+      (has_right own (served ++ others) s.0 (has_left served others s.0 (record { place = k - 1; is = s.1 }))) in
+      count_is k (2 * rounds) (ap (λ n. count_of n more) (sym s.2.0) ∙ count_by_seat s.0 there ∙ s.2.1
+      ∙ omega arith)
 
-  pub accepted : AreAccepted clients rounds old new
+  pub accepted : AreAccepted clients rounds old d.history
   accepted = record {
-    own = count_by_seat (seat_after old 0 (after.each 0 (omega arith)).0) own_there;
+    own = omega (arith, count_is 0 0 (count_by_seat (fresh_seat first 0) own_there));
     each = each_at;
     idle = idle_at;
-    seats = all;
   }
 
 times : (r c : ℕ) → 2 * r * c ≤ 2 * r * 63 → r < 2 ^ 40 → 2 * r * c < 2 ^ 64

@@ -1,21 +1,21 @@
 //! Clients over a master: a store is made over it, clients run, and the master is taken back.
 
-ghost use Rattle.std.specs.Prelude.{◌≡◌, ◌≤◌, ◌<◌, ◌*◌, ◌+◌, ◌++◌, ◌^◌, List, IfOk, OnOk, IsTrue, None};
-ghost use Rattle.std.specs.Prelude.{length, drop, take, replicate};
+ghost use Rattle.std.specs.Prelude.{◌≡◌, ◌≤◌, ◌<◌, ◌*◌, ◌+◌, ◌++◌, ◌^◌, List, [], IfOk, OnOk, IsTrue};
+ghost use Rattle.std.specs.Prelude.{length, drop, take};
 ghost use Rattle.counted_calls.specs.master.log_laws.Data.{durable_of};
 ghost use Rattle.counted_calls.specs.master.master_state.Log.{log_of};
 ghost use Rattle.counted_calls.specs.locked_log.Made.{IsMade, made_now};
 ghost use Rattle.counted_calls.specs.locked_log.store_seat.Seats.{SeatValue};
-ghost use Rattle.counted_calls.specs.locked_log.Sharing.{AreSeatsAfter};
 ghost use Rattle.counted_calls.specs.master.Valid.{IsValid};
 ghost use Rattle.counted_calls.specs.master.World.{world};
 ghost use Rattle.store_clients.specs.Clients.{Matches};
 ghost use Rattle.history.specs.Seats.{AreAccepted};
+ghost use Rattle.history_row.specs.Rows.{IsRowOf};
 ghost use Rattle.store_clients.specs.Workloads.{HasServed, IsBack};
 
 use crate::client::Client;
 use crate::running::run_clients;
-use counted_calls::locked_log::{Blank, CallFault, Naming, Seat, ShareFault, Store};
+use counted_calls::locked_log::{Blank, CallFault, Naming, Seat, Store};
 use counted_calls::master::{Master, Refusal};
 use counted_calls::take_back;
 use gate::Gate;
@@ -47,8 +47,9 @@ pub struct Outcome<F: Fleet> {
     pub is_known: bool,
 }
 
-/// Makes a store over the master, has the clients make their rounds beside a cleaner, and takes the master back.
-/// `records` is how many records the master's history takes. If all calls were accepted, but the store can't tell
+/// Makes a store over the master, has the clients make their rounds beside a cleaner, and takes the master back. The
+/// store has a cell for each call, but no more than `records`, which is how many records the master's history takes:
+/// a call that finds no cell would find the history full. If all calls were accepted, but the store can't tell
 /// whose its records are, or not all are durable, the refusal is `SeatUnknown`. Only tests show that this comes just
 /// if no call was made, and earlier records weren't durable.
 pub fn clients_over<F: Fleet + Send, R: Threads + Wait + Sync, G: Gate + Sync>(
@@ -72,7 +73,8 @@ pub fn clients_over<F: Fleet + Send, R: Threads + Wait + Sync, G: Gate + Sync>(
         (AreAccepted work.clients work.rounds master.knows.history result.master.knows.history) }
 {
     master.show_valid();
-    match Blank::make(alloc, records, SEATS) {
+    let calls = 2 * work.rounds * work.clients;
+    match Blank::make(alloc, calls.min(records), SEATS) {
         Ok(blank) => clients_in::<F, Brand, R, G>(rt, alloc, blank, master, work, gate),
         Err(_) => Outcome {
             master,
@@ -91,9 +93,10 @@ fn clients_in<F: Fleet + Send, B: Naming + Send + Sync, R: Threads + Wait + Sync
     work: Workload,
     gate: &G,
 ) -> Outcome<F>
-    requires empty { blank.row ≡ replicate master.knows.config.history None }
+    requires empty { IsRowOf blank.row [] }
     requires seats { blank.seats ≡ 64 }
     requires cells { (blank.cells ≡ B.cells) × (blank.seats ≡ B.made.seats) }
+    requires start { B.start ≡ length master.knows.history }
     requires ledger { (blank.name ≡ B.name) × (blank.parts ≡ B.parts) }
     requires mark { blank.table ≡ B.table }
     requires made { B.made ≡ made_now 64 (world F.state master) }
@@ -111,10 +114,10 @@ fn clients_in<F: Fleet + Send, B: Naming + Send + Sync, R: Threads + Wait + Sync
     master.show_valid();
     let (store, mut seats) = match Store::<F, B>::share(alloc, blank, master) {
         Ok(pair) => pair,
-        Err((fault, master)) => {
+        Err((_, master)) => {
             return Outcome {
                 master,
-                calls: Err(fault_of(fault)),
+                calls: Err(CallFault::Refused(Refusal::NoMemory)),
                 is_known: true,
             };
         }
@@ -139,14 +142,6 @@ fn clients_in<F: Fleet + Send, B: Naming + Send + Sync, R: Threads + Wait + Sync
             calls: Err(fault),
             is_known,
         },
-    }
-}
-
-fn fault_of(fault: ShareFault) -> CallFault {
-    match fault {
-        ShareFault::NoMemory => CallFault::Refused(Refusal::NoMemory),
-        ShareFault::CellRefused => CallFault::CellRefused,
-        ShareFault::StrangeSeat => CallFault::SeatUnknown,
     }
 }
 

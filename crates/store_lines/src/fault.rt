@@ -18,6 +18,8 @@ pub enum LineFault {
     SeatUnknown,
     /// A cell refused its record. Only tests show that this never comes.
     CellRefused,
+    /// Each cell of the store has its record.
+    CellsSpent,
 }
 
 impl From<NoMemory> for LineFault {
@@ -34,5 +36,6 @@ pub fn tell<I: BufRead + Drop, O: Write + Drop>(dialogue: &mut Dialogue<I, O>, f
         LineFault::NoMemory => dialogue.fail(ScriptFault::NoMemory),
         LineFault::SeatUnknown => dialogue.say("refused SeatUnknown"),
         LineFault::CellRefused => dialogue.say("refused CellRefused"),
+        LineFault::CellsSpent => dialogue.say("refused CellsSpent"),
     }
 }

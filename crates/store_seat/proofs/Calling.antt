@@ -4,7 +4,7 @@ use Rattle.versioned_map.specs.declared.command.Command.{Command}
 use Rattle.versioned_map.specs.declared.command.Reply.{Reply}
 use Rattle.history_row.specs.Receipts.{Told}
 use Rattle.store_seat.specs.declared.fault.CallFault.{CallFault}
-use Rattle.store_seat.specs.declared.fault.CallFault.TheVariants.{Refused, Unsure, SeatUnknown, CellRefused, NotYours}
+use Rattle.store_seat.specs.declared.fault.CallFault.TheVariants.{Refused, Unsure, SeatUnknown, CellRefused, NotYours, CellsSpent}
 use Rattle.store_seat.specs.Calls.{AppliesSeat, Answers, Calls, IsLeft, LeavesRefused}
 use Rattle.store_seat.specs.Seats.{SeatValue, record_by, told, noted, unnoted, answered}
 use Rattle.std.proofs.lemmas.Option.{same_Some}
@@ -43,6 +43,7 @@ refused_call m n command SeatUnknown h = h
 refused_call m n command CellRefused h = ⊎_elim (left_same m n)
     (λ x. left_more m (unnoted m) n x refl refl refl refl refl refl) h
 refused_call m n command NotYours h = absurd h
+refused_call m n command CellsSpent h = h
 
 -- a record that was left without an answer
 pub left_call : (m n k : SeatValue) (command : Command) (reply : Reply) (place : ℕ)
@@ -62,6 +63,7 @@ left_call m n k command reply place SeatUnknown first is same left = absurd left
 left_call m n k command reply place CellRefused first is same left =
     left_more m (noted m (told place (record_by m.number command reply))) k (same ∙ is) refl refl refl refl refl refl
 left_call m n k command reply place NotYours first is same left = absurd left
+left_call m n k command reply place CellsSpent first is same left = absurd left
 
 -- a record that was answered, whose receipt the seat gives
 pub answered_call : (m n k v : SeatValue) (command : Command) (reply : Reply) (place : ℕ)

@@ -1,5 +1,6 @@
 -- What a store's book has of a seat.
-use Rattle.std.specs.Prelude.{◌≡◌, ◌<◌, ◌+◌, ℕ, Some, List, slice_get, slice_set}
+use Rattle.std.specs.Prelude.{◌≡◌, ◌<◌, ◌≤◌, ◌+◌, ℕ, Some, List, slice_get, slice_set}
+use Rattle.versioned_map.specs.declared.command.Record.{Record}
 use Rattle.store_seat.specs.declared.account.Account.{Account}
 use Rattle.store_seat.specs.Seats.{SeatValue, answered}
 
@@ -18,3 +19,14 @@ SettlesIn book m place durable next n = (place < durable) × Knows book m
 -- nothing changes: the place isn't durable, or the book's numbers of the seat aren't the seat's own
 abbrev pub SettlesNothingIn : List Account → SeatValue → ℕ → ℕ → List Account → SeatValue → Type 0
 SettlesNothingIn book m place durable next n = (place < durable → Knows book m → ⊥) × (next ≡ book) × (n ≡ m)
+
+-- ---- records that can be settled
+
+-- The record at this place is of a seat that the book has, and isn't below the seat's first number.
+abbrev pub IsOpen : List Account → List Record → ℕ → Type 0
+IsOpen book records place = (a : Account) × (r : Record) × (slice_get records place ≡ Some r)
+    × (slice_get book r.seat ≡ Some a) × (a.first ≤ place)
+
+-- Below n no seat can still settle a record of its own. Those below `start` were made before the store.
+abbrev pub IsSettled : ℕ → List Account → List Record → ℕ → Type 0
+IsSettled start book records n = (place : ℕ) → start ≤ place → place < n → IsOpen book records place → ⊥

@@ -4,7 +4,7 @@ use Rattle.versioned_map.specs.declared.command.Command.{Command}
 use Rattle.versioned_map.specs.declared.command.Reply.{Reply}
 use Rattle.history_row.specs.Receipts.{Told}
 use Rattle.store_seat.specs.declared.fault.CallFault.{CallFault}
-use Rattle.store_seat.specs.declared.fault.CallFault.TheVariants.{Refused, Unsure, SeatUnknown, CellRefused, NotYours}
+use Rattle.store_seat.specs.declared.fault.CallFault.TheVariants.{Refused, Unsure, SeatUnknown, CellRefused, NotYours, CellsSpent}
 use Rattle.store_seat.specs.Seats.{SeatValue, record_by, told, noted, unnoted, answered}
 use Rattle.store_seat.specs.Stops.{StopsPush, RefusesCall}
 
@@ -16,6 +16,7 @@ AppliesSeat m command (Err (Unsure place e)) n = ⊥
 AppliesSeat m command (Err SeatUnknown) n = n ≡ m
 AppliesSeat m command (Err CellRefused) n = (n ≡ m) ⊎ (n ≡ unnoted m)
 AppliesSeat m command (Err NotYours) n = ⊥
+AppliesSeat m command (Err CellsSpent) n = n ≡ m
 
 -- The call made one record. The receipt names this seat, this command and the reply, at a place above all that the seat
 -- was answered or shown before.
@@ -49,6 +50,7 @@ Calls m command (Err (Unsure place e)) n = StopsPush e × LeavesUnsure m command
 Calls m command (Err SeatUnknown) n = n ≡ m
 Calls m command (Err CellRefused) n = LeavesRefused m n
 Calls m command (Err NotYours) n = ⊥
+Calls m command (Err CellsSpent) n = n ≡ m
 
 -- the ways in which a record can be left without an answer
 abbrev pub IsLeft : ℕ → CallFault → Type 0
@@ -57,6 +59,7 @@ IsLeft place (Unsure at e) = (at ≡ place) × StopsPush e
 IsLeft place SeatUnknown = ⊥
 IsLeft place CellRefused = Unit {0}
 IsLeft place NotYours = ⊥
+IsLeft place CellsSpent = ⊥
 
 -- the seat after it was shown this place
 abbrev pub met : SeatValue → ℕ → SeatValue

@@ -6,13 +6,14 @@ use Rattle.versioned_map.specs.declared.command.Record.{Record}
 use Rattle.versioned_map.specs.declared.command.Reply.{Reply}
 use Rattle.history_row.specs.Receipts.{Told}
 use Rattle.store_seat.specs.declared.fault.CallFault.{CallFault}
-use Rattle.store_seat.specs.declared.fault.CallFault.TheVariants.{Refused, Unsure, SeatUnknown, CellRefused, NotYours}
+use Rattle.store_seat.specs.declared.fault.CallFault.TheVariants.{Refused, Unsure, SeatUnknown, CellRefused, NotYours, CellsSpent}
 use Rattle.store_seat.specs.Seats.{SeatValue, record_by, told, answered}
 use Rattle.store_seat.specs.Stops.{StopsPush}
 
--- There is a record at the place, it is the seat's, and the place isn't below the seat's first number.
-abbrev pub Owns : List Record → SeatValue → ℕ → Type 0
-Owns records m place = (m.first ≤ place)
+-- There is a record at the place, it is the seat's, it was made since the store was, whose first cell is at `start`,
+-- and the place isn't below the seat's first number.
+abbrev pub Owns : ℕ → List Record → SeatValue → ℕ → Type 0
+Owns start records m place = (start ≤ place) × (m.first ≤ place)
     × ((what : Record) × (slice_get records place ≡ Some what) × (what.seat ≡ m.number))
 
 -- the reply and the receipt are those of the record at this place, which is the seat's
@@ -32,6 +33,7 @@ Claims records m place (Err (Unsure at e)) = (at ≡ place) × (e ≡ refusal.No
 Claims records m place (Err SeatUnknown) = ⊥
 Claims records m place (Err CellRefused) = ⊥
 Claims records m place (Err NotYours) = ⊥
+Claims records m place (Err CellsSpent) = ⊥
 
 -- ---- as the seat sees it
 
@@ -47,6 +49,7 @@ ClaimsSeat m place (Err (Unsure at e)) = (at ≡ place) × (e ≡ refusal.NoMemo
 ClaimsSeat m place (Err SeatUnknown) = Unit {0}
 ClaimsSeat m place (Err CellRefused) = Unit {0}
 ClaimsSeat m place (Err NotYours) = Unit {0}
+ClaimsSeat m place (Err CellsSpent) = ⊥
 
 -- If the seat has a note of this place, as after a call that was left without an answer, the reply and the receipt are
 -- those of the note.
@@ -64,3 +67,4 @@ SettlesSeat m place (Err (Unsure at e)) n = (at ≡ place) × StopsPush e × (n 
 SettlesSeat m place (Err SeatUnknown) n = n ≡ m
 SettlesSeat m place (Err CellRefused) n = n ≡ m
 SettlesSeat m place (Err NotYours) n = n ≡ m
+SettlesSeat m place (Err CellsSpent) n = ⊥

@@ -1,6 +1,6 @@
 //! How a seat gets a record of its own again.
 
-ghost use Rattle.std.specs.Prelude.{◌≡◌, ◌<◌, ◌↔◌, IsTrue, IfOk, IfSome, length, slice_get};
+ghost use Rattle.std.specs.Prelude.{◌≡◌, ◌<◌, ◌≤◌, ◌↔◌, IsTrue, IfOk, IfSome, drop, length, slice_get};
 ghost use Rattle.history_row.specs.Rows.{IsRowOf};
 ghost use Rattle.store_seat.specs.Claims.{Owns, Claims};
 
@@ -14,12 +14,12 @@ use master_core::Refusal;
 use std::alloc::Global;
 use versioned_map::Reply;
 
-/// Whether the history has a record of this seat at the place, and the place isn't below the seat's first number. It
-/// takes no memory.
-pub fn owns<B: Naming>(history: &History, seat: &Seat<B>, place: u64) -> bool
-    ensures { IsTrue result ↔ Owns history.now.records seat.now place }
+/// Whether the history has a record of this seat at the place, the row has a cell for it, and the place isn't below the
+/// seat's first number. False if the record was forgotten. It takes no memory.
+pub fn owns<B: Naming>(history: &History, row: &Row<B>, seat: &Seat<B>, place: u64) -> bool
+    ensures { IsTrue result ↔ (Owns B.start history.now.records seat.now place × (history.now.forgotten ≤ place)) }
 {
-    if place < seat.first {
+    if place < seat.first || place < row.start() as u64 {
         return false;
     }
     match history.get(place as usize) {
@@ -37,8 +37,9 @@ pub fn claim<B: Naming>(
     seat: &Seat<B>,
     place: u64,
 ) -> Result<(Reply, Receipt<B>), CallFault>
-    requires written { IsRowOf row.old history.now.records }
-    requires owned { Owns history.now.records seat.now place }
+    requires written { IsRowOf row.old (drop B.start history.now.records) }
+    requires owned { Owns B.start history.now.records seat.now place }
+    requires kept { history.now.forgotten ≤ place }
     ensures row { row.new ≡ row.old }
     ensures claims { Claims history.now.records seat.now place result }
 {
@@ -50,7 +51,7 @@ pub fn claim<B: Naming>(
 
 /// The reply of the record at this place.
 fn reply_at(alloc: Global, history: &History, place: u64) -> Result<Reply, NoMemory>
-    requires { place < length history.now.records }
+    requires { (history.now.forgotten ≤ place) × (place < length history.now.records) }
     ensures { IfOk result (λ reply. IfSome (slice_get history.now.records place) (λ r. reply ≡ r.reply)) }
 {
     let Some(what) = history.get(place as usize) else {

@@ -15,7 +15,9 @@ pub enum CallFault {
     /// 4: the cell of this record or of an earlier one did not take it, or the book's numbers of the seat weren't the
     /// seat's own after the record. The command may have been applied. Every later call ends in this fault, too.
     CellRefused,
-    /// 5: comes only of `settle`. There is no record at the place, it is another seat's, or the place is below the
-    /// seat's first number. Nothing changed.
+    /// 5: comes only of `settle`. There is no record at the place, it is another seat's, the place is below the seat's
+    /// first number, or the record was made before the store. Nothing changed.
     NotYours,
+    /// 6: each cell of the store has its record, so none is left for this one. Nothing changed, and there is no record.
+    CellsSpent,
 }

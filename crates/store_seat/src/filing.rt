@@ -1,6 +1,6 @@
 //! How a record is filed, and how a seat is answered.
 
-ghost use Rattle.std.specs.Prelude.{◌≡◌, ◌<◌, ◌≤◌, ◌+◌, ◌^◌, length, true, Some, MatchBool, slice_set};
+ghost use Rattle.std.specs.Prelude.{◌≡◌, ◌<◌, ◌≤◌, ◌+◌, ◌-◌, ◌^◌, length, true, Some, MatchBool, slice_set};
 ghost use Rattle.store_seat.specs.Accounts.{account, Knows, SettlesIn, SettlesNothingIn};
 ghost use Rattle.history.specs.View.{shown_record};
 ghost use Rattle.store_seat.specs.Seats.{told, noted, unnoted, answered};
@@ -25,11 +25,11 @@ pub fn file<B: Naming>(
     place: u64,
     what: &RecordRef<'_>,
 ) -> bool
-    requires cell { place < length row.old }
+    requires cell { (B.start ≤ place) × (place < B.start + length row.old) }
     requires known { Knows book.old.items seat.old }
     requires room { seat.old.count + 1 < 2 ^ 64 }
     ensures row { MatchBool result
-        (row.new ≡ slice_set row.old place (Some (shown_record what.now))) (row.new ≡ row.old) }
+        (row.new ≡ slice_set row.old (place - B.start) (Some (shown_record what.now))) (row.new ≡ row.old) }
     ensures book { book.new.items
         ≡ slice_set book.old.items seat.old.number (account seat.old.first (seat.old.count + 1)) }
     ensures total { total.new.total ≡ total.old.total + 1 }

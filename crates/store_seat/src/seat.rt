@@ -47,16 +47,17 @@ impl<B: Naming> Model for Seat<B> {
 }
 
 impl<B: Naming> Seat<B> {
-    /// A seat without a record, with its part of the ledger and a pen of its own.
-    pub fn new(number: u64, share: Share<B>, pen: Pen) -> Seat<B>
+    /// A seat without a record, with its part of the ledger and a pen of its own. What lies below `first` counts as
+    /// shown to it.
+    pub fn new(number: u64, first: u64, share: Share<B>, pen: Pen) -> Seat<B>
         requires within { number < B.made.seats }
         requires share { (share.parts ≡ 1) × (share.amount ≡ 0) }
         requires pen { (pen.table_id ≡ B.table) × (pen.me ≡ (nothing, [])) }
-        ensures { result ≡ fresh_seat number }
+        ensures { result ≡ fresh_seat first number }
     {
         Seat {
             number,
-            first: 0,
+            first,
             count: 0,
             share,
             pen,

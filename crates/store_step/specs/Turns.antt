@@ -26,6 +26,17 @@ step_of d turn.Copy = Some step.Copy
 step_of d turn.Seal = Some step.Seal
 step_of d turn.Free = Some step.Free
 
+-- a command is applied
+abbrev pub IsCommand : Step → Type 0
+IsCommand (step.Apply seat command) = Unit {0}
+IsCommand step.Push = ⊥
+IsCommand step.BeginRoll = ⊥
+IsCommand (step.Compact id) = ⊥
+IsCommand (step.BeginClean ids) = ⊥
+IsCommand step.Copy = ⊥
+IsCommand step.Seal = ⊥
+IsCommand step.Free = ⊥
+
 -- the master makes this step; if there is no step, nothing is done
 abbrev pub MakesStep : Option Step → World → Result StepAnswer Refusal → World → Type 0
 MakesStep None old answer new = (answer ≡ Err refusal.Nothing) × (new ≡ old)

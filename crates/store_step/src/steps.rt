@@ -20,6 +20,7 @@ pub fn apply_command<F: Fleet>(
 ) -> Result<(u64, Reply), Refusal>
     ensures gives { MakesCommand (world F.state master.old) seat command result (world F.state master.new) }
     ensures keeps { Keeps 1 (world F.state master.old) (world F.state master.new) }
+    ensures remembers { master.new.knows.forgotten ≡ master.old.knows.forgotten }
     ensures valid { IsValid master.new.knows (F.state master.new.fleet) }
 {
     match master.step(Step::Apply(seat, command)) {
@@ -33,6 +34,7 @@ pub fn apply_command<F: Fleet>(
 pub fn make_turn<F: Fleet>(master: &mut Master<F>, turn: CleanTurn) -> Result<StepAnswer, Refusal>
     ensures gives { MakesTurn (world F.state master.old) turn result (world F.state master.new) }
     ensures keeps { Keeps 1 (world F.state master.old) (world F.state master.new) }
+    ensures remembers { master.new.knows.forgotten ≡ master.old.knows.forgotten }
     ensures valid { IsValid master.new.knows (F.state master.new.fleet) }
 {
     master.show_valid();

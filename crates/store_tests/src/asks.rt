@@ -28,6 +28,12 @@ pub enum Act {
     Calls(Do, u64, Told),
     /// A call that has no answer: the place if its record is there, and the refusal.
     Fails(Do, Option<u64>, Refusal),
+    /// A call when no cell may be left: the refusal that comes first, or `None` for CellsSpent.
+    FindsNoCell(Do, Option<Refusal>),
+    /// So many calls, whose receipts are dropped.
+    Repeats(Do, u64),
+    /// So many records are forgotten after a forgetting.
+    Forgets(u64),
     /// A call that makes so many takes at least, while another thread gets in between two of them.
     LetsIn(Do, u64, Told, u64),
     /// It settles the record at this place: the reply, or `None` for NotYours.
@@ -167,6 +173,50 @@ fn fails<F: Fleet, B: Naming, R: Wait>(
 ) -> bool {
     let answer = store.call(rt, seat, command);
     is_left(&answer, want, why)
+}
+
+/// Makes the call. Whether it is refused for this reason, or for want of a cell if there is none.
+fn finds_no_cell<F: Fleet, B: Naming, R: Wait>(
+    rt: &R,
+    store: &Store<F, B>,
+    seat: &mut Seat<B>,
+    command: Command,
+    why: Option<Refusal>,
+) -> bool {
+    match &store.call(rt, seat, command) {
+        Err(CallFault::Refused(refusal)) => why == Some(*refusal),
+        Err(CallFault::CellsSpent) => why.is_none(),
+        _ => false,
+    }
+}
+
+/// Makes the call so many times. Whether each was answered.
+fn repeats<F: Fleet, B: Naming, R: Wait>(
+    rt: &R,
+    alloc: Global,
+    store: &Store<F, B>,
+    seat: &mut Seat<B>,
+    what: &Do,
+    times: u64,
+) -> bool {
+    for _ in 0..times {
+        if !is_made(rt, store, seat, command_of(alloc, what)) {
+            return false;
+        }
+    }
+    true
+}
+
+fn is_made<F: Fleet, B: Naming, R: Wait>(
+    rt: &R,
+    store: &Store<F, B>,
+    seat: &mut Seat<B>,
+    command: Option<Command>,
+) -> bool {
+    match command {
+        Some(command) => store.call(rt, seat, command).is_ok(),
+        None => false,
+    }
 }
 
 fn is_left<B: Naming>(
@@ -332,6 +382,11 @@ fn is_told<F: Bench + Send, B: Naming + Send + Sync, R: Threads + Wait + Sync>(
             Some(command) => fails(rt, store, seat, command, *place, *why),
             None => false,
         },
+        Act::FindsNoCell(what, why) => match command_of(alloc, what) {
+            Some(command) => finds_no_cell(rt, store, seat, command, *why),
+            None => false,
+        },
+        Act::Repeats(what, times) => repeats(rt, alloc, store, seat, what, *times),
         Act::Settles(place, reply) => settles(rt, store, seat, receipts, *place, *reply),
         Act::Stays(place, why) => stays(rt, store, seat, *place, *why),
         Act::Meets(at) => meets(rt, store, seat, receipts.as_slice(), *at),
@@ -358,6 +413,7 @@ pub fn is_answered<F: Bench + Send, B: Naming + Send + Sync, R: Threads + Wait +
         Act::RunsShort => runs_short(watch),
         Act::Faults(number) => faults(rt, store, *number),
         Act::Rolls(times) => rolls(rt, store, *times),
+        Act::Forgets(count) => store.forget(rt) == *count,
         Act::Looks(used) => looks(rt, store, watch, *used),
         Act::Agrees(at) => agrees(receipts, *at),
         Act::Overtakes(at) => is_free(rt, store, seats, receipts, *at, watch),

@@ -32,6 +32,8 @@ const DAYS: &[Day] = &[
     (Morning::Rolled, (0, 0, 2), Some(0), b"", 0, 6),
     (Morning::Cleaning, (0, 0, 0), Some(0), b"", 0, 4),
     (Morning::Cleaning, (2, 3, 1), Some(12), b"3", 12, 4),
+    (Morning::Served, (2, 3, 0), Some(12), b"3", 16, 1),
+    (Morning::Served, (1, 100, 0), None, b"10", 24, 2),
 ];
 
 /// Whether the last record found this value. Without records it is nothing.
@@ -130,7 +132,7 @@ fn ends_so<R: Threads + Wait + Sync, G: Gate + Sync>(
     day: &Day,
     gate: &G,
 ) -> bool {
-    let Some(mut master) = small_master(alloc, watch, HALTING) else {
+    let Some(mut master) = small_master(alloc, watch, HALTING, RECORDS) else {
         return false;
     };
     prepare(alloc, &mut master, day.0);

@@ -3,9 +3,9 @@
 //! push waits, and a cleaner that makes room.
 
 use crate::asks::{Act, Do};
-use crate::masters::{HALTING, LARGE, LASTING, Shape};
+use crate::masters::{HALTING, LARGE, LASTING, RECORDS, Shape};
 use crate::slow::Watch;
-use crate::stores::{Evening, run_day};
+use crate::stores::{Evening, Size, run_day};
 use std::alloc::Global;
 use std::sync::Wait;
 use std::test::Fail;
@@ -281,23 +281,74 @@ const LOOKED: &[(usize, Act)] = &[
     (0, Act::Looks(15)),
 ];
 
-/// The seats of a store, the shape of its master and what they ask; then the place behind the last receipt that the row
+/// A store over a master with three gets and a put, which isn't durable, has two cells. What is durable counts as shown,
+/// and no earlier record is settled. Two calls find a cell each, and a third finds none, which leaves no record.
+const SHARED: &[(usize, Act)] = &[
+    (0, Act::Counts(3, 0)),
+    (0, Act::Settles(3, None)),
+    (0, Act::Settles(1, None)),
+    (0, Act::Calls(Do::Put(b"a", b"x", If::Any), 4, ("ok", 2))),
+    (0, Act::Counts(5, 1)),
+    (0, Act::Settles(3, None)),
+    (
+        0,
+        Act::FindsNoCell(Do::Put(b"a", LONG, If::Any), Some(Refusal::TooBig)),
+    ),
+    (0, Act::Calls(Do::Get(b"e"), 5, ("found", 1))),
+    (
+        0,
+        Act::FindsNoCell(Do::Put(b"a", LONG, If::Any), Some(Refusal::TooBig)),
+    ),
+    (0, Act::FindsNoCell(Do::Get(b"e"), None)),
+    (0, Act::Counts(6, 2)),
+];
+
+/// The history keeps 1,500 records. Seat 1 leaves its second without an answer, which holds all later ones: after 1,498
+/// gets of seat 0 the history is full, and nothing is forgotten. Once the record is settled, a block is forgotten, though
+/// seat 2 never calls, and calls go on.
+const FORGOTTEN: &[(usize, Act)] = &[
+    (1, Act::Calls(Do::Put(b"a", b"x", If::Any), 0, ("ok", 1))),
+    (1, Act::Limits(0)),
+    (
+        1,
+        Act::Fails(Do::Put(b"b", b"y", If::Any), Some(1), Refusal::Spent),
+    ),
+    (0, Act::Limits(u64::MAX)),
+    (0, Act::Repeats(Do::Get(b"b"), 1_498)),
+    (0, Act::Forgets(0)),
+    (0, Act::Fails(Do::Get(b"b"), None, Refusal::HistoryFull)),
+    (1, Act::Settles(1, Some(("ok", 2)))),
+    (0, Act::Forgets(1_024)),
+    (0, Act::Settles(9, None)),
+    (0, Act::Calls(Do::Get(b"b"), 1_500, ("found", 2))),
+    (0, Act::Forgets(1_024)),
+    (2, Act::Counts(0, 0)),
+];
+
+/// The size of a store, the shape of its master and what they ask; then the place behind the last receipt that the row
 /// told at its close, and how many seglets the master used.
-type Day = (u64, Shape, &'static [(usize, Act)], usize, u64);
+type Day = (Size, Shape, &'static [(usize, Act)], usize, u64);
+
+/// One seat, and two, over a new master.
+const ONE: Size = (1, RECORDS, RECORDS, 0);
+
+const TWO: Size = (2, RECORDS, RECORDS, 0);
 
 const DAYS: &[Day] = &[
-    (1, HALTING, CONDITIONS, 6, 8),
-    (1, HALTING, UNSURE, 3, 8),
-    (2, HALTING, SETTLED, 6, 8),
-    (2, HALTING, MET, 3, 8),
-    (1, HALTING, TURNED, 16, 22),
-    (2, HALTING, MARKED, 6, 8),
-    (1, LASTING, FAILED_OVER, 2, 10),
-    (2, LASTING, LEFT, 2, 10),
-    (1, LASTING, SETTLED_OVER, 2, 10),
-    (1, LARGE, MENDED, 3, 317),
-    (1, HALTING, SHORT, 4, 15),
-    (1, HALTING, LOOKED, 4, 15),
+    (ONE, HALTING, CONDITIONS, 6, 8),
+    (ONE, HALTING, UNSURE, 3, 8),
+    (TWO, HALTING, SETTLED, 6, 8),
+    (TWO, HALTING, MET, 3, 8),
+    (ONE, HALTING, TURNED, 16, 22),
+    (TWO, HALTING, MARKED, 6, 8),
+    (ONE, LASTING, FAILED_OVER, 2, 10),
+    (TWO, LASTING, LEFT, 2, 10),
+    (ONE, LASTING, SETTLED_OVER, 2, 10),
+    (ONE, LARGE, MENDED, 3, 317),
+    (ONE, HALTING, SHORT, 4, 15),
+    (ONE, HALTING, LOOKED, 4, 15),
+    ((1, 2, RECORDS, 3), HALTING, SHARED, 6, 8),
+    ((3, 2_000, 1_500, 0), HALTING, FORGOTTEN, 1_501, 8),
 ];
 
 /// How a day ended.
@@ -319,7 +370,7 @@ fn stores_answer_as_wanted(rt: HostRuntime) -> Result<(), Fail> {
 /// One thread raises the mark and another reads it, while a third holds the lock.
 #[test]
 fn mark_free(rt: HostRuntime) -> Result<(), Fail> {
-    let came = end_of(&rt, rt.alloc(), &(2, HALTING, OVERTAKEN, 2, 8));
+    let came = end_of(&rt, rt.alloc(), &(TWO, HALTING, OVERTAKEN, 2, 8));
     assert!(rt; came == Some((3, 2, 8)), "{came:?}");
     Ok(())
 }

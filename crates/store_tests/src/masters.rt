@@ -1,18 +1,18 @@
 //! A small master, and what it has done before its day begins.
 
-ghost use Rattle.std.specs.Prelude.{◌≡◌, ◌≤◌, ℕ, [], None, IfSome};
+ghost use Rattle.std.specs.Prelude.{◌≡◌, ◌≤◌, ℕ, None, IfSome};
 ghost use Rattle.backup.specs.State.{fleet_state};
 ghost use Rattle.store_clients.specs.master.Registry.{IsUnraised};
 ghost use Rattle.store_clients.specs.master.master_state.Config.{config_fault};
 
 use crate::slow::{SlowFleet, Watch};
 use backup::MemoryFleet;
-use entry::{Row, Tablet, Tablets};
+use entry::{Key, Row, Tablet, Tablets, Value};
 use replica::Fleet;
 use std::alloc::Global;
-use store_clients::master::{Config, KeyHasher, Master, PassFault, Refusal, Step};
+use store_clients::master::{Command, Config, If, KeyHasher, Master, PassFault, Refusal, Step};
 
-/// How many records its history may have.
+/// How many records most histories keep.
 pub const RECORDS: u64 = 24;
 
 /// What a master is made with: the format, the bytes of a segment, and the seglets of memory.
@@ -43,12 +43,14 @@ pub enum Morning {
     Rolled,
     /// It rolled once, and then began a pass over segment 1.
     Cleaning,
+    /// It served three gets, and then a put that isn't durable.
+    Served,
 }
 
-/// Three backups, two replicas and one table.
-fn small_config(alloc: Global, shape: Shape) -> Option<Config>
+/// Three backups, two replicas and one table. The history keeps so many records.
+fn small_config(alloc: Global, shape: Shape, records: u64) -> Option<Config>
     ensures fault { IfSome result (λ c. config_fault c ≡ None) }
-    ensures records { IfSome result (λ c. c.history ≡ 24) }
+    ensures records { IfSome result (λ c. c.history ≡ records) }
 {
     let (format, segment, seglets) = shape;
     let Ok(tablets) = Vec::from_slice(alloc, TABLETS) else {
@@ -63,7 +65,7 @@ fn small_config(alloc: Global, shape: Shape) -> Option<Config>
         seglet: 64,
         seglets,
         tablets: Tablets::new(tablets),
-        history: RECORDS,
+        history: records,
         hasher: KeyHasher::new(),
         format,
         largest: u64::MAX,
@@ -87,15 +89,16 @@ fn new_fleet(alloc: Global, config: &Config) -> Option<MemoryFleet>
     }
 }
 
-/// A new master of this shape. Its fleet does what the watch says.
+/// A new master of this shape, whose history keeps so many records. Its fleet does what the watch says.
 pub fn small_master<'a>(
     alloc: Global,
     watch: &'a Watch,
     shape: Shape,
+    records: u64,
 ) -> Option<Master<SlowFleet<'a>>>
-    ensures { IfSome result (λ m. (m.knows.config.history ≡ 24) × (m.knows.history ≡ [])) }
+    ensures { IfSome result (λ m. m.knows.config.history ≡ records) }
 {
-    let config = small_config(alloc, shape)?;
+    let config = small_config(alloc, shape, records)?;
     let fleet = new_fleet(alloc, &config)?;
     match Master::new(alloc, config, SlowFleet { fleet, watch }) {
         Ok(master) => Some(master),
@@ -133,7 +136,42 @@ pub fn prepare<F: Fleet>(alloc: Global, master: &mut Master<F>, morning: Morning
             roll(master);
             let _refused = begin(alloc, master, &[1]);
         }
+        Morning::Served => {
+            let _applied = serve_before(alloc, master, 3);
+        }
     }
+}
+
+/// Serves so many gets and then a put, whose unit isn't pushed. Whether all were applied.
+pub fn serve_before<F: Fleet>(alloc: Global, master: &mut Master<F>, gets: u64) -> bool
+    ensures { master.new.knows.config ≡ master.old.knows.config }
+{
+    push(master, 2);
+    for _ in 0..gets {
+        if !apply(master, get(alloc)) {
+            return false;
+        }
+    }
+    apply(master, put(alloc))
+}
+
+/// Applies the command by seat 0. Whether it was applied.
+fn apply<F: Fleet>(master: &mut Master<F>, command: Option<Command>) -> bool
+    ensures { master.new.knows.config ≡ master.old.knows.config }
+{
+    match command {
+        Some(command) => make(master, Step::Apply(0, command)).is_none(),
+        None => false,
+    }
+}
+
+fn get(alloc: Global) -> Option<Command> {
+    Some(Command::Get(Key::new(alloc, 1, b"e").ok()?))
+}
+
+fn put(alloc: Global) -> Option<Command> {
+    let key = Key::new(alloc, 1, b"e").ok()?;
+    Some(Command::Put(key, Value::from_slice(alloc, b"x").ok()?, If::Any))
 }
 
 /// Opens the first head, and rolls to the second.

@@ -15,10 +15,10 @@ use std::sync::atomic::{AtomicU64, Ordering};
 use std::thread;
 
 /// How many turns a thread waits at most.
-const TURNS: u64 = 1_000_000;
+const TURNS: u64 = 10_000_000;
 
 /// How many turns a take gives a thread that is to come for the lock.
-const LINGER: u64 = 100_000;
+const LINGER: u64 = 400_000;
 
 /// What the threads of a test tell each other.
 #[derive(Drop)]

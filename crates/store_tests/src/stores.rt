@@ -1,12 +1,12 @@
 //! Days of a store, and how they end.
 
-ghost use Rattle.std.specs.Prelude.{◌≡◌, ◌≤◌};
-ghost use Rattle.store_clients.specs.locked_log.Ends.{IsFresh};
+ghost use Rattle.std.specs.Prelude.{◌≡◌, ◌≤◌, [], length};
+ghost use Rattle.history_row.specs.Rows.{IsRowOf};
 ghost use Rattle.store_clients.specs.locked_log.Made.{IsMade};
 ghost use Rattle.store_clients.specs.master.World.{world};
 
 use crate::asks::{Act, is_answered};
-use crate::masters::{RECORDS, Shape, small_master};
+use crate::masters::{Shape, serve_before, small_master};
 use crate::slow::{SlowFleet, Watch};
 use replica::{Bench, Fleet};
 use std::alloc::Global;
@@ -15,6 +15,10 @@ use std::sync::Wait;
 use std::thread::Threads;
 use store_clients::locked_log::{Blank, Naming, Receipt, Row, Seat, Store};
 use store_clients::master::{Look, Master, Shown};
+
+/// The size of a store: how many seats it has, 1 to 64, and how many cells; how many records the history of its master
+/// keeps; and how many gets the master served before, with a put behind them that is no longer pushed, or 0 for neither.
+pub type Size = (u64, u64, u64, u64);
 
 /// How many were answered as wanted up to the first that was not; the place behind the last receipt that the row told;
 /// and how many seglets the master uses that came back.
@@ -47,7 +51,7 @@ fn told_by<F: Fleet, B: Naming>(
     let mut told = 0;
     for receipt in receipts.iter_mut() {
         let place = receipt.place() as usize;
-        if place < row.len() && place < master.history().len() {
+        if row.reaches(place) && place < master.history().len() {
             row.tell(receipt);
             told = place + 1;
         }
@@ -102,30 +106,35 @@ fn day<F: Bench + Send + Drop, B: Naming + Send + Sync, R: Threads + Wait + Sync
     watch: &Watch,
     asks: &[(usize, Act)],
 ) -> Option<Evening>
-    requires fresh { IsFresh blank.row master.knows }
+    requires empty { IsRowOf blank.row [] }
     requires seats { (1 ≤ blank.seats) × (blank.seats ≤ 64) }
     requires cells { (blank.cells ≡ B.cells) × (blank.seats ≡ B.made.seats) }
+    requires start { B.start ≡ length master.knows.history }
     requires ledger { (blank.name ≡ B.name) × (blank.parts ≡ B.parts) }
     requires mark { blank.table ≡ B.table }
     requires made { IsMade B.made (world F.Fleet.state master) }
 {
-    match Store::<F, B>::new(alloc, blank, master) {
+    match Store::<F, B>::share(alloc, blank, master) {
         Ok((store, seats)) => Some(evening(rt, alloc, store, watch, seats, asks)),
         Err(_) => None,
     }
 }
 
-/// Does what is asked of a store with so many seats, 1 to 64, over a master of this shape.
+/// Does what is asked of a store of this size, over a master of this shape.
 pub fn run_day<R: Threads + Wait + Sync>(
     rt: &R,
     alloc: Global,
     watch: &Watch,
-    seats: u64,
+    size: Size,
     shape: Shape,
     asks: &[(usize, Act)],
 ) -> Option<Evening> {
-    let master = small_master(alloc, watch, shape)?;
-    match Blank::make(alloc, RECORDS, seats.max(1).min(64)) {
+    let (seats, cells, records, earlier) = size;
+    let mut master = small_master(alloc, watch, shape, records)?;
+    if earlier > 0 && !serve_before(alloc, &mut master, earlier) {
+        return None;
+    }
+    match Blank::make(alloc, cells, seats.max(1).min(64)) {
         Ok(blank) => day::<SlowFleet<'_>, Brand, R>(rt, alloc, blank, master, watch, asks),
         Err(_) => None,
     }

@@ -1,3 +1,4 @@
+use Rattle.std.specs.Prelude.{length}
 use Rattle.backup.specs.State.{fleet_state}
 use Rattle.store_lines.specs.locked_log.Made.{made_now}
 use Rattle.store_lines.specs.master.World.{world}
@@ -10,7 +11,7 @@ ghosts-live_in-B-Naming g a = record {
 }
 
 abbrev pub ghosts-live_in-B-Labels : goal.ghosts-live_in-B-Labels
-ghosts-live_in-B-Labels g a = record { cells = a.blank.cells }
+ghosts-live_in-B-Labels g a = record { cells = a.blank.cells; start = length a.master.knows.history }
 
 abbrev pub ghosts-live_in-B-Ledger : goal.ghosts-live_in-B-Ledger
 ghosts-live_in-B-Ledger g a = record { name = a.blank.name; parts = a.blank.parts }

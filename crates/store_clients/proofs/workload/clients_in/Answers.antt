@@ -1,8 +1,10 @@
-use Rattle.std.proofs.Common.{ℕ, arith, ap, refl, sym, subst}
+use Rattle.std.proofs.Common.{ℕ, ◌++◌, ◌∙◌, arith, ap, drop, sym, subst}
 use Rattle.counted_calls.specs.locked_log.store_seat.Made.{Made}
 use Rattle.counted_calls.specs.locked_log.Made.{IsMade, made_now}
 use Rattle.history.specs.Seats.{AreOfSeats}
-use Rattle.counted_calls.specs.locked_log.Sharing.{AreSeatsAfter}
+use Rattle.counted_calls.specs.locked_log.store_seat.Seats.{fresh_seats}
+use Rattle.counted_calls.specs.master.log_laws.Data.{durable_of}
+use Rattle.counted_calls.specs.master.master_state.Log.{log_of}
 use Rattle.counted_calls.proofs.of_locked_log.Lasting.{made_at_first}
 use Rattle.counted_calls.specs.master.World.{MasterValue, world}
 use Rattle.store_clients.proofs.Counts.{accepted, fits}
@@ -29,11 +31,16 @@ returns-in-Ok-outcome-clause-accepted g c =
     let old = c.args.master.knows.history in
     let d = c.take_back-master.result.0.knows in
     let given = c.in-Ok.pair.1.items in
+    let start = g.B.Labels.start in
     let seats = ap (λ (m : Made). m.seats) c.requires.made in
+    let begun = ap (λ (m : Made). m.begun) c.requires.made in
+    let grown = c.take_back-master.ensures.made.begun in
+    let first = durable_of (log_of c.args.master.knows) in
     let back = c.in-Ok-outcome.ensures in
-    accepted c.args.work.clients c.args.work.rounds old d.history d refl given back.0
+    accepted c.args.work.clients c.args.work.rounds first start old grown.0 d
+    (grown.1 ∙ ap (λ l. l ++ grown.0) begun) c.requires.start given back.0
     c.run_seats-outcome.new.seats.items
     (omega (arith, c.requires.clients))
-    (subst (λ (n : ℕ). AreSeatsAfter old n given) c.requires.seats c.in-Ok.ensures)
+    (c.in-Ok.ensures ∙ ap (fresh_seats first) c.requires.seats)
     back.1 back.2 (c.take_back-master.ensures.known c.if-is_known.true)
-    (subst (λ (n : ℕ). AreOfSeats n d.history) seats c.take_back-master.ensures.no_others)
+    (subst (λ (n : ℕ). AreOfSeats n (drop start d.history)) seats c.take_back-master.ensures.no_others)

@@ -1,4 +1,4 @@
-use Rattle.std.proofs.Common.{◌≡◌, ◌<◌, ℕ, ◌+◌, List, Option, Some, length, get_or, sym, ap, ◌∙◌, subst, rules, refl}
+use Rattle.std.proofs.Common.{◌≡◌, ◌<◌, ℕ, ◌+◌, ◌-◌, arith, List, Option, Some, length, get_or, sym, ap, ◌∙◌, subst, rules, refl}
 use Rattle.std.specs.Prelude.{slice_get, slice_set}
 use Rattle.versioned_map.specs.declared.command.Record.{Record}
 use Rattle.history_row.specs.Receipts.{Told}
@@ -19,17 +19,18 @@ booked book v m a same known is =
     ∙ ap (λ (x : SeatValue). slice_set book x.number (account x.first (x.count + 1))) same
 
 -- the receipt of a cell that was set
-told_is : (row new : List (Option Record)) (place : ℕ) (what : Record) (t : Told) → place < length row
-    → new ≡ slice_set row place (Some what) → t.place ≡ place → slice_get new place ≡ Some t.what → t ≡ told place what
-told_is row new place what t within is at there =
-    let cell : slice_get new place ≡ Some (Some what) = ap (λ (r : List (Option Record)). slice_get r place) is
-    ∙ set_there row place (Some what) within in
+told_is : (row new : List (Option Record)) (place i : ℕ) (what : Record) (t : Told) → i < length row
+    → new ≡ slice_set row i (Some what) → t.place ≡ place → slice_get new i ≡ Some t.what → t ≡ told place what
+told_is row new place i what t within is at there =
+    let cell : slice_get new i ≡ Some (Some what) = ap (λ (r : List (Option Record)). slice_get r i) is
+    ∙ set_there row i (Some what) within in
     let kept : t.what ≡ Some what = same_Some _ _ (sym there ∙ cell) in
     λ i. record { place = at i; what = kept i }
 
 pub returns-then-took-clause-seat : goal.returns-then-took-clause-seat
 returns-then-took-clause-seat g c =
-    let is = told_is c.args.row.now c.set-took.new.self c.args.place (shown_record c.args.what.now) c.receipt.result c.requires.cell
+    let is = told_is c.args.row.now c.set-took.new.self c.args.place (c.args.place - g.B.Labels.start)
+    (shown_record c.args.what.now) c.receipt.result (omega (arith, c.requires.cell))
     c.if-took.ensures c.receipt.ensures.receipt.0 c.receipt.ensures.receipt.1 in
     let here : c.match-seat.seat ≡ record {
       number = c.seat.inside.number;

@@ -1,3 +1,4 @@
+use Rattle.std.specs.Prelude.{length}
 use Rattle.backup.specs.State.{fleet_state}
 use Rattle.store_clients.specs.locked_log.Made.{made_now}
 use Rattle.store_clients.specs.master.World.{world_of}
@@ -10,7 +11,7 @@ ghosts-day-B-Naming g a = record {
 }
 
 abbrev pub ghosts-day-B-Labels : goal.ghosts-day-B-Labels
-ghosts-day-B-Labels g a = record { cells = a.blank.cells }
+ghosts-day-B-Labels g a = record { cells = a.blank.cells; start = length a.master.knows.history }
 
 abbrev pub ghosts-day-B-Ledger : goal.ghosts-day-B-Ledger
 ghosts-day-B-Ledger g a = record { name = a.blank.name; parts = a.blank.parts }

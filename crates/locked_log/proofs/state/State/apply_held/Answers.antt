@@ -5,6 +5,12 @@ use Rattle.locked_log.specs.States.{Lasts}
 use Rattle.locked_log.proofs.Lasting.{lasts_same}
 use Rattle.locked_log.proofs.state.State.apply_held.Goals as goal
 
+pub returns-then-not-has_cell-clause-applies : goal.returns-then-not-has_cell-clause-applies
+returns-then-not-has_cell-clause-applies g c = c.lacks_cell.ensures
+
+pub returns-then-not-has_cell-clause-lasts : goal.returns-then-not-has_cell-clause-lasts
+returns-then-not-has_cell-clause-lasts g c = lasts_same 1 (held g.F.Fleet.state c.args.self.now)
+
 pub returns-then-not-reserve-clause-applies : goal.returns-then-not-reserve-clause-applies
 returns-then-not-reserve-clause-applies g c =
     subst (λ (y : StateValue _). AppliesHeld (held g.F.Fleet.state y) c.args.seat.now c.args.command

@@ -1,5 +1,5 @@
-use Rattle.std.proofs.Common.{◌≡◌, rules, refl, ap, sym, ◌∙◌, Ok, Err, ◌≤◌, List, [], ◌∷◌, length, length-append}
-use Rattle.std.proofs.Common.{subst, inl, arith, ◌<◌}
+use Rattle.std.proofs.Common.{◌≡◌, rules, refl, ap, sym, ◌∙◌, Ok, Err, List, [], ◌∷◌, length, length-append}
+use Rattle.std.proofs.Common.{subst, inl, arith, ◌<◌, ◌+◌}
 use Rattle.std.specs.Prelude.{slice_get}
 use Rattle.versioned_map.specs.declared.command.Record.{Record}
 use Rattle.store_step.specs.master.World.{World, world}
@@ -7,14 +7,14 @@ use Rattle.store_seat.specs.declared.fault.CallFault.TheVariants.{CellRefused}
 use Rattle.locked_log.specs.Held.{StateValue, Held, held}
 use Rattle.store_seat.specs.Accounts.{Knows}
 use Rattle.locked_log.specs.States.{IsState, Lasts}
-use Rattle.store_step.specs.master.master_state.declared.config.Config.{Config}
 use Rattle.store_seat.specs.Seats.{record_by}
 use Rattle.locked_log.proofs.Adding.{place_is, history_is}
-use Rattle.locked_log.proofs.Applied.{Done, declines_at, took, missed}
+use Rattle.locked_log.proofs.Applied.{Done, declines_at, has_room, took, missed}
 use Rattle.locked_log.proofs.Few.{small}
 use Rattle.locked_log.proofs.Lasting.{lasts_same}
 use Rattle.locked_log.proofs.state.State.apply_reserved.Given.{Over}
 use Rattle.history.specs.View.{shown_record}
+use Rattle.store_seat.proofs.Owning.{got, kept_is}
 use Rattle.std.proofs.lemmas.Option.{get_or_from_slice_get, slice_get-get_or}
 use Rattle.locked_log.proofs.state.State.apply_reserved.Goals as goal
 
@@ -33,6 +33,7 @@ returns-in-Err-clause-applies g c =
         world = same i;
         book = c.self.inside.book.items;
         total = c.self.inside.total.total;
+        start = g.B.Labels.start;
         row = c.self.inside.row;
         is_refused = c.self.inside.is_refused;
       })
@@ -48,6 +49,7 @@ returns-in-Err-clause-lasts g c =
       world = same i;
       book = c.self.inside.book.items;
       total = c.self.inside.total.total;
+      start = g.B.Labels.start;
       row = c.self.inside.row;
       is_refused = c.self.inside.is_refused;
     })
@@ -63,6 +65,7 @@ returns-in-Err-clause-valid g c =
       world = w;
       book = c.self.inside.book.items;
       total = c.self.inside.total.total;
+      start = g.B.Labels.start;
       row = c.self.inside.row;
       is_refused = c.self.inside.is_refused;
     })
@@ -76,6 +79,7 @@ invariant_of-self g c =
       world = w;
       book = c.self.inside.book.items;
       total = c.self.inside.total.total;
+      start = g.B.Labels.start;
       row = c.self.inside.row;
       is_refused = c.self.inside.is_refused;
     })
@@ -94,6 +98,7 @@ done-missed : (g : Over) (c : goal.Joined-reply g)
       world = world g.F.Fleet.state c.apply_command.new.master;
       book = c.file.new.book.items;
       total = c.file.new.total.total;
+      start = g.B.Labels.start;
       row = c.file.new.row;
       is_refused = c.file.new.is_refused;
     })
@@ -104,9 +109,12 @@ done-missed g c =
     missed g.F.Fleet.state _ c.args.self.now c.self.view_is c.args.seat.now c.number.result c.number.ensures
     c.args.command c.in-Ok.applied.0 c.in-Ok.applied.1 _ g.B.Naming.made what
     c.self.invariant c.show_kept.ensures known c.if-self.false c.in-Ok.ensures.gives c.apply_command.ensures.keeps
-    c.apply_command.ensures.valid
-    (sym (get_or_from_slice_get _ c.in-Ok.applied.0 what what (sym (c.in-Some.ensures
-    ∙ ap (λ (h : List Record). slice_get h c.in-Ok.applied.0) c.history.ensures))))
+    c.apply_command.ensures.remembers c.apply_command.ensures.valid refl (has_room g.F.Fleet.state _ c.args.self.now c.self.view_is
+    c.in-Ok.applied.0 (place_is _ _ c.number.result c.args.command c.in-Ok.applied.0 c.in-Ok.applied.1
+    c.in-Ok.ensures.gives) c.requires)
+    (sym (get_or_from_slice_get _ c.in-Ok.applied.0 what what (sym ((got c.history.result.now c.in-Ok.applied.0 what
+    c.in-Some.ensures).1
+    ∙ ap (λ (h : List Record). slice_get h c.in-Ok.applied.0) c.history.ensures.records))))
     c.file.ensures.book c.file.ensures.total c.file.new.seat c.if-not-file.ensures.row c.if-not-file.ensures.refused
     c.if-not-file.ensures.seat
 
@@ -129,6 +137,7 @@ done-took : (g : Over) (c : goal.Else-not-file g)
       world = world g.F.Fleet.state c.apply_command.new.master;
       book = c.file.new.book.items;
       total = c.file.new.total.total;
+      start = g.B.Labels.start;
       row = c.file.new.row;
       is_refused = c.file.new.is_refused;
     })
@@ -139,9 +148,12 @@ done-took g c =
     took g.F.Fleet.state _ c.args.self.now c.self.view_is c.args.seat.now c.number.result c.number.ensures
     c.args.command c.in-Ok.applied.0 c.in-Ok.applied.1 _ g.B.Naming.made what
     c.self.invariant c.show_kept.ensures known c.if-self.false c.in-Ok.ensures.gives c.apply_command.ensures.keeps
-    c.apply_command.ensures.valid
-    (sym (get_or_from_slice_get _ c.in-Ok.applied.0 what what (sym (c.in-Some.ensures
-    ∙ ap (λ (h : List Record). slice_get h c.in-Ok.applied.0) c.history.ensures))))
+    c.apply_command.ensures.remembers c.apply_command.ensures.valid refl (has_room g.F.Fleet.state _ c.args.self.now c.self.view_is
+    c.in-Ok.applied.0 (place_is _ _ c.number.result c.args.command c.in-Ok.applied.0 c.in-Ok.applied.1
+    c.in-Ok.ensures.gives) c.requires)
+    (sym (get_or_from_slice_get _ c.in-Ok.applied.0 what what (sym ((got c.history.result.now c.in-Ok.applied.0 what
+    c.in-Some.ensures).1
+    ∙ ap (λ (h : List Record). slice_get h c.in-Ok.applied.0) c.history.ensures.records))))
     c.file.ensures.book c.file.ensures.total c.file.new.seat c.if-not-file.ensures.row c.if-not-file.ensures.refused
     c.if-not-file.ensures.seat
 
@@ -204,8 +216,15 @@ unreachable-requires g c =
     let one = length-append old.knows.history (mine ∷ []) in
     let below : c.in-Ok.applied.0 < length new.knows.history = omega (arith, at_end, ap length more, one) in
     let some = slice_get-get_or new.knows.history c.in-Ok.applied.0 mine below in
-    let none = c.in_default.ensures
-    ∙ ap (λ (h : List Record). slice_get h c.in-Ok.applied.0) c.history.ensures in
+    let kept = kept_is c.history.result.now c.in-Ok.applied.0 (omega (
+      arith,
+      at_end,
+      c.history.ensures.forgotten,
+      c.apply_command.ensures.remembers,
+      c.self.invariant.valid.history.within,
+    )) in
+    let none = c.in_default.ensures ∙ kept
+    ∙ ap (λ (h : List Record). slice_get h c.in-Ok.applied.0) c.history.ensures.records in
     let never = none ∙ some in
     cc
 
@@ -215,11 +234,9 @@ file-requires-clause-cell g c =
     let new = world g.F.Fleet.state c.apply_command.new.master in
     let accepted = c.in-Ok.ensures.gives in
     let at_end = place_is old new c.number.result c.args.command c.in-Ok.applied.0 c.in-Ok.applied.1 accepted in
-    let more = history_is old new c.number.result c.args.command c.in-Ok.applied.0 c.in-Ok.applied.1 accepted in
-    let one = length-append old.knows.history (record_by c.number.result c.args.command c.in-Ok.applied.1 ∷ []) in
-    let most : length new.knows.history ≤ new.knows.config.history = c.apply_command.ensures.valid.history in
-    let same = ap (λ (k : Config). k.history) (c.apply_command.ensures.keeps.config ∙ c.self.invariant.master.config) in
-    omega (arith, at_end, ap length more, one, most, same, c.self.invariant.cells)
+    let room = subst (λ (y : StateValue _). length y.master.knows.history < y.start + length y.row)
+    (sym c.self.view_is) c.requires in
+    (omega (arith, at_end, c.self.invariant.start), omega (arith, at_end, room))
 
 pub file-requires-clause-known : goal.file-requires-clause-known
 file-requires-clause-known g c =

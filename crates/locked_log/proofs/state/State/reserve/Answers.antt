@@ -9,6 +9,7 @@ invariant_of-self g c =
       world = world g.F.Fleet.state c.self.inside.master;
       book = c.self.inside.book.items;
       total = c.self.inside.total.total;
+      start = g.B.Labels.start;
       row = row;
       is_refused = c.self.inside.is_refused;
     }) g.B.Naming.made) (sym c.reserve.ensures) c.self.invariant
@@ -19,6 +20,7 @@ returns-clause-same g c =
       master = c.self.inside.master;
       book = c.self.inside.book.items;
       total = c.self.inside.total.total;
+      start = g.B.Labels.start;
       row = c.reserve.ensures i;
       is_refused = c.self.inside.is_refused;
     })
@@ -30,6 +32,7 @@ returns-clause-valid g c =
       world = world g.F.Fleet.state c.self.inside.master;
       book = c.self.inside.book.items;
       total = c.self.inside.total.total;
+      start = g.B.Labels.start;
       row = row;
       is_refused = c.self.inside.is_refused;
     }) g.B.Naming.made) (sym c.reserve.ensures) c.self.invariant

@@ -1,41 +1,10 @@
-use Rattle.std.proofs.Common.{rules, refl, ap, sym, ◌∙◌, inl, inr}
-use Rattle.store_step.specs.master.master_state.Causes.{command_refusal}
-use Rattle.store_seat.specs.Accounts.{Knows}
-use Rattle.locked_log.specs.Held.{StateValue}
+use Rattle.std.proofs.Common.{refl, inr}
 use Rattle.locked_log.proofs.state.State.want.Goals as goal
 
-pub returns-then-self : goal.returns-then-self
-returns-then-self g c = inl (
-  ap (λ (y : StateValue _). y.is_refused) (sym c.self.view_is)
-      ∙ c.if-self.true,
-  refl,
-  refl,
-)
-
-pub returns-then-not-knows : goal.returns-then-not-knows
-returns-then-not-knows g c = (
-  ap (λ (y : StateValue _). y.is_refused) (sym c.self.view_is)
-      ∙ c.if-self.false,
-  λ k. let yes = c.knows.ensures.1 k in
-      let no = c.if-not-knows.true in cc,
-  refl,
-  refl,
-)
+pub returns-in-Ok : goal.returns-in-Ok
+returns-in-Ok g c =
+    let passes = c.in-Ok.ensures.passes in
+    ((refl, inr (passes.2, refl)), passes.0, passes.1, refl, refl)
 
 pub returns-in-Err : goal.returns-in-Err
-returns-in-Err g c =
-    let known : Knows c.args.self.now.book c.args.seat.now = c.knows.ensures.0 (search rules) in
-    let cause =
-    ap (λ (y : StateValue _). command_refusal y.master.knows c.args.command.now) (sym c.self.view_is)
-    ∙ sym c.in-Err.ensures in
-    let off = ap (λ (y : StateValue _). y.is_refused) (sym c.self.view_is) ∙ c.if-self.false in
-    ((refl, inl cause), off, known, refl, refl)
-
-pub returns : goal.returns
-returns g c =
-    let known : Knows c.args.self.now.book c.args.seat.now = c.knows.ensures.0 (search rules) in
-    let cause =
-    ap (λ (y : StateValue _). command_refusal y.master.knows c.args.command.now) (sym c.self.view_is)
-    ∙ sym c.in-Ok.ensures in
-    let off = ap (λ (y : StateValue _). y.is_refused) (sym c.self.view_is) ∙ c.if-self.false in
-    ((refl, inr (cause, refl)), off, known, refl, refl)
+returns-in-Err g c = c.in-Err.ensures.refused
