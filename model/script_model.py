@@ -17,6 +17,8 @@ from collections import deque
 from dataclasses import dataclass, field, fields, replace
 
 NO_LIMIT = 2**64 - 1
+# A master forgets by blocks of so many records.
+BLOCK = 1024
 # What a line prints, and what is written to standard error, if memory was refused.
 REFUSED = "refused NoMemory\n"
 NO_MEMORY = "ramlog: no memory\n"
@@ -56,13 +58,18 @@ class Options:
     live: int = NO_LIMIT
     # The most steps of the cleaner behind each command that may change the map.
     tend: int = 0
+    # Whether a master forgets its durable records behind each line.
+    forget: bool = False
 
 
 def options_of(words):
-    """The options of words such as --segment=4096. For a --live of 0 they have the greatest limit."""
-    names = {option.name for option in fields(Options)}
+    """The options of words such as --segment=4096 and --forget. For a --live of 0 they have the greatest limit."""
+    names = {option.name for option in fields(Options)} - {"forget"}
     numbers = {}
     for word in words:
+        if word == "--forget":
+            numbers["forget"] = True
+            continue
         match = re.fullmatch(r"--([a-z]+)=([0-9]+)", word)
         if not match or match[1] not in names:
             raise ValueError(f"no option of the form --NAME=N: {word}")
@@ -754,6 +761,8 @@ class Master:
     safe: int
     is_rolling: bool = True
     records: int = 0
+    # How many of the first records are forgotten.
+    forgotten: int = 0
     # The first id that no segment had yet.
     next: int = 2
     cleaning: Pass = None
@@ -764,6 +773,8 @@ class Master:
     failover: Failover = None
     # A take ended in a fault, and no further step is done.
     is_halted: bool = False
+    # What the backups had before the take that halted the master: it counts no op that ended in a fault, taken or not.
+    counted: object = None
     # Its digests list lengths.
     has_lengths: bool = False
     # What is live, by table and key. It follows from the segments.
@@ -817,7 +828,7 @@ class Master:
             return "TooBig"
         if not 1 <= command.table <= options.tables:
             return "NoTablet"
-        if self.records >= options.history:
+        if self.kept() >= options.history:
             return "HistoryFull"
         unit = self.answer(command)[1]
         if not unit:
@@ -825,6 +836,10 @@ class Master:
         if command.kind == "put" and self.is_overcommitted(command, options):
             return "Overcommit"
         return self.unit_refusal(unit, 3 if command.kind == "put" else 2, options)
+
+    def kept(self):
+        """How many records aren't forgotten."""
+        return self.records - self.forgotten
 
     def live_bytes(self):
         """The bytes of the live objects."""
@@ -1236,7 +1251,20 @@ class Store:
         return store
 
     def outcomes(self, line):
-        """Each answer that the line may print, how many requests for memory it shows as refused, and the store then."""
+        """Each answer that the line may print, how many requests for memory it shows as refused, and the store behind it."""
+        for answer, refused, store in self.ends(line):
+            yield answer, refused, store.behind()
+
+    def behind(self):
+        """The store once its master has forgotten behind a line, if it forgets at all: of what is durable whole blocks, as long as a
+        record is left behind them."""
+        if not self.options.forget or not self.master or self.master.kept() <= BLOCK:
+            return self
+        forgotten = min(self.durable(), self.master.records - 1) // BLOCK * BLOCK
+        return replace(self, master=replace(self.master, forgotten=max(self.master.forgotten, forgotten)))
+
+    def ends(self, line):
+        """The same before the master forgets."""
         name, *parts = line
         if name in DOWN_LINES and self.master:
             yield "refused Up\n", 0, self
@@ -1566,7 +1594,7 @@ class Store:
 
     def halted(self, taken):
         """What a line prints if its take ends in a fault, and the store then. If the op is taken, the fleet is `taken`."""
-        master = replace(self.master, is_halted=True)
+        master = replace(self.master, is_halted=True, counted=self.fleet)
         return "refused Halted\n", 0, replace(self, master=master, fleet=self.fleet.faulted(taken))
 
     def lost(self, backup, taken, goes_on):
@@ -1727,9 +1755,10 @@ class Store:
     def line_segments(self):
         yield REFUSED, 1, self
         master = self.master
+        counted = replace(self, fleet=master.counted) if master.counted else self
         images = sorted((*master.segments, *master.survivors()), key=lambda it: it.id)
-        lines = [f"{it.id} {master.role(it.id)} {len(it.text)} {master.kept_in(it)} {len(self.holders(it.id))}\n" for it in images]
-        lines += [f"{id_} waiting 0 0 {len(self.holders(id_))}\n" for id_ in master.waiting]
+        lines = [f"{it.id} {master.role(it.id)} {len(it.text)} {master.kept_in(it)} {len(counted.holders(it.id))}\n" for it in images]
+        lines += [f"{id_} waiting 0 0 {len(counted.holders(id_))}\n" for id_ in master.waiting]
         yield "".join(lines), 0, self
 
     def line_live(self):

@@ -172,14 +172,14 @@ class State:
         if refusal == "stopped":
             return "stopped\n", self.store.stopped()[2]
         count = len(self.clients)
-        return f"{refusal or f'clients {count} {calls // 2} {count * calls}'}\n", self.store
+        return f"{refusal or f'clients {count} {calls // 2} {count * calls}'}\n", self.store.behind()
 
 
 def orders_of(stores, clients, rounds, passes):
     """Each answer that the line may print over one of these stores, and the store then. Raises Undetermined if there are too many
     orders."""
     # Clients whose first call is refused make one step.
-    is_refused = clients <= ROUNDS and all(it.master.records >= it.options.history for it in stores)
+    is_refused = clients <= ROUNDS and all(it.master.kept() >= it.options.history for it in stores)
     if clients * rounds > ROUNDS and not is_refused:
         raise Undetermined
     left = [State(it, Cleaner(), (Client(),) * clients) for it in stores]

@@ -16,7 +16,7 @@ any other command of that key, or of one that is absent.
 import re
 from dataclasses import dataclass, field
 
-from script_model import (ANY_LINES, DOWN_LINES, NO_LIMIT, STEPS, Command, Fleet, Object, Run, Store, Undetermined, answers_of,
+from script_model import (ANY_LINES, BLOCK, DOWN_LINES, NO_LIMIT, STEPS, Command, Fleet, Object, Run, Store, Undetermined, answers_of,
                           client_key, config_fault, is_too_big, later_options, make_will, name_of, object_len, options_of,
                           parsed_lines, place, seglets_needed, whole_seglets)
 from script_orders import orders_of
@@ -337,7 +337,7 @@ class Follower:
         # Whether the fleet takes whatever comes.
         self.is_unlimited = True
         self.greatest = 1
-        # How many records the history has, if that is known.
+        # How many records the master keeps, if that is known.
         self.records = None
         # The format of the master that is up.
         self.master_format = options.format
@@ -386,7 +386,7 @@ class Follower:
         self.stores, self.is_up, self.may_clean = [], bool(masters), any(it.cleaning for it in masters)
         self.is_unlimited = all(it.fleet.left == NO_LIMIT for it in stores)
         self.greatest, self.options, self.later = max(it.greatest for it in stores), stores[0].options, stores[0].later
-        records = {it.records for it in masters}
+        records = {it.kept() for it in masters}
         self.records = records.pop() if len(records) == 1 else None
         self.master_format = 2 if any(it.has_lengths for it in masters) else 1
         self.failed = max((len(it.failed) for it in masters), default=0)
@@ -471,18 +471,23 @@ class Follower:
             return kind != "get"
         if row == "refused HistoryFull":
             return self.records is None
-        if self.records is not None:
-            self.records += 1
+        self.record(1)
         # The witness judges the reply.
         return not row.startswith("refused ")
+
+    def record(self, count):
+        """The master keeps so many records more, and forgets whole blocks behind their line if it does so at all."""
+        if self.records is not None:
+            self.records += count
+            if self.options.forget and self.records > BLOCK:
+                self.records = (self.records - 1) % BLOCK + 1
 
     def may_clients(self, line, answer):
         # The cleaner ends each pass, unless a step of it is refused.
         self.may_clean = not self.is_unlimited or self.is_due or self.master_format == 2
         calls, left = 2 * line[1] * line[2], None if self.records is None else self.options.history - self.records
         if answer[0].startswith("clients "):
-            if self.records is not None:
-                self.records += calls
+            self.record(calls)
             return left is None or calls <= left
         self.records = None
         # The witness judges the limits of bytes.

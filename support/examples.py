@@ -36,9 +36,15 @@ def from_files(path):
                    int(read(f"{base}.status", b"0")))
 
 
+def repeated(part):
+    """The lines of a part of a row: N of them if it is `N * LINE`."""
+    count, star, line = part.partition(" * ")
+    return int(count) * [line] if star and count.isdigit() else [part]
+
+
 def lines_of(row):
-    """The lines that a row joins by ` / `. An X stands for 76 letters x."""
-    return "".join(f"{line}\n" for line in row.replace("X", LONG).split(" / ")).encode()
+    """The lines that a row joins by ` / `. An X stands for 76 letters x, and `N * LINE` for N such lines."""
+    return "".join(f"{line}\n" for part in row.replace("X", LONG).split(" / ") for line in repeated(part)).encode()
 
 
 def from_row(name, lines):

@@ -319,16 +319,26 @@ PASSES = [
 ]
 
 
+# A master that forgets has so many records of each of these at their end: one block, since the next record hasn't come.
+BLOCK_OF_RECORDS = 1024
+FORGOTTEN = [
+    Change("# the first head is made at the start\n", S),
+    Change(f"put 1 a {VALUE * 'v'}\n", 0, 0, VALUE),
+    Change("get 1 a\n" * (5 * BLOCK_OF_RECORDS - 1), 0, 0, (BLOCK_OF_RECORDS - 1) * VALUE),
+    Change("get 1 a\n" * (20 * BLOCK_OF_RECORDS), 0),
+]
+
+
 def bytes_of(process):
     """The bytes of data that the program has of the system."""
     with open(f"/proc/{process.pid}/status", encoding="ascii") as file:
         return next(1024 * int(line.split()[1]) for line in file if line.startswith("VmData:"))
 
 
-def memory_after(program, changes):
+def memory_after(program, changes, *options):
     """The bytes of data that the program has once it has made these changes as it should."""
     environment = {**os.environ, **LARGE}
-    with subprocess.Popen([program, *WORDS], stdin=subprocess.PIPE, stdout=subprocess.DEVNULL, env=environment) as process:
+    with subprocess.Popen([program, *WORDS, *options], stdin=subprocess.PIPE, stdout=subprocess.DEVNULL, env=environment) as process:
         try:
             before = 0
             for change in changes:
@@ -353,6 +363,11 @@ def memory_is_taken_and_given_back(program):
 
 def survivors_take_a_segment_each(program):
     memory_after(program, PASSES)
+
+
+def forgotten_records_leave_their_memory(program):
+    """With --forget a script runs in constant memory."""
+    memory_after(program, FORGOTTEN, "--forget")
 
 
 # Recoveries. The log has several segments and the will several partitions, so that each of several threads has groups of its own.
@@ -472,7 +487,7 @@ def the_largest_configuration_is_served(program):
 TESTS = [
     help_is_printed, version_is_printed, words_are_text, lines_have_limits, a_reader_fails, a_writer_fails,
     input_comes_in_parts, pipes_show_each_answer, output_goes_in_blocks, a_terminal_shows_each_answer, a_terminal_shows_why, a_pipe_is_told_why_if_asked, an_end_is_not_asked_for_again,
-    memory_is_taken_and_given_back, survivors_take_a_segment_each, large_tables_are_recovered, workers_recover_in_threads,
+    memory_is_taken_and_given_back, survivors_take_a_segment_each, forgotten_records_leave_their_memory, large_tables_are_recovered, workers_recover_in_threads,
     a_call_ends_a_long_failover,
     a_whole_segment_is_compacted_and_cleaned, many_segments_and_objects_are_served, the_largest_configuration_is_served,
 ]

@@ -29,9 +29,9 @@ REACHES = (("request {} refused", 1), ("the requests from {} on refused", ALL))
 # What the program prints that asks again for what was refused.
 ANSWERS = f"{TOP}/crates/asked_again/stdout"
 # Examples of these files, and tests of these modules, are not run here: several threads ask for memory at one time, so the same
-# request comes at another place in each run. Those of many-steps.rows and of long-tends.rows have so many lines which may end in
-# several ways that the model can't follow them all.
-LEFT_OUT = {"clients.rows", "workers.rows", "many-steps.rows", "long-tends.rows", "clients", "workers"}
+# request comes at another place in each run. Those of many-steps.rows, of long-tends.rows and of long-forgets.rows have so many
+# lines which may end in several ways that the model can't follow them all.
+LEFT_OUT = {"clients.rows", "workers.rows", "many-steps.rows", "long-tends.rows", "long-forgets.rows", "clients", "workers"}
 # Command lines that end before a script is read.
 COMMAND_LINES = [
     ["--help"],

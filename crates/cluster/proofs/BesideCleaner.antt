@@ -257,9 +257,13 @@ pub reply_stays : (old : Node) (up m : MasterValue MemoryFleet) → old ≡ Up u
     → (place : ℕ) (reply : Reply) → IsReplyAt old place reply → IsReplyAt (Up m) place reply
 reply_stays old up m is on place reply at =
     let was : IsReplyAt (Up up) place reply = subst (λ (n : Node). IsReplyAt n place reply) is at in
-    ap (λ (rs : List Record). option_map (λ (r : Record). r.reply) (slice_get rs place))
-    (on.history ∙ append-nil up.knows.history)
-    ∙ was
+    let kept = was.0 in
+    let same = on.forgotten in (
+      omega (arith, kept, same),
+      ap (λ (rs : List Record). option_map (λ (r : Record). r.reply) (slice_get rs place))
+          (on.history ∙ append-nil up.knows.history)
+          ∙ was.1,
+    )
 
 -- ---- a line beside the cleaner
 

@@ -35,6 +35,7 @@ added_before d mid e command reply added on =
       origin = on.origin ∙ added.origin;
       durable = omega arith;
       history = on.history ∙ append-nil mid.history ∙ added.history;
+      forgotten = on.forgotten ∙ added.forgotten;
     }
 
 -- a master that has lived all that a later one has

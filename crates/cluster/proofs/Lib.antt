@@ -9,6 +9,7 @@ pub mod ByHand
 pub mod Downs
 pub mod LeastHeads
 pub mod BesideCleaner
+pub mod Forgotten
 pub use Rattle.answers.proofs.of_driving.of_master
 pub use Rattle.answers.proofs.of_driving
 pub use Rattle.answers.proofs.of_recovery

@@ -1,6 +1,6 @@
 -- The steps of a command's line, one after another.
 use Rattle.std.proofs.Common.{◌≡◌, ℕ, List, [], ◌∷◌, ◌++◌, length, Bool, true, false, refl, sym, ap, subst, inl, inr}
-use Rattle.std.proofs.Common.{◌∙◌}
+use Rattle.std.proofs.Common.{◌∙◌, ◌≤◌, arith}
 use Rattle.std.specs.Prelude.{Option, Some, None, Result, Ok, Err, unwrap_or, slice_get, if◌then◌else◌}
 use Rattle.std.specs.Option.{option_map}
 use Rattle.backup.specs.State.{fleet_state}
@@ -66,13 +66,17 @@ last_there [] r = refl
 last_there (x ∷ rs) r = last_there rs r
 
 pub replied_at : (m : MasterValue MemoryFleet) (old : MasterData) (command : Command) (place : ℕ) (reply : Reply)
-    → IsServed old m.knows command reply → place ≡ length old.history → IsReplyAt (Up m) place reply
-replied_at m old command place reply served at =
+    → old.forgotten ≤ length old.history → IsServed old m.knows command reply → place ≡ length old.history
+    → IsReplyAt (Up m) place reply
+replied_at m old command place reply within served at =
     let last : Record = record { seat = 0; command = command; reply = reply } in
-    ap (option_map (λ (r : Record). r.reply))
-    (ap (λ (rs : List Record). slice_get rs place) served.0.history
-    ∙ ap (slice_get (old.history ++ last ∷ [])) at
-    ∙ last_there old.history last)
+    let same = served.0.forgotten in (
+      omega (arith, same, within, at),
+      ap (option_map (λ (r : Record). r.reply))
+          (ap (λ (rs : List Record). slice_get rs place) served.0.history
+          ∙ ap (slice_get (old.history ++ last ∷ [])) at
+          ∙ last_there old.history last),
+    )
 
 -- only a node that is up has a reply
 pub no_reply : (node : Node) (place : ℕ) (reply : Reply) → ((m : MasterValue MemoryFleet) → node ≡ Up m → ⊥)
@@ -81,9 +85,9 @@ no_reply (Up m) place reply other at = other m refl
 no_reply (Down f) place reply other at = at
 no_reply Changing place reply other at = at
 
--- the record at the place has the reply
+-- the record at the place has the reply, and isn't forgotten
 pub reply_found : (node : Node) (m : MasterValue MemoryFleet) (place : ℕ) (reply : Reply) → node ≡ Up m
-    → IsReplyAt node place reply → option_map (λ (r : Record). r.reply) (slice_get m.knows.history place) ≡ Some reply
+    → IsReplyAt node place reply → IsReplyAt (Up m) place reply
 reply_found node m place reply up at = subst (λ (n : Node). IsReplyAt n place reply) up at
 
 pub replied_try : (node : Node) (up m : MasterValue MemoryFleet) → node ≡ Up up → (command : Command) (reply : Reply)

@@ -6,6 +6,7 @@ pub mod Told
 pub mod Served
 pub mod Waits
 pub mod Tended
+pub mod Forgetting
 pub use Rattle.answers.specs.driving.master
 pub use Rattle.answers.specs.driving
 pub use Rattle.answers.specs.replay

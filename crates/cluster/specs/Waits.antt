@@ -1,5 +1,5 @@
 -- Commands that wait for a roll, and the roll that they wait for.
-use Rattle.std.specs.Prelude.{◌≡◌, ℕ, true, Option, Some, None, Result, Ok, Err, slice_get}
+use Rattle.std.specs.Prelude.{◌≡◌, ◌≤◌, ℕ, true, Option, Some, None, Result, Ok, Err, slice_get}
 use Rattle.std.specs.Option.{option_map}
 use Rattle.backup.specs.State.{fleet_state}
 use Rattle.lines.specs.Grammar.{LineValue, Roll}
@@ -67,9 +67,10 @@ MakesTry (Up m) command new None = Declines (world fleet_state m) (Apply 0 comma
     × (world_of new ≡ Some (world fleet_state m))
 MakesTry old command new answer = (new ≡ old) × (answer ≡ Some answers.Down)
 
--- the node's record at this place has this reply
+-- the node's record at this place has this reply, and isn't forgotten
 abbrev pub IsReplyAt : Node → ℕ → Reply → Type 0
-IsReplyAt (Up m) place reply = option_map (λ (r : Record). r.reply) (slice_get m.knows.history place) ≡ Some reply
+IsReplyAt (Up m) place reply = (m.knows.forgotten ≤ place)
+    × (option_map (λ (r : Record). r.reply) (slice_get m.knows.history place) ≡ Some reply)
 IsReplyAt node place reply = ⊥
 
 -- What a try comes to: an answer, or a wait for a roll. If it is the place of a record, the answer is the record's

@@ -7,6 +7,7 @@
 //! lifted. Recoveries of a node are in the crate above, `next_master`, and lines of clients in `cluster_lines`.
 #![tactic(auto)]
 
+mod forgetting;
 mod node;
 mod tended;
 mod tried;

@@ -80,6 +80,7 @@ impl Node {
         let Node::Up(up) = self else {
             return Tried::Down;
         };
+        up.show_valid();
         let outcome = serve(up, command);
         up.show_valid();
         match outcome {

@@ -1,5 +1,5 @@
 -- The program's command: how it grows, that clap's exact rules apply to it, and what its options are.
-use Rattle.std.proofs.Common.{◌||◌, ◌≡◌, ◌∙◌, ap, ap₂, true, false, [], ◌∷◌, inl, inr, length, ℕ, List, Option, Some}
+use Rattle.std.proofs.Common.{◌||◌, ◌≡◌, ◌∙◌, ap, ap₂, Bool, true, false, [], ◌∷◌, inl, inr, length, ℕ, List, Option, Some}
 use Rattle.std.proofs.Common.{None, refl, sym, subst, arith, drop, ◌+◌, ◌<◌, ◌≤◌, slice_index_or, codes}
 use Rattle.std.proofs.lemmas.List.{at_drop_more, drop_all}
 use Rattle.std.proofs.lemmas.List.Elements.{All-nil}
@@ -15,6 +15,9 @@ use Rattle.clap.specs.declared.builder.command.Command.TheViews.{out-Command}
 use Rattle.clap.specs.Words.{AddsArg, App, FailsBy, HasKind, HasMatchesOf, IsParsedFrom, IsPlain, IsPlainArg}
 use Rattle.clap.specs.Words.{Kinds, Row, Text, app_of, args_of, fault_of, found_of, groups_of, is_simple}
 use Rattle.clap.specs.Words.{is_simple_and_free, matches_of, new_app, one_of, one_text, rule_of, with_rule}
+use Rattle.clap.specs.Values.{bool_text}
+use Rattle.clap.specs.declared.builder.value_parser.Reading.TheVariants.{AsWritten}
+use Rattle.clap.specs.declared.parser.matches.ValueSource.TheVariants.{DefaultValue}
 use Rattle.clap.specs.declared.builder.arg.Arg.{Arg}
 use Rattle.clap.specs.declared.builder.command.Command.{Command}
 use Rattle.clap.specs.declared.parser.matches.ArgMatches.{ArgMatches}
@@ -22,13 +25,14 @@ use Rattle.clap.proofs.CallerLemmas.{added_plain}
 use Rattle.clap.proofs.OnLiterals.{clap_on_literals}
 use Rattle.clap.proofs.WalkLemmas.{one_text-rows}
 use Rattle.command_line.specs.CommandLine.{HasNumber, HasOptions, IsCommand, IsDefault, IsNumberIn}
-use Rattle.command_line.specs.CommandLine.{NumberOption, ReadsNumber, default_options, number_rule}
+use Rattle.command_line.specs.CommandLine.{IsFlag, NumberOption, ReadsFlag, ReadsNumber, default_options, flag_rule, forget}
+use Rattle.command_line.specs.CommandLine.{number_rule, numbered}
 use Rattle.command_line.specs.CommandLine.{ramlog, with_version, ramlog_faults, ramlog_matches}
 use Rattle.command_line.specs.CommandLine.{backups, replicas, step, segment, seglet, seglets}
 use Rattle.command_line.specs.CommandLine.{tables, history, bytes, objects, format, largest, live, tend}
 use Rattle.command_line.specs.declared.number_option.NumberOption as code
 use Rattle.command_line.specs.declared.settings.Options.{Options}
-use Rattle.command_line.proofs.Numbers.{IsOptionOf, text_number}
+use Rattle.command_line.proofs.Numbers.{IsNamed, IsOptionOf, takes_flag, text_flag, text_number}
 
 -- the texts of a command's help, and its version
 pub record Texts : Type 0 where
@@ -64,9 +68,9 @@ described old new app t is same = record {
 abbrev with_listed : App → code.NumberOption → App
 with_listed app o = with_rule app (number_rule o.name.now o.least o.most)
 
--- a command that is the program's once these options are added
+-- a command that is the program's, but for its flag, once these options are added
 pub record Growing (c : Command) (left : List code.NumberOption) : Type 0 where
-  pub shape : fold with_listed (app_of c) left ≡ ramlog
+  pub shape : fold with_listed (app_of c) left ≡ numbered
   pub plain : IsPlain c
   pub local : (out-Command c).has_globals ≡ false
 
@@ -87,21 +91,31 @@ growing old new a options i o is under added rule plain local =
     }
 
 pub grown : (c : Command) (options : List code.NumberOption) (i : ℕ) → Growing c (drop i options) → length options ≤ i
-    → IsCommand ramlog c
+    → IsCommand numbered c
 grown c options i is over =
     let none : drop i options ≡ [] = drop_all i options over in
     record {
-      shape = subst (λ left. fold with_listed (app_of c) left ≡ ramlog) none is.shape;
+      shape = subst (λ left. fold with_listed (app_of c) left ≡ numbered) none is.shape;
       plain = is.plain;
       local = is.local;
     }
+
+-- and with its flag it is the program's
+pub flagged : (old new : Command) (a : Arg) → IsCommand numbered old → AddsArg old a new
+    → rule_of a ≡ flag_rule forget → IsPlainArg a → a.global ≡ false → IsCommand ramlog new
+unfolding ramlog
+flagged old new a is added rule plain local = record {
+  shape = added.shape local ∙ ap₂ with_rule is.shape rule;
+  plain = added_plain old new a added is.plain plain;
+  local = added.globals ∙ ap₂ (λ b d. b || d) is.local local;
+}
 
 -- the command before its options
 pub opening : (new old : Command) (t : Texts) (options : List code.NumberOption)
     → app_of old ≡ new_app (codes "ramlog") → (args_of old ≡ []) × (groups_of old ≡ [])
     → (out-Command old).has_globals ≡ false
     → out-Command new ≡ with_texts (out-Command old) t
-    → fold with_listed (with_version (new_app (codes "ramlog"))) options ≡ ramlog → Growing new options
+    → fold with_listed (with_version (new_app (codes "ramlog"))) options ≡ numbered → Growing new options
 opening new old t options app empty local same whole = record {
   shape = ap (λ app. fold with_listed app options) is.shape ∙ whole;
   plain = is.plain;
@@ -116,11 +130,11 @@ opening new old t options app empty local same whole = record {
     } same
 
 is_simple_ramlog : is_simple ramlog ≡ true
-unfolding clap_on_literals ramlog
+unfolding clap_on_literals ramlog numbered
 is_simple_ramlog = refl
 
 is_free_ramlog : is_simple_and_free ramlog ≡ true
-unfolding clap_on_literals ramlog
+unfolding clap_on_literals ramlog numbered
 is_free_ramlog = refl
 
 -- clap's exact kinds of error apply to the command
@@ -161,74 +175,112 @@ has_number c m words is p has o known n number =
         subst (λ (w : Text). IsNumberIn o (Some w) n) text
         (range.0, number, omega (arith, number, range.2), omega (arith, number, range.3))
 
+-- and so is the flag
+pub has_flag : (c : Command) (m : ArgMatches) (words : List Text) → IsCommand ramlog c → IsParsedFrom c m
+    → HasMatchesOf (app_of c) words m → (name : Text) → IsNamed name takes_flag ramlog.top.rules
+    → (set : Bool) → ReadsFlag (one_text (found_of m) name) set → IsFlag (one_of name (ramlog_matches words)) set
+has_flag c m words is p has name known set flag =
+    go (one_text (found_of m) name) (one_of name (ramlog_matches words)) refl (text_is c m words is has name) flag
+  where
+    go : (read text : Option Text) → one_text (found_of m) name ≡ read → read ≡ text → ReadsFlag read set
+        → IsFlag text set
+    go None None e same h = h
+    go None (Some u) e same h = cc
+    go (Some t) None e same h = cc
+    go (Some t) (Some u) e same h =
+        let text = text_flag ramlog c m p is name known t e in
+        let equal : t ≡ u = ap (λ (w : Option Text). unwrap_or w t) same in
+        sym equal ∙ (text.1 ∙ ap bool_text (sym (h text.0 text.1)))
+
+pub has_forget : IsNamed forget takes_flag ramlog.top.rules
+unfolding ramlog numbered
+has_forget = record { obeyed = refl; named = refl; not_help = refl; not_version = refl }
+
 pub has_backups : IsOptionOf backups ramlog.top.rules
-unfolding ramlog
+unfolding ramlog numbered
 has_backups = record { obeyed = refl; named = refl; not_help = refl; not_version = refl }
 
 pub has_replicas : IsOptionOf replicas ramlog.top.rules
-unfolding ramlog
+unfolding ramlog numbered
 has_replicas = record { obeyed = refl; named = refl; not_help = refl; not_version = refl }
 
 pub has_step : IsOptionOf step ramlog.top.rules
-unfolding ramlog
+unfolding ramlog numbered
 has_step = record { obeyed = refl; named = refl; not_help = refl; not_version = refl }
 
 pub has_segment : IsOptionOf segment ramlog.top.rules
-unfolding ramlog
+unfolding ramlog numbered
 has_segment = record { obeyed = refl; named = refl; not_help = refl; not_version = refl }
 
 pub has_seglet : IsOptionOf seglet ramlog.top.rules
-unfolding ramlog
+unfolding ramlog numbered
 has_seglet = record { obeyed = refl; named = refl; not_help = refl; not_version = refl }
 
 pub has_seglets : IsOptionOf seglets ramlog.top.rules
-unfolding ramlog
+unfolding ramlog numbered
 has_seglets = record { obeyed = refl; named = refl; not_help = refl; not_version = refl }
 
 pub has_tables : IsOptionOf tables ramlog.top.rules
-unfolding ramlog
+unfolding ramlog numbered
 has_tables = record { obeyed = refl; named = refl; not_help = refl; not_version = refl }
 
 pub has_history : IsOptionOf history ramlog.top.rules
-unfolding ramlog
+unfolding ramlog numbered
 has_history = record { obeyed = refl; named = refl; not_help = refl; not_version = refl }
 
 pub has_bytes : IsOptionOf bytes ramlog.top.rules
-unfolding ramlog
+unfolding ramlog numbered
 has_bytes = record { obeyed = refl; named = refl; not_help = refl; not_version = refl }
 
 pub has_objects : IsOptionOf objects ramlog.top.rules
-unfolding ramlog
+unfolding ramlog numbered
 has_objects = record { obeyed = refl; named = refl; not_help = refl; not_version = refl }
 
 pub has_format : IsOptionOf format ramlog.top.rules
-unfolding ramlog
+unfolding ramlog numbered
 has_format = record { obeyed = refl; named = refl; not_help = refl; not_version = refl }
 
 pub has_largest : IsOptionOf largest ramlog.top.rules
-unfolding ramlog
+unfolding ramlog numbered
 has_largest = record { obeyed = refl; named = refl; not_help = refl; not_version = refl }
 
 pub has_live : IsOptionOf live ramlog.top.rules
-unfolding ramlog
+unfolding ramlog numbered
 has_live = record { obeyed = refl; named = refl; not_help = refl; not_version = refl }
 
 pub has_tend : IsOptionOf tend ramlog.top.rules
-unfolding ramlog
+unfolding ramlog numbered
 has_tend = record { obeyed = refl; named = refl; not_help = refl; not_version = refl }
 
--- clap finds nothing in the program's name alone, and no fault
-no_matches : (w : Text) → ramlog_matches (w ∷ []) ≡ []
-unfolding clap_on_literals ramlog ramlog_matches
+-- of the program's name alone clap finds nothing but that the flag isn't set
+abbrev bare_rows : List Row
+bare_rows = record {
+  id = forget;
+  values = codes "false" ∷ [];
+  count = None;
+  source = Some DefaultValue;
+  reading = AsWritten;
+} ∷ []
+
+no_matches : (w : Text) → ramlog_matches (w ∷ []) ≡ bare_rows
+unfolding clap_on_literals ramlog numbered ramlog_matches
 no_matches w = refl
 
+-- and no fault
 no_faults : (w : Text) → ramlog_faults (w ∷ []) ≡ []
-unfolding clap_on_literals ramlog ramlog_faults
+unfolding clap_on_literals ramlog numbered ramlog_faults
 no_faults w = refl
 
--- options without matches are the defaults
-are_defaults : (o : Options) → HasOptions [] o → o ≡ default_options
+flag_is_false : (set : Bool) → codes "false" ≡ bool_text set → set ≡ false
+flag_is_false true same =
+    let bad : ◌≡◌ {A = ℕ} 5 4 = ap length same in
+    absurd (omega (arith, bad))
+flag_is_false false same = refl
+
+-- so the options are the defaults
+are_defaults : (o : Options) → HasOptions bare_rows o → o ≡ default_options
 are_defaults o has =
+    let forget : o.forget ≡ false = flag_is_false o.forget has.forget in
     rw (
       has.backups,
       has.replicas,
@@ -244,9 +296,10 @@ are_defaults o has =
       has.largest,
       has.live,
       has.tend,
+      forget,
     ) refl
 
--- so the name alone gives the defaults
+-- the name alone gives the defaults
 pub bare_options : (words : List (Bor Text)) (o : Options) → length words ≡ 1
     → HasOptions (ramlog_matches (texts words)) o
     → o ≡ default_options

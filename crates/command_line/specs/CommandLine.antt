@@ -1,13 +1,14 @@
 -- The command line: which options there are, what number each one has, and which words are refused.
 use Rattle.std.specs.Prelude.{◌≡◌, ◌<◌, ◌≤◌, ◌-◌, ◌^◌, ℕ, List, [], ◌∷◌, Option, Some}
-use Rattle.std.specs.Prelude.{None, Result, MatchResult, codes, true, false}
+use Rattle.std.specs.Prelude.{Bool, None, Result, MatchResult, codes, true, false}
 use Rattle.std.specs.List.{fold}
 use Rattle.std.specs.Str.Parse.{IsNumeral, digits_value, without_leading_plus}
 use Rattle.clap.specs.declared.builder.command.Command.{Command}
 use Rattle.clap.specs.declared.builder.command.Command.TheViews.{out-Command}
 use Rattle.clap.specs.Words.{App, IsPlain, Kinds, Row, Rule, Text, app_of, fault_of, kind_of}
+use Rattle.clap.specs.Values.{bool_text}
 use Rattle.clap.specs.Words.{matches_of, new_app, new_rule, one_of, with_rule}
-use Rattle.clap.specs.declared.builder.ArgAction.TheVariants.{Set}
+use Rattle.clap.specs.declared.builder.ArgAction.TheVariants.{Set, SetTrue}
 use Rattle.clap.specs.declared.builder.value_parser.ValueParser.TheVariants as parser
 use Rattle.clap.specs.declared.error.Error.{Error}
 use Rattle.clap.specs.declared.error.kind.ErrorKind.TheVariants.{OutOfMemory}
@@ -20,7 +21,7 @@ pub record NumberOption : Type 0 where
   pub most : ℕ
   pub default : ℕ
 
--- the fourteen options
+-- the fourteen options that take a number
 abbrev pub backups : NumberOption
 backups = record { name = codes "backups"; least = 1; most = 64; default = 3 }
 
@@ -72,6 +73,18 @@ number_rule name least most = record (new_rule name) {
   parser = Some (parser.Unsigned least most);
 }
 
+-- the option that takes none
+abbrev pub forget : Text
+forget = codes "forget"
+
+-- such an option as clap takes it: a long name, and no value
+abbrev pub flag_rule : Text → Rule
+flag_rule name = record (new_rule name) {
+  long = Some name;
+  action = Some SetTrue;
+  parser = Some parser.Bool;
+}
+
 abbrev pub with_option : App → NumberOption → App
 with_option app option = with_rule app (number_rule option.name option.least option.most)
 
@@ -79,11 +92,15 @@ with_option app option = with_rule app (number_rule option.name option.least opt
 abbrev pub with_version : App → App
 with_version app = record app { top = record app.top { has_version = true } }
 
--- the program's command: the fourteen options, a version, and nothing else
-unfoldable pub ramlog : App
-ramlog = fold with_option (with_version (new_app (codes "ramlog")))
+-- a command with a version and the options that take a number
+unfoldable pub numbered : App
+numbered = fold with_option (with_version (new_app (codes "ramlog")))
     (backups ∷ replicas ∷ step ∷ segment ∷ seglet ∷ seglets ∷ tables ∷ history ∷ bytes ∷ objects ∷ format
     ∷ largest ∷ live ∷ tend ∷ [])
+
+-- the program's command: the fifteen options, a version, and nothing else
+unfoldable pub ramlog : App
+ramlog = with_rule numbered (flag_rule forget)
 
 -- clap's exact matches of the words
 unfoldable pub ramlog_matches : List Text → List Row
@@ -99,12 +116,17 @@ IsNumberIn option None n = n ≡ option.default
 IsNumberIn option (Some text) n = IsNumeral 10 (without_leading_plus text)
     × (n ≡ digits_value 10 (without_leading_plus text)) × (option.least ≤ n) × (n ≤ option.most)
 
+-- the flag is set if its text is 'true', and isn't if that is 'false' or there is none
+abbrev pub IsFlag : Option Text → Bool → Type 0
+IsFlag None set = set ≡ false
+IsFlag (Some text) set = text ≡ bool_text set
+
 -- n is the option's number in the matches
 abbrev pub HasNumber : NumberOption → List Row → ℕ → Type 0
 HasNumber option rows n = IsNumberIn option (one_of option.name rows) n
 
--- the relation holds of each option and its field
-pub record HasEach (Is : NumberOption → ℕ → Type 0) (o : Options) : Type 0 where
+-- the relations hold of each option and its field
+pub record HasEach (Is : NumberOption → ℕ → Type 0) (IsSet : Text → Bool → Type 0) (o : Options) : Type 0 where
   pub backups : Is backups o.backups
   pub replicas : Is replicas o.replicas
   pub step : Is step o.step
@@ -119,10 +141,11 @@ pub record HasEach (Is : NumberOption → ℕ → Type 0) (o : Options) : Type 0
   pub largest : Is largest o.largest
   pub live : Is live o.live
   pub tend : Is tend o.tend
+  pub forget : IsSet forget o.forget
 
--- each field is its option's number in the matches
+-- each field is its option's number in the matches, or says whether the option is set there
 abbrev pub HasOptions : List Row → Options → Type 0
-HasOptions rows o = HasEach (λ option n. HasNumber option rows n) o
+HasOptions rows o = HasEach (λ option n. HasNumber option rows n) (λ name set. IsFlag (one_of name rows) set) o
 
 -- the options of a command line that names none
 abbrev pub default_options : Options
@@ -141,6 +164,7 @@ default_options = record {
   largest = largest.default;
   live = live.default;
   tend = tend.default;
+  forget = false;
 }
 
 -- the defaults, unless memory runs out
@@ -154,9 +178,15 @@ ReadsNumber default (Some text) n = IsNumeral 10 (without_leading_plus text)
     → digits_value 10 (without_leading_plus text) < 2 ^ 64
     → n ≡ digits_value 10 (without_leading_plus text)
 
+-- the same of a text that is 'true' or 'false'
+abbrev pub ReadsFlag : Option Text → Bool → Type 0
+ReadsFlag None set = set ≡ false
+ReadsFlag (Some text) set = (b : Bool) → text ≡ bool_text b → set ≡ b
+
 -- each field is the number that its option's text writes, or its default without one
 abbrev pub ReadsOptions : (Text → Option Text) → Options → Type 0
-ReadsOptions text o = HasEach (λ option n. ReadsNumber option.default (text option.name) n) o
+ReadsOptions text o =
+    HasEach (λ option n. ReadsNumber option.default (text option.name) n) (λ name set. ReadsFlag (text name) set) o
 
 -- the command has this shape, and it is plain: nothing in it excludes anything or is for subcommands
 pub record IsCommand (app : App) (command : Command) : Type 0 where

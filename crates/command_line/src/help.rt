@@ -71,13 +71,15 @@ Limits:
   finds no room, the cleaner first makes room: it is refused as Full only once the cleaner gains nothing more. What the
   cleaner is refused isn't printed.
   A master accepts as many commands as --history says, gets too. The next master counts from 0 again.
+  With --forget, a master frees the memory of its durable records, 1024 at a time, once their lines have been answered.
+  Then --history counts only those that it still has. Above 1024 a script goes on for ever, in constant memory.
   Up to 64 callers, its seats, share a master: the script is one, and 'clients' has up to 63.
 
 Refusals. A line that is refused prints 'refused NAME', and the script goes on:
    1 TooBig         The put needs more than a quarter of a segment, or its object has more bytes than --largest
    2 Full           There is no room for one more segment, in memory or in the list of segments
    3 VersionsSpent  The put would take a version above 2^62
-   4 HistoryFull    The master has accepted as many commands as --history says
+   4 HistoryFull    The master has as many records as --history says: with --forget it goes on
    5 NoMemory       The system gave no memory
    6 Halted         A backup failed, and the master can't go on: 'crash' and 'recover' make another one
    7 Rolling        A segment is being opened, or a backup has failed and its replicas are made anew: 'push' goes on

@@ -1,7 +1,8 @@
-//! The command line of the program: fourteen options that each take a number. `options` reads them from the words; its
-//! contract gives their numbers, and when the words are refused. The crate uses `clap` alone.
+//! The command line of the program: fourteen options that each take a number, and one that takes none. `options` reads
+//! them from the words; its contract gives what they are set to, and when the words are refused. The crate uses `clap` alone.
 #![tactic(auto)]
 
+mod flag_option;
 mod help;
 mod number_option;
 mod reading;

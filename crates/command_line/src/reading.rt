@@ -5,6 +5,7 @@ ghost use Rattle.clap.specs.Walk.{texts};
 ghost use Rattle.command_line.specs.CommandLine.{HasOptions, IsCommand, IsDefault, ReadsOptions};
 ghost use Rattle.command_line.specs.CommandLine.{ramlog, ramlog_faults, ramlog_matches};
 
+use crate::flag_option::FORGET;
 use crate::help::{ABOUT, AFTER_HELP, USAGE, VERSION};
 use crate::number_option::{
     BACKUPS, BYTES, FORMAT, HISTORY, LARGEST, LIVE, OBJECTS, OPTIONS, REPLICAS, SEGLET, SEGLETS,
@@ -26,7 +27,7 @@ fn command<'a>(alloc: Global) -> Result<Command<'a>, AllocError>
     for option in OPTIONS {
         command = command.arg(option.argument(alloc))?;
     }
-    Ok(command)
+    command.arg(FORGET.argument(alloc))
 }
 
 /// Reads the words of the command line, of which the first is the program's name and isn't read.
@@ -65,5 +66,6 @@ fn read_matches(matches: &ArgMatches<'_>) -> Options
         largest: LARGEST.number(matches),
         live: LIVE.number(matches),
         tend: TEND.number(matches),
+        forget: FORGET.is_set(matches),
     }
 }

@@ -1,6 +1,6 @@
 //! What a run of the program is set to.
 
-/// The numbers of the options.
+/// What the options are set to.
 #[derive(Clone, Copy, PartialEq, Eq)]
 pub struct Options {
     /// How many backups the fleet has. From 1 to 64, 3 by default.
@@ -35,4 +35,6 @@ pub struct Options {
     /// The most steps that the cleaner makes behind each command that may change the map. With 0 it makes none. From 0
     /// to 65536, 0 by default.
     pub tend: u64,
+    /// Whether a master forgets its durable records, by blocks of 1,024. It doesn't by default.
+    pub forget: bool,
 }

@@ -29,7 +29,7 @@ use Rattle.command_line.specs.declared.settings.Options.{Options}
 use Rattle.lines.specs.Grammar.{LineValue, Recover}
 use Rattle.next_master.specs.Configuration.{config_of, MayBegin}
 use Rattle.next_master.specs.cluster.Lives.{Life, Position, at_start}
-use Rattle.script.specs.Sessions.{RunsLine, BeginsSession, IsCovered, AreLaterUnraised, Stands}
+use Rattle.script.specs.Sessions.{RunsLine, RunsTurn, BeginsSession, IsCovered, AreLaterUnraised, Stands}
 use Rattle.next_master.specs.Recoveries.{standing_of}
 use Rattle.next_master.specs.cluster.Served.{AnswersLine, IsNodeAt, life_of}
 use Rattle.next_master.specs.answers.Texts.{answer_text}
@@ -38,6 +38,8 @@ use Rattle.script.specs.Telling.{at_first, Moves, AreTelling, TellLives, Told}
 use Rattle.next_master.specs.cluster.Told.{Tells}
 use Rattle.script.specs.Turns.{RunsText, IsPrinted, PrintsText, TakesTurn, IsNoMore}
 use Rattle.script.proofs.Sessions.{begins_later, options_kept, options_renewed, options_stay, renewed_begins, told_of}
+use Rattle.script.proofs.Forgetting.{same_config, same_set, still_begins, still_covered, still_numbered, still_there}
+use Rattle.script.proofs.Forgetting.{still_unraised}
 use Rattle.script.proofs.LaterMasters.{begins_unraised, line_numbers, line_unraised}
 use Rattle.script.proofs.Succeeding.{nothing_more, telling_longer, telling_more, with_more}
 use Rattle.next_master.proofs.of_cluster.Standing.{legal_of, same_opening}
@@ -238,28 +240,61 @@ line_leads old new line a (inr r) d at s =
           )
     ])
 
-covers_on : (old new : Session) (line : LineValue) (a : Answer) → RunsLine old line new a → Stands old → IsCovered new
-covers_on old new line a (inl r) stands = r.covers stands
-covers_on old new line a (inr r) stands = r.covers stands
+-- and behind the line its master may forget
+turn_leads : (old new : Session) (line : LineValue) (a : Answer) → RunsTurn old line new a
+    → (d : MasterData) (at : Position)
+    → IsNodeAt old.node (config_of old.options old.master) d at → LeadsOn old line a new d at
+turn_leads old new line a (mid, runs, forgets) d at s =
+    let led = line_leads old mid line a runs d at s in
+    let there = still_there mid new forgets led.0 led.1 led.2 in
+    let config = sym (same_config mid new forgets) in
+    let life = there.2 in
+    let from = standing_of (config_of old.options old.master) d at in
+    let same : ◌≡◌ {A = Standing} (standing_of (config_of mid.options mid.master) led.0 led.1)
+    (standing_of (config_of new.options new.master) there.0 led.1) =
+    λ i. record { config = config i; life = life i; at = led.1 } in (
+      there.0,
+      led.1,
+      there.1,
+      (led.3.0, subst (λ (to : Standing). Moves (with_more from led.3.0) line a to) same led.3.1),
+    )
 
-options_on : (old new : Session) (line : LineValue) (a : Answer) (format seglets : ℕ) → RunsLine old line new a
+covers_on : (old new : Session) (line : LineValue) (a : Answer) → RunsTurn old line new a → Stands old → IsCovered new
+covers_on old new line a (mid, inl r, forgets) stands = still_covered mid new forgets (r.covers stands)
+covers_on old new line a (mid, inr r, forgets) stands = still_covered mid new forgets (r.covers stands)
+
+options_on : (old new : Session) (line : LineValue) (a : Answer) (format seglets : ℕ) → RunsTurn old line new a
     → record new.options { format = format; seglets = seglets }
     ≡ record old.options { format = format; seglets = seglets }
-options_on old new line a format seglets (inl r) =
-    ap (λ (o : Options). record o { format = format; seglets = seglets }) r.options
-options_on old new line a format seglets (inr r) = options_kept old new format seglets r.options
+options_on old new line a format seglets (mid, inl r, forgets) =
+    same_set mid new forgets format seglets
+    ∙ ap (λ (o : Options). record o { format = format; seglets = seglets }) r.options
+options_on old new line a format seglets (mid, inr r, forgets) =
+    same_set mid new forgets format seglets ∙ options_kept old mid format seglets r.options
 
 -- later masters may begin as before, or as the line asks
-begins_on : (old new : Session) (line : LineValue) (a : Answer) → RunsLine old line new a → Stands old
+begins_on : (old new : Session) (line : LineValue) (a : Answer) → RunsTurn old line new a → Stands old
     → MayBegin new.later new.options
-begins_on old new line a (inl r) stands = r.begins stands
-begins_on old new line a (inr r) stands = renewed_begins old new r.options r.later stands.3
+begins_on old new line a (mid, inl r, forgets) stands = still_begins mid new forgets (r.begins stands)
+begins_on old new line a (mid, inr r, forgets) stands =
+    still_begins mid new forgets (renewed_begins old mid r.options r.later stands.3)
+
+numbers_on : (old new : Session) (line : LineValue) (a : Answer) → RunsTurn old line new a → old.master ≤ old.used
+    → new.master ≤ new.used
+numbers_on old new line a (mid, runs, forgets) within =
+    still_numbered mid new forgets (line_numbers old mid line a runs within)
+
+unraised_on : (old new : Session) (line : LineValue) (a : Answer) → RunsTurn old line new a → (d : MasterData)
+    (at : Position) → IsNodeAt old.node (config_of old.options old.master) d at → old.master ≤ old.used
+    → AreLaterUnraised old → AreLaterUnraised new
+unraised_on old new line a (mid, runs, forgets) d at s within are =
+    still_unraised mid new forgets (line_unraised old mid line a runs d at s within are)
 
 -- one line more was run
 runs_more : (first : Session) (told : List Told) (old : Session) (t : Told) (new : Session) → AreRunOn first told old
-    → RunsLine old t.line new t.answer
+    → RunsTurn old t.line new t.answer
     → AreRunOn first (told ++ t ∷ []) new
-runs_more first [] old t new same runs = (new, subst (λ (s : Session). RunsLine s t.line new t.answer) same runs, refl)
+runs_more first [] old t new same runs = (new, subst (λ (s : Session). RunsTurn s t.line new t.answer) same runs, refl)
 runs_more first (u ∷ us) old t new (mid, ran, rest) runs = (mid, ran, runs_more mid us old t new rest runs)
 
 texts-more : (told : List Told) (t : Told) → texts_of (told ++ t ∷ []) ≡ texts_of told ++ (t.text ++ 10 ∷ [])
@@ -295,7 +330,7 @@ module _ (options : Options) (old : Session) (had mid left held wrote holds : Op
     next_told = record { text = text; line = runs.line; answer = a }
 
     abbrev after_line : LeadsOn old runs.line a new r.knows r.at
-    after_line = line_leads old new runs.line a runs.runs r.knows r.at r.stands
+    after_line = turn_leads old new runs.line a runs.runs r.knows r.at r.stands
 
     abbrev after_this : Standing
     after_this = standing_of (config_of new.options new.master) after_line.0 after_line.1
@@ -357,8 +392,8 @@ module _ (options : Options) (old : Session) (had mid left held wrote holds : Op
           run = run_on;
           covers = covers_on old new runs.line a runs.runs now_stands;
           stands = after_line.2;
-          used = line_numbers old new runs.line a runs.runs r.used;
-          later = line_unraised old new runs.line a runs.runs r.knows r.at r.stands r.used r.later;
+          used = numbers_on old new runs.line a runs.runs r.used;
+          later = unraised_on old new runs.line a runs.runs r.knows r.at r.stands r.used r.later;
           may_begin = begins_on old new runs.line a runs.runs now_stands;
           count = omega arith;
           lines = line_there;

@@ -13,7 +13,7 @@ use Rattle.next_master.specs.answers.declared.fault.ScriptFault.{ScriptFault}
 use Rattle.next_master.specs.answers.declared.fault.ScriptFault.TheVariants.{BadLine, ReadFailed, WriteFailed, NoMemory}
 use Rattle.script.specs.declared.session.Session.{Session}
 use Rattle.next_master.specs.Configuration.{config_of, MayBegin}
-use Rattle.script.specs.Sessions.{RunsLine, BeginsSession, SetsLater, later_after}
+use Rattle.script.specs.Sessions.{RunsTurn, BeginsSession, SetsLater, later_after}
 use Rattle.script.specs.Telling.{TellLives, Told}
 use Rattle.next_master.specs.answers.Texts.{answer_text}
 
@@ -66,7 +66,7 @@ IsBadLine s number taken left =
 -- the lines were run in turn, each on the session that the line before it left
 abbrev pub AreRunOn : Session → List Told → Session → Type 0
 AreRunOn old [] new = new ≡ old
-AreRunOn old (t ∷ ts) new = (mid : Session) × RunsLine old t.line mid t.answer × AreRunOn mid ts new
+AreRunOn old (t ∷ ts) new = (mid : Session) × RunsTurn old t.line mid t.answer × AreRunOn mid ts new
 
 -- One session began under these options, and the lines were run on it.
 pub record AreRun (options : Options) (told : List Told) : Type 0 where

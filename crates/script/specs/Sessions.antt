@@ -32,7 +32,8 @@ use Rattle.lines.specs.declared.line.ReplayOrder.{ReplayOrder}
 use Rattle.lines.specs.declared.line.ReplayOrder.TheVariants.{Forward}
 use Rattle.next_master.specs.Numbers.{AreSpent, IsNextNumber, Renumbers}
 use Rattle.next_master.specs.cluster.declared.tried.Tried.{Tried}
-use Rattle.next_master.specs.cluster.Tended.{steps_behind}
+use Rattle.next_master.specs.cluster.Forgetting.{ForgetsDurable}
+use Rattle.next_master.specs.cluster.Tended.{StaysOn, steps_behind}
 use Rattle.next_master.specs.cluster.Waits.{IsReplyAt, MakesTryAfterRoll, TriesLine, WaitsForRoll}
 use Rattle.next_master.specs.Recoveries.{Asked, Ends, MakesLimit, Recovers, ShowsNeeds, ask, order_named}
 
@@ -197,6 +198,20 @@ pub record SessionRecovers (old : Session) (line : LineValue) (new : Session) (a
 -- what a line makes of a session
 abbrev pub RunsLine : Session → LineValue → Session → Answer → Type 0
 RunsLine old line new answer = SessionAnswers old line new answer ⊎ SessionRecovers old line new answer
+
+-- ---- what is forgotten
+
+-- If the options say so, the session's master forgets its durable records, and nothing else of the session changes.
+-- Otherwise nothing changes. The session stands where it stood.
+pub record Forgets (old new : Session) : Type 0 where
+  pub rest : new ≡ record old { node = new.node }
+  pub forgets : old.options.forget ≡ true → ForgetsDurable old.node new.node
+  pub keeps : old.options.forget ≡ false → new ≡ old
+  pub stays : StaysOn old.node new.node
+
+-- A line was run, and behind its answer the session's master forgot.
+abbrev pub RunsTurn : Session → LineValue → Session → Answer → Type 0
+RunsTurn old line new answer = (mid : Session) × RunsLine old line mid answer × Forgets mid new
 
 -- an outcome is printed as this answer; if it is the place of a record, the answer is the record's reply
 abbrev pub IsPrintedAs : Session → Outcome → Answer → Type 0

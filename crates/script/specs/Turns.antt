@@ -12,7 +12,7 @@ use Rattle.script.specs.declared.session.LineFault.{LineFault}
 use Rattle.script.specs.declared.session.LineFault.TheVariants as line_fault
 use Rattle.script.specs.declared.session.Session.{Session}
 use Rattle.script.specs.Runs.{Allows, IsOfFleet, IsTakenLine, IsBadLine, IsReasonFor, IsReasonOf, RunResult}
-use Rattle.script.specs.Sessions.{RunsLine, SetsLater, later_after}
+use Rattle.script.specs.Sessions.{RunsTurn, SetsLater, later_after}
 use Rattle.next_master.specs.Configuration.{MayBegin}
 use Rattle.next_master.specs.answers.Texts.{answer_text}
 use Rattle.next_master.specs.answers.Errors.{AppendsFront}
@@ -36,12 +36,12 @@ RefusesLine s line line_fault.NoLaterMaster =
     SetsLater line × (MayBegin (later_after line s.later) s.options → ⊥)
 RefusesLine s line line_fault.NoMemory = Unit {0}
 
--- the line of a text was run on a session, which became another
+-- the line of a text was run on a session, which became another; behind the answer its master may have forgotten
 pub record RunsText (old : Session) (text : List ℕ) (new : Session) (answer : Answer) : Type 0 where
   pub line : LineValue
   pub says : Says text line
   pub of_fleet : IsOfFleet old.options.backups line
-  pub runs : RunsLine old line new answer
+  pub runs : RunsTurn old line new answer
 
 -- the line of a text was run, and its answer was written
 abbrev pub AnswersText : Session → List ℕ → Session → Known → Known → Type 0

@@ -10,7 +10,7 @@ ghost use Rattle.next_master.specs.Configuration.{config_of};
 ghost use Rattle.script.specs.Runs.{RunsScript};
 ghost use Rattle.next_master.specs.answers.declared.answer.Answer.{Answer as AnswerValue};
 ghost use Rattle.script.specs.declared.session.Session.{Session as SessionValue};
-ghost use Rattle.script.specs.Sessions.{BeginsSession, SessionAnswers, Stands, IsPrintedAs, IsTended, TriesCommand};
+ghost use Rattle.script.specs.Sessions.{BeginsSession, Forgets, SessionAnswers, Stands, IsPrintedAs, IsTended, TriesCommand};
 ghost use Rattle.script.specs.Turns.{HasValue, IsNoMore, IsPrinted, PrintsText, TakesTurn};
 
 use crate::outcome::Outcome;
@@ -119,7 +119,7 @@ fn run_next<H: Threads + Wait + Sync, R: BufRead, W: Write>(
     }
 }
 
-/// Runs the line of a text, and writes its answer.
+/// Runs the line of a text, and writes its answer. Behind that the master may forget.
 fn run_text<H: Threads + Wait + Sync, W: Write>(
     rt: &H,
     writer: &mut W,
@@ -137,8 +137,16 @@ fn run_text<H: Threads + Wait + Sync, W: Write>(
         Err(reason) => return Err(ScriptFault::BadLine(number, reason)),
     };
     match line {
-        Line::Command(command) => run_command(writer, session, command),
-        other => run_other(rt, writer, session, text, other, number),
+        Line::Command(command) => {
+            let printed = run_command(writer, session, command);
+            session.forget();
+            printed
+        }
+        other => {
+            let printed = run_other(rt, writer, session, text, other, number);
+            session.forget();
+            printed
+        }
     }
 }
 
@@ -216,7 +224,7 @@ fn run_other<H: Threads + Wait + Sync, W: Write>(
     requires line { IsLine (shown_line line) }
     requires other { command_of (shown_line line) ≡ None }
     requires stands { Stands session.old }
-    ensures { PrintsText session.old session.new _text.now number
+    ensures { (last : SessionValue) → Forgets session.new last → PrintsText session.old last _text.now number
         (W.contents writer.old) (W.contents writer.new) result }
 {
     let backups = session.backups();

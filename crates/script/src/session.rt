@@ -22,7 +22,7 @@ ghost use Rattle.script.specs.Sessions.{RunsLine, SessionRecovers, IsPrintedAs, 
 ghost use Rattle.script.specs.Sessions.{BeginsSession, SessionAnswers, Stands};
 ghost use Rattle.next_master.specs.cluster.Told.{command_of};
 ghost use Rattle.script.specs.Turns.{HasValue, RefusesLine};
-ghost use Rattle.script.specs.Sessions.{AnswersAfterRoll, IsPlain, IsTended};
+ghost use Rattle.script.specs.Sessions.{AnswersAfterRoll, Forgets, IsPlain, IsTended};
 ghost use Rattle.next_master.specs.cluster.Tended.{steps_behind};
 
 use crate::outcome::Outcome;
@@ -373,6 +373,17 @@ impl Session {
         match line {
             CommandLine::Get { .. } => 0,
             _ => self.options.tend,
+        }
+    }
+
+    /// Lets the node's master forget what is durable, if the options say so. It is called behind the answer of a line,
+    /// whose reply is read from the history.
+    #[inline(always)]
+    pub(crate) fn forget(&mut self)
+        ensures { Forgets self.old self.new }
+    {
+        if self.options.forget {
+            self.node.forget();
         }
     }
 

@@ -34,13 +34,14 @@ fn numbers(options: &Options) -> [u64; 14] {
 /// The number of an option that sets no limit.
 const NONE: u64 = u64::MAX;
 
-/// Command lines, and what they set.
-const ROWS: &[(&[&str], [u64; 14])] = &[
+/// Command lines, what numbers they set, and whether a master forgets.
+const ROWS: &[(&[&str], [u64; 14], bool)] = &[
     (
         &["ramlog"],
         [
             3, 2, 1, 512, 64, 64, 4, 1048576, 1048576, 1000000, 1, NONE, NONE, 0,
         ],
+        false,
     ),
     (
         &[
@@ -59,24 +60,26 @@ const ROWS: &[(&[&str], [u64; 14])] = &[
             "--largest=24",
             "--live",
             "0",
+            "--forget",
             "--tend=65536",
         ],
         [
             64, 2, 3, 8388608, 64, 32, 7, 1, 1048576, 4294967296, 2, 24, 0, 65536,
         ],
+        true,
     ),
 ];
 
-fn are_set(alloc: Global, words: &[&str], want: &[u64; 14]) -> bool {
+fn are_set(alloc: Global, words: &[&str], want: &[u64; 14], forgets: bool) -> bool {
     match &options(alloc, words) {
-        Ok(options) => numbers(options) == *want,
+        Ok(options) => numbers(options) == *want && options.forget == forgets,
         Err(_) => false,
     }
 }
 
 #[test]
 fn words_set_the_options(rt: HostRuntime) {
-    for (words, want) in ROWS {
-        assert!(rt; are_set(rt.alloc(), words, want), "{words:?}");
+    for (words, want, forgets) in ROWS {
+        assert!(rt; are_set(rt.alloc(), words, want, *forgets), "{words:?}");
     }
 }

@@ -1,11 +1,12 @@
 use Rattle.std.proofs.Common.{refl}
+use Rattle.std.proofs.lemmas.Result.{IfOk-weaker}
 use Rattle.clap.specs.declared.builder.command.Command.TheViews.{out-Command}
-use Rattle.command_line.specs.CommandLine.{ramlog}
-use Rattle.command_line.proofs.Ramlog.{grown, growing, opening, texts_given}
+use Rattle.command_line.specs.CommandLine.{numbered}
+use Rattle.command_line.proofs.Ramlog.{flagged, grown, growing, opening, texts_given}
 use Rattle.command_line.proofs.reading.command.Goals as goal
 
 pub loop-option-init : goal.loop-option-init
-unfolding ramlog
+unfolding numbered
 loop-option-init c =
     let new = c.new.ensures in
     let same =
@@ -19,4 +20,6 @@ loop-option-preserved c =
     c.argument.ensures.rule c.argument.ensures.plain c.argument.ensures.local
 
 pub returns : goal.returns
-returns c = grown _ _ _ c.loop-option.invariant c.loop-option-test.false
+returns c = IfOk-weaker _ _ _ (λ command added. flagged _ command _
+    (grown _ _ _ c.loop-option.invariant c.loop-option-test.false) added c.argument-2.ensures.rule
+    c.argument-2.ensures.plain c.argument-2.ensures.local) c.arg-2.ensures

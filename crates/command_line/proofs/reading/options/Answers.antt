@@ -1,10 +1,10 @@
 use Rattle.std.proofs.Common.{◌∙◌, subst, sym}
 use Rattle.clap.specs.Words.{HasKind, Kinds}
 use Rattle.clap.proofs.KindLemmas.{fails_by_from}
-use Rattle.command_line.proofs.Ramlog.{bare_options, bare_refusal, faults_are, has_number, is_free}
+use Rattle.command_line.proofs.Ramlog.{bare_options, bare_refusal, faults_are, has_flag, has_number, is_free}
 use Rattle.command_line.proofs.Ramlog.{has_backups, has_replicas, has_step, has_segment, has_seglet, has_seglets}
 use Rattle.command_line.proofs.Ramlog.{has_tables, has_history, has_bytes, has_objects, has_format, has_largest, has_live}
-use Rattle.command_line.proofs.Ramlog.{has_tend}
+use Rattle.command_line.proofs.Ramlog.{has_forget, has_tend}
 use Rattle.command_line.proofs.reading.options.Goals as goal
 
 pub returns-in_err-matches-clause-refuses : goal.returns-in_err-matches-clause-refuses
@@ -42,6 +42,9 @@ returns-clause-reads c =
       largest = of _ has_largest _ read.largest;
       live = of _ has_live _ read.live;
       tend = of _ has_tend _ read.tend;
+      forget =
+          has_flag c.in_ok-command.command c.in_ok-matches.matches _ c.in_ok-command.ensures has.parsed has.matches _
+          has_forget _ read.forget;
     }
 
 pub returns-clause-bare : goal.returns-clause-bare

@@ -16,4 +16,5 @@ returns c = record {
   largest = c.number-12.ensures;
   live = c.number-13.ensures;
   tend = c.number-14.ensures;
+  forget = c.is_set.ensures;
 }

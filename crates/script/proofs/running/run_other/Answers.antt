@@ -8,18 +8,18 @@ use Rattle.script.proofs.Turning.{answer_printed}
 use Rattle.script.proofs.running.run_other.Goals as goal
 
 pub returns-in-Ok : goal.returns-in-Ok
-returns-in-Ok g c =
+returns-in-Ok g c = λ last forgets.
     answer_printed _ _ _ _ _ _ c.in-Ok.answer c.print_answer.result
     (record {
       line = shown_line c.args.line;
       says = c.requires.says;
       of_fleet = c.in-Ok.ensures.of_fleet;
-      runs = c.in-Ok.ensures.ran;
+      runs = (c.run_any.new.self, c.in-Ok.ensures.ran, forgets);
     })
     c.print_answer.ensures
 
 pub returns-in-Err-NoBackup : goal.returns-in-Err-NoBackup
-returns-in-Err-NoBackup g c =
+returns-in-Err-NoBackup g c = λ last forgets.
     let s = c.args.session.now in
     let line = shown_line c.args.line in
     let refused = subst (RefusesLine s line) c.in-Err-NoBackup.field-0-is c.in-Err-NoBackup.ensures.refused in (
@@ -35,7 +35,7 @@ returns-in-Err-NoBackup g c =
     )
 
 pub returns-in-Err-NoLaterMaster : goal.returns-in-Err-NoLaterMaster
-returns-in-Err-NoLaterMaster g c =
+returns-in-Err-NoLaterMaster g c = λ last forgets.
     let s = c.args.session.now in
     let line = shown_line c.args.line in
     let refused =

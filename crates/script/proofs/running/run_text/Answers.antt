@@ -8,13 +8,13 @@ use Rattle.script.proofs.running.run_text.Goals as goal
 
 pub returns-in-Command : goal.returns-in-Command
 returns-in-Command g c =
-    let ran = c.run_command.ensures in
-    answer_printed _ _ _ _ _ _ ran.0 c.run_command.result
+    let ran = c.run_command-printed.ensures in
+    answer_printed _ _ _ _ _ _ ran.0 c.run_command-printed.result
     (record {
       line = shown_command c.in-Command.command;
       says = subst (λ (l : Line). Says c.args.text.now (shown_line l)) c.in-Command.is c.in-Ok.ensures.sound;
       of_fleet = command_of_fleet _ c.in-Command.command;
-      runs = inl ran.1;
+      runs = (c.run_command-printed.new.session, inl ran.1, c.forget.ensures);
     })
     ran.2
 

@@ -27,14 +27,14 @@ returns-in-Ok c =
     let m = c.serve-outcome.new.master in
     let at = c.in-Ok.ensures.served in (
       at.reply,
-      replied_at m c.in-Up.up.knows command c.in-Ok.place at.reply at.served at.place,
+      replied_at m c.in-Up.up.knows command c.in-Ok.place at.reply c.show_valid.ensures.history.within at.served at.place,
       (λ config line asks d pos s.
           let was : IsOf (Up c.in-Up.up) pos.left d = subst (λ (n : Node). IsOf n pos.left d) c.in-Up.is s.node_of in
           let served : IsServed d m.knows command at.reply =
           subst (λ (x : MasterData). IsServed x m.knows command at.reply) was.1 at.served in
           reply_told d m.knows c.args.self.now (Up m) config pos s
           (is_up_none c.args.self.now d pos.left (ap is_up c.in-Up.is) s.node_of)
-          line command asks at.reply (refl, refl, c.show_valid.ensures) served),
+          line command asks at.reply (refl, refl, c.show_valid-2.ensures) served),
       replied_try c.args.self.now c.in-Up.up m c.in-Up.is command at.reply at.tried,
     )
 
@@ -50,7 +50,7 @@ returns-in-Rolling c =
           waits_told d m.knows c.args.self.now (Up m) config at s
           (is_up_none c.args.self.now d at.left (ap is_up c.in-Up.is) s.node_of)
           command r (fleet_state c.in-Up.up.fleet) (fleet_state m.fleet) was.2
-          (refl, refl, c.show_valid.ensures) c.in-Rolling.is left),
+          (refl, refl, c.show_valid-2.ensures) c.in-Rolling.is left),
       waits_try c.args.self.now c.in-Up.up m c.in-Up.is command r c.in-Rolling.is c.in-Err.ensures.tried,
     )
 
@@ -68,7 +68,7 @@ returns-in_default-refusal c =
             unserved_told d m.knows c.args.self.now (Up m) last config at s
             (is_up_none c.args.self.now d at.left (ap is_up c.in-Up.is) s.node_of)
             line command asks r answer (fleet_state c.in-Up.up.fleet) (fleet_state m.fleet) was.2
-            (refl, refl, c.show_valid.ensures) refl c.show_valid.ensures
+            (refl, refl, c.show_valid-2.ensures) refl c.show_valid-2.ensures
             c.in-Err.ensures.spent left refuses),
         refused_try c.args.self.now c.in-Up.up m c.in-Up.is command r c.in_default-refusal.not-Rolling
             c.in-Err.ensures.tried last answer refuses,
