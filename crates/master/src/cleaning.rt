@@ -11,7 +11,10 @@ ghost use Rattle.master.specs.World.{world};
 
 use crate::master::Master;
 use entry::{NoMemory, Row, Size};
-use master_core::{Chooses, Cleans, Measures, Posting, Refusal, Step, StepAnswer, pending_step};
+use master_core::{
+    Posting, Refusal, Step, StepAnswer, begin_clean, choose, copy, freed, next_step, pending_step,
+    seal_op, sealed, sorted_sizes, to_free, to_seal,
+};
 use replica::{Act, Fleet, Op};
 
 impl<F: Fleet> Master<F> {
@@ -21,7 +24,7 @@ impl<F: Fleet> Master<F> {
     pub fn choose(&self) -> Result<Vec<u64>, NoMemory>
         ensures { IfOk result (λ ids. ids.items ≡ chosen self.now.knows) }
     {
-        self.core.choose()
+        choose(&self.core)
     }
 
     /// The step that a cleaner makes next: an open failover goes on, then an open pass, then a roll, then what waits is
@@ -31,7 +34,7 @@ impl<F: Fleet> Master<F> {
         ensures next { IfOk result (λ step. step ≡ next_step self.now.knows) }
         ensures refused { OnErr result ((self.now.knows.pass ≡ None) × NeedsChoice self.now.knows) }
     {
-        self.core.next_step()
+        next_step(&self.core)
     }
 
     /// Whether a pass is open. It takes no memory.
@@ -55,7 +58,7 @@ impl<F: Fleet> Master<F> {
         ensures sizes { IfOk result (λ sizes. AreSizesOf (state_now self.now.knows).contents sizes.items) }
         ensures tablets { IfOk result (λ sizes. are_sizes self.now.knows.config.tablets sizes.items ≡ true) }
     {
-        self.core.sizes()
+        sorted_sizes(&self.core)
     }
 
     /// Begins a pass over these victims.
@@ -65,7 +68,7 @@ impl<F: Fleet> Master<F> {
         ensures refused { IfErr result (λ r.
             Declines (world F.state self.old) (Step.BeginClean victims) r (world F.state self.new)) }
     {
-        self.core.begin_clean(victims)
+        begin_clean(&mut self.core, victims)
     }
 
     /// Treats the next entry of the open pass.
@@ -73,7 +76,7 @@ impl<F: Fleet> Master<F> {
         ensures accepted { IfOk result (λ a. Accepts (world F.state self.old) Step.Copy a (world F.state self.new)) }
         ensures refused { IfErr result (λ r. Declines (world F.state self.old) Step.Copy r (world F.state self.new)) }
     {
-        self.core.copy()
+        copy(&mut self.core)
     }
 
     /// Seals the next replica of the open pass's survivors.
@@ -82,15 +85,15 @@ impl<F: Fleet> Master<F> {
         ensures refused { IfErr result (λ r. Declines (world F.state self.old) Step.Seal r (world F.state self.new)) }
     {
         self.core.admit()?;
-        let Some((survivor, replica)) = self.core.to_seal() else {
+        let Some((survivor, replica)) = to_seal(&self.core) else {
             return Err(Refusal::Nothing);
         };
-        let op = self.core.seal_op(survivor);
+        let op = seal_op(&self.core, survivor);
         let backup = self.core.home(survivor, replica);
         match self.fleet.take(backup, &op) {
             Ok(()) => {
                 self.core.post(&Posting::Took(survivor, backup));
-                self.core.sealed();
+                sealed(&mut self.core);
                 Ok(StepAnswer::Sealed(backup))
             }
             Err(fault) => Err(self.core.fail(backup, fault)),
@@ -103,7 +106,7 @@ impl<F: Fleet> Master<F> {
         ensures refused { IfErr result (λ r. Declines (world F.state self.old) Step.Free r (world F.state self.new)) }
     {
         self.core.admit()?;
-        let Some((segment, replica)) = self.core.to_free() else {
+        let Some((segment, replica)) = to_free(&self.core) else {
             return Err(Refusal::Nothing);
         };
         let op = Op {
@@ -114,7 +117,7 @@ impl<F: Fleet> Master<F> {
         let backup = self.core.home(segment, replica);
         match self.fleet.take(backup, &op) {
             Ok(()) => {
-                self.core.freed();
+                freed(&mut self.core);
                 Ok(StepAnswer::Freed(segment, backup))
             }
             Err(fault) => Err(self.core.fail(backup, fault)),

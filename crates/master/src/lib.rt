@@ -1,8 +1,8 @@
 //! One master: a log-structured store in memory whose log is replicated on a fleet of backups.
 //!
 //! The layer above calls `Master::step`: one command, the begin of a roll or of a pass, the compaction of a segment,
-//! the copy of one entry, or one op that is handed to one backup. `Master::accept` is the same for a command that lies
-//! elsewhere, whose reply is read from the history.
+//! the copy of one entry, or one op that is handed to one backup. `Master::answer` is the same for a command that lies
+//! elsewhere, and `Master::accept` for one whose reply is read from the history.
 //! `specs/Steps.antt` says what a step does and when it is refused, and `specs/Keeps.antt` what it keeps.
 //! `specs/Valid.antt` says what is true after each step: whatever backups are left, they hold a prefix of the history
 //! with each durable command in it, or the loss is named. A refused step changes nothing, except after a fault of a

@@ -14,7 +14,7 @@ ghost use Rattle.master.specs.World.{world};
 use crate::master::Master;
 use crate::pushing;
 use entry::{Entry, NoMemory, ObjectRef, SafeVersion};
-use master_core::{Config, Core, Loads, Refusal, Rolls, Step, StepAnswer};
+use master_core::{Config, Core, Loads, Refusal, Step, StepAnswer, begin_roll};
 use replica::Fleet;
 use std::alloc::Global;
 use std::marker::Model;
@@ -122,7 +122,7 @@ impl<F: Fleet> Loading<F> {
             Declines (world F.state self.old) Step.BeginRoll r (world F.state self.new)) }
         ensures keeps { KeepsLoading (world F.state self.old) (world F.state self.new) }
     {
-        self.core.begin_roll()
+        begin_roll(&mut self.core)
     }
 
     /// Drops what was loaded, and hands the fleet back as it is.

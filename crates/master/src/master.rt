@@ -24,7 +24,9 @@ ghost use Rattle.master.specs.World.{world};
 use crate::{pushing, retiring};
 use entry::{NoMemory, Tablet};
 use history::{CommandRef, History};
-use master_core::{Commands, Compacts, Config, Core, Mends, Refusal, Rolls, Step, StepAnswer};
+use master_core::{
+    Commands, Config, Core, Refusal, Step, StepAnswer, begin_roll, compact_segment, failover_left,
+};
 use replica::{Bench, Fleet, TakeFault};
 use std::alloc::Global;
 use std::marker::Model;
@@ -36,7 +38,7 @@ use versioned_map::{Command, Reply};
 /// pass of cleaning. `step` does one thing: a command, the begin of a roll or of a pass, the compaction of a segment,
 /// the copy of an entry, or one op that one backup takes. An accepted command is answered at once, and is durable when
 /// `durable` is above its place: until then its unit waits for pushes. Whoever answers a client pushes first. `accept`
-/// is the step of a command that lies elsewhere.
+/// and `answer` are the step of a command that lies elsewhere.
 ///
 /// - What holds: `show_valid`, after each step. Stop after any step, drop the master, lose backups: a recovery finds
 ///   each durable command, or names the head or the segment that is lost.
@@ -193,7 +195,7 @@ impl<F: Fleet> Master<F> {
         ensures none { (self.now.knows.failover ≡ None) ↔ (result ≡ 0) }
         ensures few { result ≤ self.now.knows.config.replicas * (most_segments self.now.knows.config + 2) + 1 }
     {
-        self.core.failover_left()
+        failover_left(&self.core)
     }
 
     /// Which test would refuse a step with this command, if any. It does not look at memory.
@@ -278,6 +280,41 @@ impl<F: Fleet> Master<F> {
         self.core.accept(seat, command)
     }
 
+    /// Makes the step Apply with a command that may lie anywhere, as `accept` does, and answers with the reply too. The
+    /// command is judged once. Only a reply with a value of more than 15 bytes is copied.
+    #[inline(always)]
+    pub fn answer(&mut self, seat: u64, command: &CommandRef<'_>) -> Result<(u64, Reply), Refusal>
+        ensures was_valid { IsValid self.old.knows (F.state self.old.fleet) }
+        ensures applied { IfOk result (λ answer.
+            Steps (world F.state self.old) (Step.Apply seat (shown_command command.now))
+            (Ok (StepAnswer.Applied answer.0 answer.1)) (world F.state self.new)) }
+        ensures refused { IfErr result (λ r.
+            Steps (world F.state self.old) (Step.Apply seat (shown_command command.now)) (Err r)
+            (world F.state self.new)) }
+        ensures keeps { Keeps 1 (world F.state self.old) (world F.state self.new) }
+        ensures remembers { self.new.knows.forgotten ≡ self.old.knows.forgotten }
+        ensures valid { IsValid self.new.knows (F.state self.new.fleet) }
+    {
+        self.show_valid();
+        self.show_kept();
+        let answer = self.reply(seat, command);
+        self.show_valid();
+        answer
+    }
+
+    /// Applies a command, and answers with the place of its record and its reply.
+    #[inline(always)]
+    fn reply(&mut self, seat: u64, command: &CommandRef<'_>) -> Result<(u64, Reply), Refusal>
+        ensures accepted { IfOk result (λ answer.
+            Accepts (world F.state self.old) (Step.Apply seat (shown_command command.now))
+            (StepAnswer.Applied answer.0 answer.1) (world F.state self.new)) }
+        ensures refused { IfErr result (λ r.
+            Declines (world F.state self.old) (Step.Apply seat (shown_command command.now)) r
+            (world F.state self.new)) }
+    {
+        self.core.answer(seat, command)
+    }
+
     /// Applies a command.
     fn apply(&mut self, seat: u64, command: Command) -> Result<StepAnswer, Refusal>
         ensures accepted { IfOk result (λ a.
@@ -295,7 +332,7 @@ impl<F: Fleet> Master<F> {
         ensures refused { IfErr result (λ r.
             Declines (world F.state self.old) Step.BeginRoll r (world F.state self.new)) }
     {
-        self.core.begin_roll()
+        begin_roll(&mut self.core)
     }
 
     /// Compacts a segment.
@@ -305,7 +342,7 @@ impl<F: Fleet> Master<F> {
         ensures refused { IfErr result (λ r.
             Declines (world F.state self.old) (Step.Compact id) r (world F.state self.new)) }
     {
-        self.core.compact(id)
+        compact_segment(&mut self.core, id)
     }
 
     /// Hands one op to one backup.

@@ -12,8 +12,8 @@ ghost use Rattle.master.specs.Steps.{Accepts, Declines};
 ghost use Rattle.master.specs.World.{world_of};
 
 use master_core::{
-    Core, Mend, Mends, NewHead, Refusal, Step, StepAnswer, begin_opening, ledger_of_turn, mark,
-    new_head, victims_of_commit,
+    Core, Mend, NewHead, Refusal, Step, StepAnswer, begin_opening, ledger_of_turn, mark, mend_op,
+    mend_segment, mended, new_head, next_mend, victims_of_commit,
 };
 use replica::{Act, Fleet, Op, TakeFault};
 
@@ -28,7 +28,7 @@ pub(crate) fn mend<F: Fleet>(core: &mut Core, fleet: &mut F) -> Result<StepAnswe
         Declines (world_of core.old (F.state fleet.old)) Step.Push r (world_of core.new (F.state fleet.new))) }
     ensures served { StaysServed core.old (F.state fleet.old) core.new (F.state fleet.new) }
 {
-    match core.next_mend() {
+    match next_mend(core) {
         Mend::Turn => turn(core, fleet),
         Mend::Raise(id) => raise(core, fleet, id),
         mend => hand_mend(core, fleet, mend),
@@ -70,7 +70,7 @@ fn turn<F: Fleet>(core: &mut Core, fleet: &mut F) -> Result<StepAnswer, Refusal>
         core.halt();
         return Err(Refusal::Halted);
     }
-    core.mended(Mend::Open(0));
+    mended(core, Mend::Open(0));
     Ok(StepAnswer::Opened(backup, id))
 }
 
@@ -125,7 +125,7 @@ fn raise<F: Fleet>(core: &mut Core, fleet: &mut F, id: u64) -> Result<StepAnswer
 {
     match fleet.raise(core.master(), id) {
         Ok(()) => {
-            core.mended(Mend::Raise(id));
+            mended(core, Mend::Raise(id));
             Ok(StepAnswer::Raised(id))
         }
         Err(fault) => Err(core.refuse_raise(fault)),
@@ -145,12 +145,12 @@ fn hand_mend<F: Fleet>(core: &mut Core, fleet: &mut F, mend: Mend) -> Result<Ste
     ensures served { StaysServed core.old (F.state fleet.old) core.new (F.state fleet.new) }
 {
     show_images(core);
-    let segment = core.mend_segment(mend);
+    let segment = mend_segment(core, mend);
     let backup = core.home(segment, mend.replica());
-    let op = core.mend_op(mend);
+    let op = mend_op(core, mend);
     match fleet.take(backup, &op) {
         Ok(()) => {
-            core.mended(mend);
+            mended(core, mend);
             Ok(answer(mend, backup, segment))
         }
         Err(fault) => Err(core.fail(backup, fault)),

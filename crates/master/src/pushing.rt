@@ -9,7 +9,7 @@ ghost use Rattle.master.specs.World.{world_of};
 
 use crate::mending::mend;
 use log_head::Next;
-use master_core::{Core, Refusal, Rolls, Step, StepAnswer};
+use master_core::{Core, Refusal, Step, StepAnswer, next_push, next_push_for, took};
 use replica::Fleet;
 
 /// Hands one op to one backup.
@@ -27,7 +27,7 @@ pub(crate) fn push<F: Fleet>(core: &mut Core, fleet: &mut F) -> Result<StepAnswe
     if core.failover.is_some() {
         return mend(core, fleet);
     }
-    match core.next_push() {
+    match next_push(core) {
         None => Err(Refusal::Nothing),
         Some(next) => hand(core, fleet, next),
     }
@@ -49,7 +49,7 @@ pub(crate) fn push_unless_durable<F: Fleet>(
     if core.failover.is_some() {
         return mend_unless_durable(core, fleet, place);
     }
-    let Some(next) = core.next_push_for(place) else {
+    let Some(next) = next_push_for(core, place) else {
         return Ok(true);
     };
     if core.is_halted() {
@@ -105,7 +105,7 @@ fn hand<F: Fleet>(core: &mut Core, fleet: &mut F, next: Next) -> Result<StepAnsw
     match fleet.take(backup, &op) {
         Ok(()) => {
             core.post_push(next, segment, backup);
-            core.took(next);
+            took(core, next);
             Ok(answer(next, backup, segment))
         }
         Err(fault) => Err(core.fail(backup, fault)),

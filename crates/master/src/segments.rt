@@ -13,7 +13,7 @@ use compactor::{LogSet, kept_bytes};
 use entry::NoMemory;
 use images::Image;
 use log_head::Roll;
-use master_core::{Core, Counts};
+use master_core::{Core, kept_bytes_of};
 use replica::Fleet;
 use segment::SegmentRef;
 
@@ -93,7 +93,7 @@ fn closed_row(core: &Core, image: &Image) -> SegmentRow
     ensures { result ≡ closed_row core.now image.now }
 {
     let id = image.id();
-    let Some(kept) = core.kept_bytes(id) else {
+    let Some(kept) = kept_bytes_of(core, id) else {
         unreachable!()
     };
     SegmentRow {

@@ -9,7 +9,7 @@ ghost use Rattle.master.specs.World.{world};
 
 use crate::master::Master;
 use entry::{NoMemory, Row, Size};
-use master_core::Measures;
+use master_core::sorted_sizes;
 use replica::{Fleet, Labels, add_labels};
 use std::alloc::Global;
 
@@ -67,7 +67,7 @@ impl<F: Fleet> Master<F> {
             Look::Digest => Ok(Shown::Digest(self.core.digest()?)),
             Look::Room => Ok(Shown::Room(self.core.used(), self.core.free())),
             Look::Image(id) => Ok(Shown::Image(self.core.bytes_of(id)?)),
-            Look::Sizes => Ok(Shown::Sizes(Row::new(self.core.sizes()?))),
+            Look::Sizes => Ok(Shown::Sizes(Row::new(sorted_sizes(&self.core)?))),
             Look::Holdings => {
                 let backups = self.core.backups();
                 Ok(Shown::Holdings(labels(self.alloc, &self.fleet, backups)?))

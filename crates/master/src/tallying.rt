@@ -12,7 +12,7 @@ ghost use Rattle.tally.specs.Rows.{IsRight};
 ghost use Rattle.master.specs.World.{world};
 
 use crate::master::Master;
-use master_core::{Counts, Tally};
+use master_core::{Tally, image_len_of, kept_bytes_of, opening_len_of, recount, tally_of};
 use replica::Fleet;
 
 impl<F: Fleet> Master<F> {
@@ -22,14 +22,14 @@ impl<F: Fleet> Master<F> {
         ensures { result ≡ option_map (λ (es : List Entry). kept_bytes self.now.knows id)
             (segment_of self.now.knows.closed id) }
     {
-        self.core.kept_bytes(id)
+        kept_bytes_of(&self.core, id)
     }
 
     /// How many bytes the image of a closed segment has, or `None` if no closed segment has this id.
     pub fn image_len(&self, id: u64) -> Option<usize>
         ensures { result ≡ option_map (λ (es : List Entry). length (text_of es)) (segment_of self.now.knows.closed id) }
     {
-        self.core.image_len(id)
+        image_len_of(&self.core, id)
     }
 
     /// How many bytes the image of a closed segment has before its first object or tombstone, or `None` if no closed
@@ -38,7 +38,7 @@ impl<F: Fleet> Master<F> {
         ensures { result ≡ option_map (λ (es : List Entry). length (text_of (front_of es)))
             (segment_of self.now.knows.closed id) }
     {
-        self.core.opening_len(id)
+        opening_len_of(&self.core, id)
     }
 
     /// Counts a closed segment anew. Nothing else changes, and without memory nothing does. It reads the whole segment,
@@ -46,7 +46,7 @@ impl<F: Fleet> Master<F> {
     pub fn recount(&mut self, id: u64)
         ensures same { world F.state self.new ≡ world F.state self.old }
     {
-        self.core.recount(id);
+        recount(&mut self.core, id);
     }
 
     /// What is counted of a segment, or `None` if it isn't counted. The number of tombstones is exact only if it is
@@ -56,6 +56,6 @@ impl<F: Fleet> Master<F> {
         ensures right { IfSome result (IsRight (log_set_ids self.now.knows) self.now.knows.index
             (images_of self.now.knows)) }
     {
-        self.core.tally(id)
+        tally_of(&self.core, id)
     }
 }

@@ -42,8 +42,11 @@ pub trait Commands {
     /// test refuses the command or memory runs out, nothing changes.
     fn apply(&mut self, seat: u64, command: Command) -> Result<StepAnswer, Refusal>;
 
-    /// Applies a command as `apply` does, but borrows the command, and returns only the place of its record. The record
-    /// has the reply. Nothing is copied except to the unit and to the record.
+    /// Applies a command as `apply` does, but borrows the command. Returns the place of its record and the reply.
+    fn answer(&mut self, seat: u64, command: &CommandRef<'_>) -> Result<(u64, Reply), Refusal>;
+
+    /// Applies a command as `answer` does, and returns only the place of its record. The record has the reply. Nothing
+    /// is copied except to the unit and to the record.
     fn accept(&mut self, seat: u64, command: &CommandRef<'_>) -> Result<u64, Refusal>;
 }
 
@@ -80,14 +83,27 @@ impl Commands for Core {
             ⊎ ((command_refusal self.old command ≡ None) × (r ≡ Refusal.NoMemory))) }
         ensures err { OnErr result (self.new ≡ self.old) }
     {
-        let (judged, reply) = consider(self, &view_command(&command))?;
+        let (place, reply) = self.answer(seat, &view_command(&command))?;
+        Ok(StepAnswer::Applied(place, reply))
+    }
+
+    fn answer(&mut self, seat: u64, command: &CommandRef<'_>) -> Result<(u64, Reply), Refusal>
+        ensures applied { IfOk result (λ answer.
+            Applies self.old seat (shown_command command.now) (StepAnswer.Applied answer.0 answer.1) self.new) }
+        ensures may { OnOk result (MayApplyNow self.old seat (shown_command command.now)) }
+        ensures valid { OnOk result (IsCore self.new) }
+        ensures refused { IfErr result (λ r. (command_refusal self.old (shown_command command.now) ≡ Some r)
+            ⊎ ((command_refusal self.old (shown_command command.now) ≡ None) × (r ≡ Refusal.NoMemory))) }
+        ensures err { OnErr result (self.new ≡ self.old) }
+    {
+        let (judged, reply) = consider(self, command)?;
         let accepted = RecordRef {
             seat,
-            command: view_command(&command),
+            command: *command,
             reply: view_reply(&reply),
         };
         let place = add(self, &accepted, &judged)?;
-        Ok(StepAnswer::Applied(place, reply))
+        Ok((place, reply))
     }
 
     fn accept(&mut self, seat: u64, command: &CommandRef<'_>) -> Result<u64, Refusal>

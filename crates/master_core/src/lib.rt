@@ -7,10 +7,15 @@ pub use cleaner::{PassFault, Survivors};
 pub use hash_index::Place;
 pub use master_commands::{Commands, Loads, loading_goes_on};
 pub use master_failover::{
-    Mend, Mends, NewHead, begin_opening, ledger_of_turn, new_head, victims_of_commit,
+    Mend, NewHead, begin_opening, failover_left, ledger_of_turn, mend_op, mend_segment, mended,
+    new_head, next_mend, victims_of_commit,
 };
-pub use master_rolls::{Rolls, mark};
-pub use master_space::{Chooses, Cleans, Compacts, Counts, Measures, pending_step};
+pub use master_rolls::{begin_roll, mark, next_push, next_push_for, took};
+pub use master_space::{
+    begin_clean, choose, compact_segment, copy, freed, image_len_of, kept_bytes_of, next_step,
+    opening_len_of, pending_step, recount, seal_op, sealed, sorted_sizes, tally_of, to_free,
+    to_seal,
+};
 pub use master_state::{
     Config, ConfigFault, Core, KeyHasher, Part, Posting, Refusal, Secret, Step, StepAnswer,
 };

@@ -16,6 +16,6 @@ mod opening;
 mod turning;
 
 pub use laws::pushes_lower;
-pub use mending::{Mend, Mends};
+pub use mending::{Mend, failover_left, mend_op, mend_segment, mended, next_mend};
 pub use opening::{begin_opening, ledger_of_turn, new_head, victims_of_commit};
 pub use turning::NewHead;

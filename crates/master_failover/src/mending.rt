@@ -8,7 +8,6 @@ ghost use Rattle.master_state.specs.declared.failover.Failover.{Failover as Fail
 ghost use Rattle.master_state.specs.declared.failover.Part.TheVariants as part;
 ghost use Rattle.master_state.specs.Budget.{most_segments};
 ghost use Rattle.master_state.specs.Invariant.{IsCore};
-ghost use Rattle.master_failover.specs.declared.mending.Mend.{Mend as MendValue};
 ghost use Rattle.master_failover.specs.declared.mending.Mend.TheVariants as mend;
 ghost use Rattle.master_failover.specs.Left.{left_now};
 ghost use Rattle.master_failover.specs.Mending.{IsNextMend, IsInPart, IsLater, IsOnReplica, mended_data, was_headless};
@@ -58,129 +57,91 @@ impl Mend {
     }
 }
 
-/// The pushes of an open failover.
-pub trait Mends {
-    /// A failover is open.
-    ghost is_failing: { Self → Type 0 };
-    /// The push is the next one.
-    ghost is_next: { Self → MendValue → Type 0 };
-    /// The push is neither a Turn nor a raise.
-    ghost is_on_replica: { MendValue → Type 0 };
-    /// The push is no Turn.
-    ghost is_later: { MendValue → Type 0 };
-
-    /// Returns the push that comes next.
-    fn next_mend(&self) -> Mend
-        requires { is_failing self.now };
-
-    /// Returns the segment that the push is for.
-    fn mend_segment(&self, mend: Mend) -> u64
-        requires { is_next self.now mend };
-
-    /// Returns the op of a push that is neither a Turn nor a raise.
-    fn mend_op(&self, mend: Mend) -> Op<'_>
-        requires next { is_next self.now mend }
-        requires other { is_on_replica mend };
-
-    /// Counts a push that was taken. The push Turn is counted as `Open(0)`, once the new head is put.
-    fn mended(&mut self, mend: Mend)
-        requires next { is_next self.old mend }
-        requires other { is_later mend };
-
-    /// Returns how many pushes the open failover still needs, at most. 0 means that no failover is open. For R replicas
-    /// and logs of up to L segments the answer is never above R * (L + 2) + 1.
-    fn failover_left(&self) -> u64;
+/// Returns the push that comes next.
+pub fn next_mend(core: &Core) -> Mend
+    requires { IsSome core.now.failover }
+    ensures next { IsNextMend core.now result }
+{
+    let Some(failover) = &core.failover else {
+        unreachable!()
+    };
+    match failover.part {
+        Part::Mends => next_of_head(core, failover.is_first),
+        Part::Opens => next_of_opening(core),
+        Part::Closes => next_of_closing(core),
+        Part::Repairs => next_repair(core),
+    }
 }
 
-impl Mends for Core {
-    ghost is_failing = { λ core. IsSome core.failover };
-
-    ghost is_next = { λ core mend. IsNextMend core mend };
-
-    ghost is_on_replica = { λ mend. IsOnReplica mend };
-
-    ghost is_later = { λ mend. IsLater mend };
-
-    fn next_mend(&self) -> Mend
-        requires { IsSome self.now.failover }
-        ensures next { IsNextMend self.now result }
-    {
-        let Some(failover) = &self.failover else {
-            unreachable!()
-        };
-        match failover.part {
-            Part::Mends => next_of_head(self, failover.is_first),
-            Part::Opens => next_of_opening(self),
-            Part::Closes => next_of_closing(self),
-            Part::Repairs => next_repair(self),
-        }
+/// Returns the segment that the push is for.
+pub fn mend_segment(core: &Core, mend: Mend) -> u64
+    requires { IsNextMend core.now mend }
+    ensures { result ≡ segment_for core.now mend }
+{
+    match mend {
+        Mend::Extend(_) => core.head.id(),
+        Mend::Replace(_) => core.head.id(),
+        Mend::Turn => core.next_id,
+        Mend::Open(_) => new_id(core),
+        Mend::Raise(id) => id,
+        Mend::Close(_) => core.head.id(),
+        Mend::Repair(segment, _) => segment,
     }
+}
 
-    fn mend_segment(&self, mend: Mend) -> u64
-        requires { IsNextMend self.now mend }
-        ensures { result ≡ segment_for self.now mend }
-    {
-        match mend {
-            Mend::Extend(_) => self.head.id(),
-            Mend::Replace(_) => self.head.id(),
-            Mend::Turn => self.next_id,
-            Mend::Open(_) => new_id(self),
-            Mend::Raise(id) => id,
-            Mend::Close(_) => self.head.id(),
-            Mend::Repair(segment, _) => segment,
-        }
-    }
-
-    fn mend_op(&self, mend: Mend) -> Op<'_>
-        requires next { IsNextMend self.now mend }
-        requires other { IsOnReplica mend }
-        ensures { Some (shown_op result) ≡ op_now self.entry.now mend }
-    {
-        match mend {
-            Mend::Extend(replica) => self.head.op(self.config.master, Next::Extend(replica)),
-            Mend::Replace(replica) => self.head.op(self.config.master, Next::OpenWhole(replica)),
-            Mend::Open(replica) => open_op(self, replica),
-            Mend::Close(replica) => self.head.op(self.config.master, Next::CloseOld(replica)),
-            Mend::Repair(segment, _) => {
-                let Some(image) = image_of(&self.head, &self.closed, segment) else {
-                    unreachable!()
-                };
-                Op {
-                    master: self.config.master,
-                    segment,
-                    act: Act::Seal(image.bytes()),
-                }
+/// Returns the op of a push that is neither a Turn nor a raise.
+pub fn mend_op(core: &Core, mend: Mend) -> Op<'_>
+    requires next { IsNextMend core.now mend }
+    requires other { IsOnReplica mend }
+    ensures { Some (shown_op result) ≡ op_now core.entry.now mend }
+{
+    match mend {
+        Mend::Extend(replica) => core.head.op(core.config.master, Next::Extend(replica)),
+        Mend::Replace(replica) => core.head.op(core.config.master, Next::OpenWhole(replica)),
+        Mend::Open(replica) => open_op(core, replica),
+        Mend::Close(replica) => core.head.op(core.config.master, Next::CloseOld(replica)),
+        Mend::Repair(segment, _) => {
+            let Some(image) = image_of(&core.head, &core.closed, segment) else {
+                unreachable!()
+            };
+            Op {
+                master: core.config.master,
+                segment,
+                act: Act::Seal(image.bytes()),
             }
-            Mend::Turn => unreachable!(),
-            Mend::Raise(_) => unreachable!(),
         }
+        Mend::Turn => unreachable!(),
+        Mend::Raise(_) => unreachable!(),
     }
+}
 
-    fn mended(&mut self, mend: Mend)
-        requires next { IsNextMend self.old mend }
-        requires other { IsLater mend }
-        ensures mended { self.new ≡ mended_data self.old mend }
-        ensures valid { IsCore self.new }
-    {
-        match mend {
-            Mend::Extend(replica) => extend(self, replica),
-            Mend::Replace(replica) => replace(self, replica),
-            Mend::Open(replica) => open(self, replica),
-            Mend::Raise(_) => raised(self),
-            Mend::Close(replica) => close(self, replica),
-            Mend::Repair(segment, replica) => repair(self, segment, replica),
-            Mend::Turn => unreachable!(),
-        }
+/// Counts a push that was taken. The push Turn is counted as `Open(0)`, once the new head is put.
+pub fn mended(core: &mut Core, mend: Mend)
+    requires next { IsNextMend core.old mend }
+    requires other { IsLater mend }
+    ensures mended { core.new ≡ mended_data core.old mend }
+    ensures valid { IsCore core.new }
+{
+    match mend {
+        Mend::Extend(replica) => extend(core, replica),
+        Mend::Replace(replica) => replace(core, replica),
+        Mend::Open(replica) => open(core, replica),
+        Mend::Raise(_) => raised(core),
+        Mend::Close(replica) => close(core, replica),
+        Mend::Repair(segment, replica) => repair(core, segment, replica),
+        Mend::Turn => unreachable!(),
     }
+}
 
-    fn failover_left(&self) -> u64
-        ensures left { result ≡ left_now self.now }
-        ensures none { (self.now.failover ≡ None) ↔ (result ≡ 0) }
-        ensures few { result ≤ self.now.config.replicas * (most_segments self.now.config + 2) + 1 }
-    {
-        self.show_valid();
-        left(self)
-    }
+/// Returns how many pushes the open failover still needs, at most. 0 means that no failover is open. For R replicas
+/// and logs of up to L segments the answer is never above R * (L + 2) + 1.
+pub fn failover_left(core: &Core) -> u64
+    ensures left { result ≡ left_now core.now }
+    ensures none { (core.now.failover ≡ None) ↔ (result ≡ 0) }
+    ensures few { result ≤ core.now.config.replicas * (most_segments core.now.config + 2) + 1 }
+{
+    core.show_valid();
+    left(core)
 }
 
 // ---- which comes next

@@ -1,11 +1,10 @@
 //! How a core rolls to the next head, and which push comes next.
 
-ghost use Rattle.std.specs.Prelude.{◌⊎◌, ◌≡◌, ◌<◌, ℕ, [], length, None, Some, IfSome, IfOk, IfErr, OnOk};
+ghost use Rattle.std.specs.Prelude.{◌⊎◌, ◌≡◌, ◌<◌, [], length, None, Some, IfSome, IfOk, IfErr, OnOk};
 ghost use Rattle.std.specs.Prelude.{OnErr, if◌then◌else◌, is_none, nat_lt};
 ghost use Rattle.std.specs.Option.{option_map};
 ghost use Rattle.std.specs.Result.{result_err};
 ghost use Rattle.log_head.specs.Next.{IsNextPush};
-ghost use Rattle.log_head.specs.declared.next.Next.{Next as NextValue};
 ghost use Rattle.cleaner.specs.declared.pass.Pass.{Pass as OpenPass};
 ghost use Rattle.cleaner.specs.Passes.{images_in, survivor_ids, AreIds};
 ghost use Rattle.entry.specs.Text.{text_of};
@@ -23,114 +22,88 @@ use log_head::{Leaving, Next, RollMemory};
 use master_state::{Core, Posting, Refusal, StepAnswer};
 use std::alloc::Global;
 
-/// How a core rolls to the next head, and which push comes next.
-pub trait Rolls {
-    /// The push is the next one, and no failover is open.
-    ghost may_take: { Self → NextValue → Type 0 };
-
-    /// The history has a record at this place.
-    ghost has_record: { Self → ℕ → Type 0 };
-
-    /// Begins a roll. If a pass is ready, the roll is its commit: the next head's digest lists the survivors in place
-    /// of the victims. The call reserves the memory of a whole segment for the next head's image, and all memory that
-    /// the end of the roll needs. Nothing is appended until the roll has ended. A refusal changes nothing.
-    fn begin_roll(&mut self) -> Result<StepAnswer, Refusal>;
-
-    /// Returns what the next push does, if no failover is open. `None` means that nothing is left to push.
-    fn next_push(&self) -> Option<Next>;
-
-    /// Returns what the next push does, if no failover is open and the record at this place isn't durable. `None` means
-    /// that the record is durable.
-    fn next_push_for(&self, place: u64) -> Option<Next>
-        requires { has_record self.now place };
-
-    /// Counts the op of a push that a backup took. The last Close of a commit ends the pass. The call allocates no
-    /// memory.
-    fn took(&mut self, next: Next)
-        requires { may_take self.old next };
+/// Begins a roll. If a pass is ready, the roll is its commit: the next head's digest lists the survivors in place of
+/// the victims. The call reserves the memory of a whole segment for the next head's image, and all memory that the end
+/// of the roll needs. Nothing is appended until the roll has ended. A refusal changes nothing.
+pub fn begin_roll(core: &mut Core) -> Result<StepAnswer, Refusal>
+    ensures begun { IfOk result (λ answer. BeginsRoll core.old answer core.new) }
+    ensures may { OnOk result (MayRollNow core.old) }
+    ensures valid { OnOk result (IsCore core.new) }
+    ensures refused { IfErr result (λ r. (roll_refusal core.old ≡ Some r)
+        ⊎ ((roll_refusal core.old ≡ None) × (r ≡ Refusal.NoMemory))) }
+    ensures err { OnErr result (core.new ≡ core.old) }
+{
+    admit_roll(core)?;
+    let is_commit = core.is_ready();
+    core.closed.reserve(1)?;
+    let victims = leaving_victims(&core.pass, is_commit);
+    core.waiting.reserve(victims.len())?;
+    let survivors = entering(core.alloc, &core.pass, &core.closed, is_commit)?;
+    let id = core.next_id;
+    let seglet = core.config.seglet as usize;
+    let memory = RollMemory {
+        spare: core.closed.take_spare(),
+        room: core.config.segment as usize,
+        kept: core.head.image().bytes().len().div_ceil(seglet) * seglet,
+    };
+    let leaving = Leaving {
+        victims,
+        survivors: survivors.as_slice(),
+    };
+    core.head.begin_roll(
+        core.alloc,
+        core.config.master,
+        id,
+        core.safe,
+        leaving,
+        memory,
+    )?;
+    mark(&mut core.pass, is_commit);
+    core.tallies.reserve(1);
+    core.next_id += 1;
+    core.post(&Posting::Began(id));
+    Ok(StepAnswer::Rolling(id))
 }
 
-impl Rolls for Core {
-    ghost may_take = { λ core next. (core.failover ≡ None) × IsNextPush core.head (Some next) };
+/// Returns what the next push does, if no failover is open. `None` means that nothing is left to push.
+pub fn next_push(core: &Core) -> Option<Next>
+    ensures next { IsNextPush core.now.head result }
+    ensures valid { IsCore core.now }
+{
+    core.head.next_push()
+}
 
-    ghost has_record = { λ core place. place < length core.history };
+/// Returns what the next push does, if no failover is open and the record at this place isn't durable. `None` means
+/// that the record is durable.
+pub fn next_push_for(core: &Core, place: u64) -> Option<Next>
+    requires { place < length core.now.history }
+    ensures next { IfSome result (λ next. IsNextPush core.now.head (Some next)) }
+    ensures durable { core.now.failover ≡ None → is_none result ≡ nat_lt place (durable_now core.now) }
+    ensures valid { IsCore core.now }
+{
+    core.head.next_for(place)
+}
 
-    fn begin_roll(&mut self) -> Result<StepAnswer, Refusal>
-        ensures begun { IfOk result (λ answer. BeginsRoll self.old answer self.new) }
-        ensures may { OnOk result (MayRollNow self.old) }
-        ensures valid { OnOk result (IsCore self.new) }
-        ensures refused { IfErr result (λ r. (roll_refusal self.old ≡ Some r)
-            ⊎ ((roll_refusal self.old ≡ None) × (r ≡ Refusal.NoMemory))) }
-        ensures err { OnErr result (self.new ≡ self.old) }
-    {
-        admit_roll(self)?;
-        let is_commit = self.is_ready();
-        self.closed.reserve(1)?;
-        let victims = leaving_victims(&self.pass, is_commit);
-        self.waiting.reserve(victims.len())?;
-        let survivors = entering(self.alloc, &self.pass, &self.closed, is_commit)?;
-        let id = self.next_id;
-        let seglet = self.config.seglet as usize;
-        let memory = RollMemory {
-            spare: self.closed.take_spare(),
-            room: self.config.segment as usize,
-            kept: self.head.image().bytes().len().div_ceil(seglet) * seglet,
-        };
-        let leaving = Leaving {
-            victims,
-            survivors: survivors.as_slice(),
-        };
-        self.head.begin_roll(
-            self.alloc,
-            self.config.master,
-            id,
-            self.safe,
-            leaving,
-            memory,
-        )?;
-        mark(&mut self.pass, is_commit);
-        self.tallies.reserve(1);
-        self.next_id += 1;
-        self.post(&Posting::Began(id));
-        Ok(StepAnswer::Rolling(id))
-    }
-
-    fn next_push(&self) -> Option<Next>
-        ensures next { IsNextPush self.now.head result }
-        ensures valid { IsCore self.now }
-    {
-        self.head.next_push()
-    }
-
-    fn next_push_for(&self, place: u64) -> Option<Next>
-        requires { place < length self.now.history }
-        ensures next { IfSome result (λ next. IsNextPush self.now.head (Some next)) }
-        ensures durable { self.now.failover ≡ None → is_none result ≡ nat_lt place (durable_now self.now) }
-        ensures valid { IsCore self.now }
-    {
-        self.head.next_for(place)
-    }
-
-    #[inline(always)]
-    fn took(&mut self, next: Next)
-        requires calm { self.old.failover ≡ None }
-        requires next { IsNextPush self.old.head (Some next) }
-        ensures taken { self.new ≡ taken_data self.old next }
-        ensures valid { IsCore self.new }
-    {
-        match next {
-            Next::OpenFirst(_) => self.head.open(),
-            Next::Extend(replica) => self.head.extend(replica),
-            Next::OpenWhole(_) => unreachable!(),
-            Next::OpenNew(_) => self.head.open_new(),
-            Next::CloseOld(_) => {
-                let id = self.head.id();
-                if let Some(image) = self.head.close_old() {
-                    let replicas = self.config.replicas as usize;
-                    self.closed.add_closed(id, image, replicas);
-                    count_end(&mut self.tallies, &self.pass, self.head.id());
-                    end_pass(&mut self.pass, &mut self.closed, &mut self.waiting);
-                }
+/// Counts the op of a push that a backup took. The last Close of a commit ends the pass. The call allocates no memory.
+#[inline(always)]
+pub fn took(core: &mut Core, next: Next)
+    requires calm { core.old.failover ≡ None }
+    requires next { IsNextPush core.old.head (Some next) }
+    ensures taken { core.new ≡ taken_data core.old next }
+    ensures valid { IsCore core.new }
+{
+    match next {
+        Next::OpenFirst(_) => core.head.open(),
+        Next::Extend(replica) => core.head.extend(replica),
+        Next::OpenWhole(_) => unreachable!(),
+        Next::OpenNew(_) => core.head.open_new(),
+        Next::CloseOld(_) => {
+            let id = core.head.id();
+            if let Some(image) = core.head.close_old() {
+                let replicas = core.config.replicas as usize;
+                core.closed.add_closed(id, image, replicas);
+                count_end(&mut core.tallies, &core.pass, core.head.id());
+                end_pass(&mut core.pass, &mut core.closed, &mut core.waiting);
             }
         }
     }
@@ -166,8 +139,8 @@ pub fn leaving_victims(pass: &Option<Pass>, is_commit: bool) -> &[u64]
     }
 }
 
-/// Returns the segments that the next head's digest takes in, with the lengths of their images in bytes: the survivors,
-/// if the roll is a commit.
+/// Returns the segments that the next head's digest takes in, with the lengths of their images in bytes: the
+/// survivors, if the roll is a commit.
 pub fn entering(
     alloc: Global,
     pass: &Option<Pass>,

@@ -18,39 +18,30 @@ use compactor::LogSet;
 use entry::{NoMemory, Row};
 use master_state::{Core, Step};
 
-/// Which victims the next pass takes, and which step a cleaner takes next.
-pub trait Chooses {
-    /// Chooses the victims of the next pass, and changes nothing. Candidates are the segments of the digest in force
-    /// that are no heads. Those that keep the fewest bytes come first. The choice takes at most 32 of them. It ends
-    /// before a candidate whose kept entries would need a fifth survivor, or a survivor for which no memory is free.
-    fn choose(&self) -> Result<Vec<u64>, NoMemory>;
-
-    /// Returns the step that a cleaner takes next, and changes nothing. An open failover goes on first, then an open
-    /// pass. Without these, pushes come until the head is open. Then the replicas that wait are freed. Then the next
-    /// pass begins, if it may and has a victim. `None` means that nothing is to be done. Only the choice of victims
-    /// allocates memory.
-    fn next_step(&self) -> Result<Option<Step>, NoMemory>;
+/// Chooses the victims of the next pass, and changes nothing. Candidates are the segments of the digest in force that
+/// are no heads. Those that keep the fewest bytes come first. The choice takes at most 32 of them. It ends before a
+/// candidate whose kept entries would need a fifth survivor, or a survivor for which no memory is free.
+pub fn choose(core: &Core) -> Result<Vec<u64>, NoMemory>
+    ensures { IfOk result (λ ids. ids.items ≡ chosen core.now) }
+{
+    let NextPass { victims, .. } = choice(core)?;
+    Ok(victims)
 }
 
-impl Chooses for Core {
-    fn choose(&self) -> Result<Vec<u64>, NoMemory>
-        ensures { IfOk result (λ ids. ids.items ≡ chosen self.now) }
-    {
-        let NextPass { victims, .. } = choice(self)?;
-        Ok(victims)
+/// Returns the step that a cleaner takes next, and changes nothing. An open failover goes on first, then an open pass.
+/// Without these, pushes come until the head is open. Then the replicas that wait are freed. Then the next pass
+/// begins, if it may and has a victim. `None` means that nothing is to be done. Only the choice of victims allocates
+/// memory.
+pub fn next_step(core: &Core) -> Result<Option<Step>, NoMemory>
+    ensures next { IfOk result (λ step. step ≡ next_step core.now) }
+    ensures refused { OnErr result ((core.now.pass ≡ None) × NeedsChoice core.now) }
+{
+    if core.failover.is_some() {
+        return Ok(Some(Step::Push));
     }
-
-    fn next_step(&self) -> Result<Option<Step>, NoMemory>
-        ensures next { IfOk result (λ step. step ≡ next_step self.now) }
-        ensures refused { OnErr result ((self.now.pass ≡ None) × NeedsChoice self.now) }
-    {
-        if self.failover.is_some() {
-            return Ok(Some(Step::Push));
-        }
-        match &self.pass {
-            Some(pass) => Ok(Some(pass_step(self, pass))),
-            None => step_without(self),
-        }
+    match &core.pass {
+        Some(pass) => Ok(Some(pass_step(core, pass))),
+        None => step_without(core),
     }
 }
 

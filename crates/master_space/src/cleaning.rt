@@ -1,7 +1,7 @@
 //! The steps of a core's pass: it begins, it copies entry by entry, its survivors are sealed, and after its commit the
 //! replicas of its victims are freed.
 
-ghost use Rattle.std.specs.Prelude.{◌⊎◌, ◌≡◌, ◌<◌, ◌≤◌, ◌==◌, ◌∷◌, ◌++◌, ◌*◌, ◌+◌, [], ℕ, None, Some, length};
+ghost use Rattle.std.specs.Prelude.{◌⊎◌, ◌≡◌, ◌<◌, ◌≤◌, ◌==◌, ◌∷◌, ◌++◌, ◌*◌, ◌+◌, [], None, Some, length};
 ghost use Rattle.std.specs.Prelude.{IfOk, IfErr, IfSome, OnOk, OnErr, IsSome, is_none, if◌then◌else◌};
 ghost use Rattle.master_state.specs.log_memory.Steps.{MayBeginClean};
 ghost use Rattle.cleaner.specs.Passes.{survivor_ids, AreIds};
@@ -32,165 +32,129 @@ use replica::{Act, Op};
 use std::alloc::Global;
 use tally::Tallies;
 
-/// The steps of a pass: it begins, it copies entry by entry, its survivors are sealed, and after its commit the
-/// replicas of its victims are freed.
-pub trait Cleans {
-    /// The open pass has a survivor with this number.
-    ghost has_survivor: { Self → ℕ → Type 0 };
-    /// Some replica of a survivor is still to be sealed.
-    ghost may_seal: { Self → Type 0 };
-    /// Some replica of a former victim is still to be freed.
-    ghost may_free: { Self → Type 0 };
-
-    /// Begins a pass over these victims. The pass gets as many survivors as the victims' kept entries fill. The
-    /// survivors get the next numbers, and each gets the memory of a whole segment. A refusal changes nothing.
-    fn begin_clean(&mut self, victims: Row<u64>) -> Result<StepAnswer, Refusal>;
-
-    /// Treats the next entry of the open pass: copies it to a survivor if it is kept, and drops it otherwise. A refusal
-    /// changes nothing. The call allocates no memory.
-    fn copy(&mut self) -> Result<StepAnswer, Refusal>;
-
-    /// Returns the survivor that is sealed next, and the number of the replica. `None` means that no pass is open, that
-    /// the open pass has entries left to copy, or that all replicas of its survivors are sealed.
-    fn to_seal(&self) -> Option<(u64, usize)>;
-
-    /// Returns the op that seals a replica of this survivor, with the whole text of its image.
-    fn seal_op(&self, survivor: u64) -> Op<'_>
-        requires { has_survivor self.now survivor };
-
-    /// Counts the next Seal, which a backup took.
-    fn sealed(&mut self)
-        requires { may_seal self.old };
-
-    /// Returns the first segment that waits, and the number of its replica that is freed next. `None` means that no
-    /// replica waits to be freed.
-    fn to_free(&self) -> Option<(u64, usize)>;
-
-    /// Counts the next Free, which a backup took. A segment stops waiting when its last replica was freed.
-    fn freed(&mut self)
-        requires { may_free self.old };
+/// Begins a pass over these victims. The pass gets as many survivors as the victims' kept entries fill. The survivors
+/// get the next numbers, and each gets the memory of a whole segment. A refusal changes nothing.
+pub fn begin_clean(core: &mut Core, victims: Row<u64>) -> Result<StepAnswer, Refusal>
+    ensures begun { IfOk result (λ answer. BeginsPass core.old victims answer core.new) }
+    ensures may { OnOk result (MayBeginClean (log_of core.old) (memory_of core.old) victims) }
+    ensures valid { OnOk result (IsCore core.new) }
+    ensures refused { IfErr result (λ r. (clean_refusal core.old victims ≡ Some r)
+        ⊎ ((clean_refusal core.old victims ≡ None) × (r ≡ Refusal.NoMemory))) }
+    ensures err { OnErr result (core.new ≡ core.old) }
+{
+    let size = admit_pass(core, victims.as_slice())?;
+    core.closed.show_valid();
+    let survivors = Survivors {
+        first: core.next_id,
+        count: size.survivors,
+    };
+    core.closed.reserve(survivors.count + 1)?;
+    add_survivors(&mut core.closed, core.alloc, &core.config, survivors)?;
+    let pass = Pass::begin(victims, size.near, survivors, &core.closed, &core.index);
+    core.next_id += survivors.count as u64;
+    begin_tallies(&mut core.tallies, survivors);
+    core.pass = Some(pass);
+    core.post(&Posting::Survivors(survivors.first, survivors.count as u64));
+    Ok(StepAnswer::Begun(survivors))
 }
 
-impl Cleans for Core {
-    ghost has_survivor = { λ core survivor. IsAmong survivor (survivors_of core.pass) };
-
-    ghost may_seal = { λ core. IsSome (next_seal core) };
-
-    ghost may_free = { λ core. IsSome (next_free core) };
-
-    fn begin_clean(&mut self, victims: Row<u64>) -> Result<StepAnswer, Refusal>
-        ensures begun { IfOk result (λ answer. BeginsPass self.old victims answer self.new) }
-        ensures may { OnOk result (MayBeginClean (log_of self.old) (memory_of self.old) victims) }
-        ensures valid { OnOk result (IsCore self.new) }
-        ensures refused { IfErr result (λ r. (clean_refusal self.old victims ≡ Some r)
-            ⊎ ((clean_refusal self.old victims ≡ None) × (r ≡ Refusal.NoMemory))) }
-        ensures err { OnErr result (self.new ≡ self.old) }
-    {
-        let size = admit_pass(self, victims.as_slice())?;
-        self.closed.show_valid();
-        let survivors = Survivors {
-            first: self.next_id,
-            count: size.survivors,
-        };
-        self.closed.reserve(survivors.count + 1)?;
-        add_survivors(&mut self.closed, self.alloc, &self.config, survivors)?;
-        let pass = Pass::begin(victims, size.near, survivors, &self.closed, &self.index);
-        self.next_id += survivors.count as u64;
-        begin_tallies(&mut self.tallies, survivors);
-        self.pass = Some(pass);
-        self.post(&Posting::Survivors(survivors.first, survivors.count as u64));
-        Ok(StepAnswer::Begun(survivors))
+/// Treats the next entry of the open pass: copies it to a survivor if it is kept, and drops it otherwise. A refusal
+/// changes nothing. The call allocates no memory.
+pub fn copy(core: &mut Core) -> Result<StepAnswer, Refusal>
+    ensures copied { IfOk result (λ answer. Copies core.old answer core.new) }
+    ensures valid { OnOk result (IsCore core.new) }
+    ensures refused { IfErr result (λ r. copy_refusal core.old ≡ Some r) }
+    ensures err { OnErr result (core.new ≡ core.old) }
+{
+    core.admit()?;
+    core.closed.show_valid();
+    let head = core.head.id();
+    let new = opening_id(&core.head);
+    let Some(pass) = &mut core.pass else {
+        return Err(Refusal::Nothing);
+    };
+    if pass.is_at_end() {
+        return Err(Refusal::Nothing);
     }
+    let copied = copy_next(
+        pass,
+        &mut core.closed,
+        &mut core.index,
+        &mut core.tallies,
+        head,
+        new,
+    );
+    Ok(copy_answer(copied))
+}
 
-    fn copy(&mut self) -> Result<StepAnswer, Refusal>
-        ensures copied { IfOk result (λ answer. Copies self.old answer self.new) }
-        ensures valid { OnOk result (IsCore self.new) }
-        ensures refused { IfErr result (λ r. copy_refusal self.old ≡ Some r) }
-        ensures err { OnErr result (self.new ≡ self.old) }
-    {
-        self.admit()?;
-        self.closed.show_valid();
-        let head = self.head.id();
-        let new = opening_id(&self.head);
-        let Some(pass) = &mut self.pass else {
-            return Err(Refusal::Nothing);
-        };
-        if pass.is_at_end() {
-            return Err(Refusal::Nothing);
-        }
-        let copied = copy_next(
-            pass,
-            &mut self.closed,
-            &mut self.index,
-            &mut self.tallies,
-            head,
-            new,
-        );
-        Ok(copy_answer(copied))
+/// Returns the survivor that is sealed next, and the number of the replica. `None` means that no pass is open, that
+/// the open pass has entries left to copy, or that all replicas of its survivors are sealed.
+pub fn to_seal(core: &Core) -> Option<(u64, usize)>
+    ensures next { result ≡ next_seal core.now }
+    ensures survivor { IfSome result (λ next. IsAmong next.0 (survivors_of core.now.pass)) }
+    ensures few { IfSome result (λ next. next.1 < core.now.config.replicas) }
+    ensures refused { step_refusal core.now ≡ None
+        → seal_refusal core.now ≡ (if is_none result then Some Refusal.Nothing else None) }
+{
+    match &core.pass {
+        None => None,
+        Some(pass) => pass.next_seal(core.config.replicas as usize, &core.closed),
     }
+}
 
-    fn to_seal(&self) -> Option<(u64, usize)>
-        ensures next { result ≡ next_seal self.now }
-        ensures survivor { IfSome result (λ next. IsAmong next.0 (survivors_of self.now.pass)) }
-        ensures few { IfSome result (λ next. next.1 < self.now.config.replicas) }
-        ensures refused { step_refusal self.now ≡ None
-            → seal_refusal self.now ≡ (if is_none result then Some Refusal.Nothing else None) }
-    {
-        match &self.pass {
-            None => None,
-            Some(pass) => pass.next_seal(self.config.replicas as usize, &self.closed),
-        }
+/// Returns the op that seals a replica of this survivor, with the whole text of its image.
+pub fn seal_op(core: &Core, survivor: u64) -> Op<'_>
+    requires { IsAmong survivor (survivors_of core.now.pass) }
+    ensures { let d = core.entry.now in shown_op result ≡ record {
+      master = d.config.master;
+      segment = survivor;
+      act = Seal (text_of (images_of d survivor));
+    } }
+{
+    let Some(image) = image_of(&core.head, &core.closed, survivor) else {
+        unreachable!()
+    };
+    let text = image.bytes();
+    Op {
+        master: core.config.master,
+        segment: survivor,
+        act: Act::Seal(text),
     }
+}
 
-    fn seal_op(&self, survivor: u64) -> Op<'_>
-        requires { IsAmong survivor (survivors_of self.now.pass) }
-        ensures { let d = self.entry.now in shown_op result ≡ record {
-          master = d.config.master;
-          segment = survivor;
-          act = Seal (text_of (images_of d survivor));
-        } }
-    {
-        let Some(image) = image_of(&self.head, &self.closed, survivor) else {
-            unreachable!()
-        };
-        let text = image.bytes();
-        Op {
-            master: self.config.master,
-            segment: survivor,
-            act: Act::Seal(text),
-        }
-    }
+/// Counts the next Seal, which a backup took.
+pub fn sealed(core: &mut Core)
+    requires { IsSome (next_seal core.old) }
+    ensures sealed { core.new ≡ sealed_data core.old }
+    ensures valid { IsCore core.new }
+{
+    let Some((survivor, _)) = to_seal(core) else {
+        unreachable!()
+    };
+    core.closed.add_replica(survivor);
+}
 
-    fn sealed(&mut self)
-        requires { IsSome (next_seal self.old) }
-        ensures sealed { self.new ≡ sealed_data self.old }
-        ensures valid { IsCore self.new }
-    {
-        let Some((survivor, _)) = self.to_seal() else {
-            unreachable!()
-        };
-        self.closed.add_replica(survivor);
+/// Returns the first segment that waits, and the number of its replica that is freed next. `None` means that no
+/// replica waits to be freed.
+pub fn to_free(core: &Core) -> Option<(u64, usize)>
+    ensures next { result ≡ next_free core.now }
+    ensures few { IfSome result (λ next. next.1 < core.now.config.replicas) }
+    ensures refused { step_refusal core.now ≡ None
+        → free_refusal core.now ≡ (if is_none result then Some Refusal.Nothing else None) }
+{
+    match core.waiting.first() {
+        None => None,
+        Some(first) => Some((first.segment, first.freed as usize)),
     }
+}
 
-    fn to_free(&self) -> Option<(u64, usize)>
-        ensures next { result ≡ next_free self.now }
-        ensures few { IfSome result (λ next. next.1 < self.now.config.replicas) }
-        ensures refused { step_refusal self.now ≡ None
-            → free_refusal self.now ≡ (if is_none result then Some Refusal.Nothing else None) }
-    {
-        match self.waiting.first() {
-            None => None,
-            Some(first) => Some((first.segment, first.freed as usize)),
-        }
-    }
-
-    fn freed(&mut self)
-        requires { IsSome (next_free self.old) }
-        ensures freed { self.new ≡ freed_data self.old }
-        ensures valid { IsCore self.new }
-    {
-        free_one(&mut self.waiting);
-    }
+/// Counts the next Free, which a backup took. A segment stops waiting when its last replica was freed.
+pub fn freed(core: &mut Core)
+    requires { IsSome (next_free core.old) }
+    ensures freed { core.new ≡ freed_data core.old }
+    ensures valid { IsCore core.new }
+{
+    free_one(&mut core.waiting);
 }
 
 /// Counts a Free of the first segment that waits. The segment stops waiting when its last replica was freed.

@@ -15,38 +15,31 @@ use compactor::{LogSet, compact};
 use log_head::Head;
 use master_state::{Core, Refusal, StepAnswer};
 
-/// How a core compacts a segment.
-pub trait Compacts {
-    /// Compacts a closed segment: its image becomes its kept entries, and the index then leads to their new places. The
-    /// replicas stay as they are. A refusal changes nothing.
-    fn compact(&mut self, id: u64) -> Result<StepAnswer, Refusal>;
-}
-
-impl Compacts for Core {
-    fn compact(&mut self, id: u64) -> Result<StepAnswer, Refusal>
-        ensures compacted { IfOk result (λ answer. Compacts self.old id answer self.new) }
-        ensures valid { OnOk result (IsCore self.new) }
-        ensures refused { IfErr result (λ r. (compact_refusal self.old id ≡ Some r)
-            ⊎ ((compact_refusal self.old id ≡ None) × (r ≡ Refusal.NoMemory))) }
-        ensures err { OnErr result (self.new ≡ self.old) }
-    {
-        admit_compaction(self, id)?;
-        self.closed.show_valid();
-        let log = LogSet {
-            closed: &self.closed,
-            head: self.head.id(),
-            new: opening_id(&self.head),
-        };
-        let Some(image) = self.closed.get(id) else {
-            unreachable!()
-        };
-        let segment = compact(self.alloc, id, &image, &mut self.index, &log)?;
-        let len = segment.bytes().len() as u64;
-        let Ok(()) = self.closed.replace(id, segment) else {
-            unreachable!()
-        };
-        Ok(StepAnswer::Compacted(id, len))
-    }
+/// Compacts a closed segment: its image becomes its kept entries, and the index then leads to their new places. The
+/// replicas stay as they are. A refusal changes nothing.
+pub fn compact_segment(core: &mut Core, id: u64) -> Result<StepAnswer, Refusal>
+    ensures compacted { IfOk result (λ answer. Compacts core.old id answer core.new) }
+    ensures valid { OnOk result (IsCore core.new) }
+    ensures refused { IfErr result (λ r. (compact_refusal core.old id ≡ Some r)
+        ⊎ ((compact_refusal core.old id ≡ None) × (r ≡ Refusal.NoMemory))) }
+    ensures err { OnErr result (core.new ≡ core.old) }
+{
+    admit_compaction(core, id)?;
+    core.closed.show_valid();
+    let log = LogSet {
+        closed: &core.closed,
+        head: core.head.id(),
+        new: opening_id(&core.head),
+    };
+    let Some(image) = core.closed.get(id) else {
+        unreachable!()
+    };
+    let segment = compact(core.alloc, id, &image, &mut core.index, &log)?;
+    let len = segment.bytes().len() as u64;
+    let Ok(()) = core.closed.replace(id, segment) else {
+        unreachable!()
+    };
+    Ok(StepAnswer::Compacted(id, len))
 }
 
 /// Returns the number of the head that a roll is opening, or `None` without a roll.

@@ -20,78 +20,63 @@ use master_state::Core;
 use segment::SegmentRef;
 use tally::{Tally, opening_len, stones_in};
 
-/// What a core has counted of its segments.
-pub trait Counts {
-    /// Returns how many bytes of a closed segment's objects and tombstones are kept, or `None` if no closed segment has
-    /// this id. The call looks at no entry if the segment has a fresh tally.
-    fn kept_bytes(&self, id: u64) -> Option<usize>;
-
-    /// Returns how many bytes the image of a closed segment has, or `None` if no closed segment has this id.
-    fn image_len(&self, id: u64) -> Option<usize>;
-
-    /// Returns how many bytes the image of a closed segment has before its first object or tombstone, or `None` if no
-    /// closed segment has this id.
-    fn opening_len(&self, id: u64) -> Option<usize>;
-
-    /// Counts a closed segment anew, so that its tally is fresh. The call reads the whole segment. It looks into the
-    /// index only if the segment has no tally. Without memory the segment may stay without a tally.
-    fn recount(&mut self, id: u64);
-
-    /// Returns what is counted of a segment, or `None` if it has no tally.
-    fn tally(&self, id: u64) -> Option<Tally>;
+/// Returns how many bytes of a closed segment's objects and tombstones are kept, or `None` if no closed segment has
+/// this id. The call looks at no entry if the segment has a fresh tally.
+pub fn kept_bytes_of(core: &Core, id: u64) -> Option<usize>
+    ensures { result ≡ option_map (λ (es : List Entry). kept_bytes core.now id) (segment_of core.now.closed id) }
+{
+    let log = LogSet {
+        closed: &core.closed,
+        head: core.head.id(),
+        new: opening_id(&core.head),
+    };
+    match core.closed.get(id) {
+        None => None,
+        Some(image) => Some(kept_in(core, id, &image, &log)),
+    }
 }
 
-impl Counts for Core {
-    fn kept_bytes(&self, id: u64) -> Option<usize>
-        ensures { result ≡ option_map (λ (es : List Entry). kept_bytes self.now id) (segment_of self.now.closed id) }
-    {
-        let log = LogSet {
-            closed: &self.closed,
-            head: self.head.id(),
-            new: opening_id(&self.head),
-        };
-        match self.closed.get(id) {
-            None => None,
-            Some(image) => Some(kept_in(self, id, &image, &log)),
-        }
+/// Returns how many bytes the image of a closed segment has, or `None` if no closed segment has this id.
+pub fn image_len_of(core: &Core, id: u64) -> Option<usize>
+    ensures { result ≡ option_map (λ (es : List Entry). length (text_of es)) (segment_of core.now.closed id) }
+{
+    match core.closed.get(id) {
+        None => None,
+        Some(image) => Some(image.bytes().len()),
     }
+}
 
-    fn image_len(&self, id: u64) -> Option<usize>
-        ensures { result ≡ option_map (λ (es : List Entry). length (text_of es)) (segment_of self.now.closed id) }
-    {
-        match self.closed.get(id) {
-            None => None,
-            Some(image) => Some(image.bytes().len()),
-        }
+/// Returns how many bytes the image of a closed segment has before its first object or tombstone, or `None` if no
+/// closed segment has this id.
+pub fn opening_len_of(core: &Core, id: u64) -> Option<usize>
+    ensures { result ≡ option_map (λ (es : List Entry). length (text_of (front_of es)))
+        (segment_of core.now.closed id) }
+{
+    match core.closed.get(id) {
+        None => None,
+        Some(image) => Some(opening_len(&image)),
     }
+}
 
-    fn opening_len(&self, id: u64) -> Option<usize>
-        ensures { result ≡ option_map (λ (es : List Entry). length (text_of (front_of es)))
-            (segment_of self.now.closed id) }
-    {
-        match self.closed.get(id) {
-            None => None,
-            Some(image) => Some(opening_len(&image)),
-        }
-    }
+/// Counts a closed segment anew, so that its tally is fresh. The call reads the whole segment. It looks into the index
+/// only if the segment has no tally. Without memory the segment may stay without a tally.
+pub fn recount(core: &mut Core, id: u64)
+    ensures same { core.new ≡ core.old }
+    ensures valid { IsCore core.new }
+{
+    core.show_valid();
+    let Some((live, stones)) = counted(core, id) else {
+        return;
+    };
+    core.tallies.put(id, live, stones);
+}
 
-    fn recount(&mut self, id: u64)
-        ensures same { self.new ≡ self.old }
-        ensures valid { IsCore self.new }
-    {
-        self.show_valid();
-        let Some((live, stones)) = counted(self, id) else {
-            return;
-        };
-        self.tallies.put(id, live, stones);
-    }
-
-    fn tally(&self, id: u64) -> Option<Tally>
-        ensures { IfSome result (λ row. (row.segment ≡ id)
-            × IsRight (log_set_ids self.now) self.now.index (images_of self.now) row) }
-    {
-        self.tallies.get(id)
-    }
+/// Returns what is counted of a segment, or `None` if it has no tally.
+pub fn tally_of(core: &Core, id: u64) -> Option<Tally>
+    ensures { IfSome result (λ row. (row.segment ≡ id)
+        × IsRight (log_set_ids core.now) core.now.index (images_of core.now) row) }
+{
+    core.tallies.get(id)
 }
 
 /// Returns how many bytes a closed segment's live objects and its kept tombstones have, or `None` if no closed segment

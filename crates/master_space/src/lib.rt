@@ -1,9 +1,10 @@
 //! How a core gets memory back from its log. The functions of this crate hand no op to the fleet.
 //!
-//! `Compacts` replaces the image of a closed segment by its kept entries. `Cleans` has the steps of a pass. A pass
-//! copies the kept entries of some segments, its victims, into new segments, its survivors. The roll that begins when
-//! the pass is ready commits it (`master_rolls`). `Chooses` says which victims the next pass takes, and which step a
-//! cleaner takes next (`specs/Choosing.antt`). `Measures` lists the sizes of the live objects.
+//! `compact_segment` replaces the image of a closed segment by its kept entries. `begin_clean` begins a pass. A pass
+//! copies the kept entries of some segments, its victims, into new segments, its survivors (`copy`), and hands these to
+//! backups (`seal_op`). The roll that begins when the pass is ready commits it (`master_rolls`). `choose` says which
+//! victims the next pass takes, and `next_step` which step a cleaner takes next (`specs/Choosing.antt`). `sorted_sizes`
+//! lists the sizes of the live objects.
 #![tactic(auto)]
 
 mod candidates;
@@ -17,9 +18,9 @@ mod pending;
 mod sizes;
 mod victims;
 
-pub use choosing::Chooses;
-pub use cleaning::Cleans;
-pub use compacting::Compacts;
-pub use counts::Counts;
+pub use choosing::{choose, next_step};
+pub use cleaning::{begin_clean, copy, freed, seal_op, sealed, to_free, to_seal};
+pub use compacting::compact_segment;
+pub use counts::{image_len_of, kept_bytes_of, opening_len_of, recount, tally_of};
 pub use pending::pending_step;
-pub use sizes::Measures;
+pub use sizes::sorted_sizes;

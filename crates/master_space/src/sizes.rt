@@ -13,22 +13,15 @@ use hash_index::{Held, Index, Place};
 use master_state::Core;
 use segment::SegmentRef;
 
-/// The sizes of the live objects.
-pub trait Measures {
-    /// Lists the sizes of the live objects, sorted by table, then by place, and changes nothing. A size has the table
-    /// and the place of the object's key, and the length of the object's entry in bytes.
-    fn sizes(&self) -> Result<Vec<Size>, NoMemory>;
-}
-
-impl Measures for Core {
-    fn sizes(&self) -> Result<Vec<Size>, NoMemory>
-        ensures { IfOk result (λ sizes. AreSizesOf (state_now self.now).contents sizes.items) }
-    {
-        self.show_valid();
-        let mut sizes = live_sizes(self)?;
-        sort(&mut sizes);
-        Ok(sizes)
-    }
+/// Lists the sizes of the live objects, sorted by table, then by place, and changes nothing. A size has the table and
+/// the place of the object's key, and the length of the object's entry in bytes.
+pub fn sorted_sizes(core: &Core) -> Result<Vec<Size>, NoMemory>
+    ensures { IfOk result (λ sizes. AreSizesOf (state_now core.now).contents sizes.items) }
+{
+    core.show_valid();
+    let mut sizes = live_sizes(core)?;
+    sort(&mut sizes);
+    Ok(sizes)
 }
 
 /// Lists the sizes of the live objects, in the order in which the objects lie in the images.

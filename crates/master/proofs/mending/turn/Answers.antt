@@ -356,7 +356,7 @@ pub returns-clause-accepted : goal.returns-clause-accepted
 returns-clause-accepted g c =
     let k = (goal.at.returns-clause-accepted g c).After-ledger_of_turn-core-inside in
     let a = t g k in
-    let is : c.mended.new.self ≡ mended_data (d g a) mend.Turn =
+    let is : c.mended.new.core ≡ mended_data (d g a) mend.Turn =
     c.mended.ensures.mended ∙ ap (λ (m : MasterData). mended_data m (mend.Open 0)) (left_is g k) in
     let own = subst IsCore is c.mended.ensures.valid in
     rw (is, backup g a, id g a)
@@ -367,7 +367,7 @@ pub returns-clause-served : goal.returns-clause-served
 returns-clause-served g c =
     let k = (goal.at.returns-clause-served g c).After-ledger_of_turn-core-inside in
     let a = t g k in
-    let is : c.mended.new.self ≡ mended_data (d g a) mend.Turn =
+    let is : c.mended.new.core ≡ mended_data (d g a) mend.Turn =
     c.mended.ensures.mended ∙ ap (λ (m : MasterData). mended_data m (mend.Open 0)) (left_is g k) in
     subst (λ (x : MasterData). StaysServed (d g a) (f g a) x (after g k)) (sym is)
     (turn_mended (d g a) (f g a) c.requires.running c.requires.next c.requires.served (may g a) (new g a)

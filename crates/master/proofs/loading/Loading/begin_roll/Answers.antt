@@ -20,12 +20,12 @@ loaded_then d e f (Err r) loaded is may core same = subst (λ (m : MasterData). 
 
 pub invariant_of-self : goal.invariant_of-self
 invariant_of-self g c =
-    loaded_then c.self.inside.core c.begin_roll.new.self (g.F.Fleet.state c.self.inside.fleet)
+    loaded_then c.self.inside.core c.begin_roll.new.core (g.F.Fleet.state c.self.inside.fleet)
     c.begin_roll.result c.self.invariant
     c.begin_roll.ensures.begun c.begin_roll.ensures.may c.begin_roll.ensures.valid c.begin_roll.ensures.err
 
 pub returns-clause-keeps : goal.returns-clause-keeps
 returns-clause-keeps g c =
-    rw (← c.self.view_is) (roll_keeps c.self.inside.core c.begin_roll.new.self
+    rw (← c.self.view_is) (roll_keeps c.self.inside.core c.begin_roll.new.core
     (g.F.Fleet.state c.self.inside.fleet) c.begin_roll.result
     c.begin_roll.ensures.begun c.begin_roll.ensures.err)

@@ -33,12 +33,12 @@ declines d e f victims (Err r) is same = (λ i. record { knows = same i; fleet =
 
 pub returns-clause-refused : goal.returns-clause-refused
 returns-clause-refused g c =
-    rw (← c.self.view_is) (declines c.self.inside.core c.begin_clean.new.self
+    rw (← c.self.view_is) (declines c.self.inside.core c.begin_clean.new.core
     (g.F.Fleet.state c.self.inside.fleet) c.args.victims
     c.begin_clean.result c.begin_clean.ensures.refused c.begin_clean.ensures.err)
 
 pub invariant_of-self : goal.invariant_of-self
 invariant_of-self g c =
-    kept_then c.self.inside.core c.begin_clean.new.self (g.F.Fleet.state c.self.inside.fleet) c.args.victims
+    kept_then c.self.inside.core c.begin_clean.new.core (g.F.Fleet.state c.self.inside.fleet) c.args.victims
     c.begin_clean.result
     c.self.invariant c.begin_clean.ensures.begun c.begin_clean.ensures.valid c.begin_clean.ensures.err

@@ -22,7 +22,7 @@ kept_then d e f (Err r) kept is may core same = subst (λ (m : MasterData). IsWe
 
 pub invariant_of-self : goal.invariant_of-self
 invariant_of-self g c =
-    kept_then c.self.inside.core c.begin_roll.new.self (g.F.Fleet.state c.self.inside.fleet)
+    kept_then c.self.inside.core c.begin_roll.new.core (g.F.Fleet.state c.self.inside.fleet)
     c.begin_roll.result c.self.invariant
     c.begin_roll.ensures.begun c.begin_roll.ensures.may c.begin_roll.ensures.valid c.begin_roll.ensures.err
 
@@ -35,5 +35,5 @@ accepts d e f (Err r) is = tt
 
 pub returns-clause-accepted : goal.returns-clause-accepted
 returns-clause-accepted g c =
-    rw (← c.self.view_is) (accepts c.self.inside.core c.begin_roll.new.self (g.F.Fleet.state c.self.inside.fleet)
+    rw (← c.self.view_is) (accepts c.self.inside.core c.begin_roll.new.core (g.F.Fleet.state c.self.inside.fleet)
     c.begin_roll.result c.begin_roll.ensures.begun)

@@ -18,6 +18,6 @@ kept_then d e f id (Err r) kept is core same = subst (λ (m : MasterData). IsWel
 
 pub invariant_of-self : goal.invariant_of-self
 invariant_of-self g c =
-    kept_then c.self.inside.core c.compact.new.self (g.F.Fleet.state c.self.inside.fleet) c.args.id
-    c.compact.result c.self.invariant
-    c.compact.ensures.compacted c.compact.ensures.valid c.compact.ensures.err
+    kept_then c.self.inside.core c.compact_segment.new.core (g.F.Fleet.state c.self.inside.fleet) c.args.id
+    c.compact_segment.result c.self.invariant
+    c.compact_segment.ensures.compacted c.compact_segment.ensures.valid c.compact_segment.ensures.err

@@ -18,5 +18,5 @@ kept_then d e f (Err r) kept is core same = subst (λ (m : MasterData). IsWellKe
 
 pub invariant_of-self : goal.invariant_of-self
 invariant_of-self g c =
-    kept_then c.self.inside.core c.copy.new.self (g.F.Fleet.state c.self.inside.fleet) c.copy.result c.self.invariant
+    kept_then c.self.inside.core c.copy.new.core (g.F.Fleet.state c.self.inside.fleet) c.copy.result c.self.invariant
     c.copy.ensures.copied c.copy.ensures.valid c.copy.ensures.err

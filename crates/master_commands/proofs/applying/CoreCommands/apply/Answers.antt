@@ -1,4 +1,4 @@
-use Rattle.std.proofs.Common.{◌≡◌, ◌⊎◌, inr, Some, None, refl, sym, subst, ◌∙◌}
+use Rattle.std.proofs.Common.{◌≡◌, ◌⊎◌, Some, None, subst}
 use Rattle.std.proofs.lemmas.Result.{err_from_is_err_and}
 use Rattle.versioned_map.specs.declared.command.Command.{Command}
 use Rattle.master_state.specs.declared.step.Refusal.TheVariants as refusal
@@ -6,33 +6,17 @@ use Rattle.master_state.specs.Causes.{command_refusal}
 use Rattle.master_state.specs.Steps.{MayApplyNow}
 use Rattle.master_commands.proofs.applying.CoreCommands.apply.Goals as goal
 
-pub returns-in_err-judged-clause-refused : goal.returns-in_err-judged-clause-refused
-returns-in_err-judged-clause-refused c =
+pub returns-in_err-place-clause-refused : goal.returns-in_err-place-clause-refused
+returns-in_err-place-clause-refused c =
     let d = c.args.self.now in
-    let r = c.in_err-judged.field-0.0 in
+    let r = c.in_err-place.field-0.0 in
     let failed = err_from_is_err_and c.from_residual.result c.from_residual.ensures.1 in
     rw (failed.1, failed.2)
     (subst (λ (k : Command). (command_refusal d k ≡ Some r)
     ⊎ ((command_refusal d k ≡ None) × (r ≡ refusal.NoMemory)))
-    c.view_command.ensures c.in_err-judged.ensures.refused)
-
-pub add-requires-clause-passed : goal.add-requires-clause-passed
-add-requires-clause-passed c =
-    subst (λ (k : Command). command_refusal c.args.self.now k ≡ None)
-    (c.view_command.ensures ∙ sym c.view_command-2.ensures)
-    c.in_ok-judged.ensures.passed
-
-pub returns-in_err-place-clause-refused : goal.returns-in_err-place-clause-refused
-returns-in_err-place-clause-refused c =
-    let failed = err_from_is_err_and c.from_residual-in_err-place.result c.from_residual-in_err-place.ensures.1 in
-    rw (failed.1, failed.2)
-    (inr (
-      subst (λ (k : Command). command_refusal c.args.self.now k ≡ None) c.view_command.ensures
-          c.in_ok-judged.ensures.passed,
-      refl,
-    ))
+    c.view_command.ensures c.in_err-place.ensures.refused)
 
 pub returns-clause-may : goal.returns-clause-may
 returns-clause-may c =
-    subst (λ (k : Command). MayApplyNow c.args.self.now c.args.seat k) c.view_command-2.ensures
+    subst (λ (k : Command). MayApplyNow c.args.self.now c.args.seat k) c.view_command.ensures
     c.in_ok-place.ensures.may
