@@ -20,6 +20,8 @@ use Rattle.recovery.specs.master.master_state.declared.config.Config.{Config}
 use Rattle.recovery.specs.master.master_state.declared.config.ConfigFault.{ConfigFault}
 use Rattle.recovery.specs.master.master_state.declared.config.ConfigFault.TheVariants.{BadBackups, BadSegment}
 use Rattle.recovery.specs.master.master_state.declared.config.ConfigFault.TheVariants.{BadBudget, BadLive}
+use Rattle.recovery.specs.master.master_state.declared.step.StepAnswer.{StepAnswer}
+use Rattle.recovery.specs.master.master_state.declared.step.StepAnswer.TheVariants as step_answer
 use Rattle.recovery.specs.master.master_state.Names.{refusal_text, config_fault_name}
 use Rattle.recovery.specs.master.declared.segments.Role.{Role}
 use Rattle.recovery.specs.master.declared.segments.Role.TheVariants as role
@@ -141,6 +143,23 @@ part_text q =
 abbrev pub will_text : List Part → List ℕ
 will_text qs = flat_map part_text qs ++ codes "partitions " ++ decimal (partitions_of qs) ++ 10 ∷ []
 
+-- a step that was made; of a command that was applied, just its reply
+abbrev pub step_text : StepAnswer → List ℕ
+step_text (step_answer.Applied place reply) = reply_text reply
+step_text (step_answer.Extended backup segment) = op_text (codes "extend ") backup segment
+step_text (step_answer.Opened backup segment) = op_text (codes "open ") backup segment
+step_text (step_answer.Closed backup segment) = op_text (codes "close ") backup segment
+step_text (step_answer.Rolling id) = codes "opening " ++ decimal id ++ 10 ∷ []
+step_text (step_answer.Compacted segment len) = op_text (codes "compacted ") segment len
+step_text (step_answer.Begun survivors) = begun_text survivors
+step_text step_answer.Moved = codes "moved" ++ 10 ∷ []
+step_text step_answer.Carried = codes "carried" ++ 10 ∷ []
+step_text step_answer.Dropped = codes "dropped" ++ 10 ∷ []
+step_text (step_answer.Sealed backup) = codes "sealed " ++ decimal backup ++ 10 ∷ []
+step_text (step_answer.Freed segment backup) = op_text (codes "freed ") segment backup
+step_text (step_answer.Raised id) = codes "raise " ++ decimal id ++ 10 ∷ []
+step_text (step_answer.Repaired backup segment) = op_text (codes "repair ") backup segment
+
 -- ---- answers
 
 abbrev pub answer_text : Answer → List ℕ
@@ -158,19 +177,7 @@ answer_text (answer.Lost backup) = codes "lost " ++ decimal backup ++ 10 ∷ []
 answer_text (answer.Recovered rebuilt) = rebuilt_text rebuilt
 answer_text (answer.NotRecovered fault) = codes "refused " ++ recovery_fault_text fault ++ 10 ∷ []
 answer_text (answer.Head id) = codes "head " ++ decimal id ++ 10 ∷ []
-answer_text (answer.Opening id) = codes "opening " ++ decimal id ++ 10 ∷ []
-answer_text (answer.Compacted segment len) = op_text (codes "compacted ") segment len
-answer_text (answer.Extended backup segment) = op_text (codes "extend ") backup segment
-answer_text (answer.Opened backup segment) = op_text (codes "open ") backup segment
-answer_text (answer.Closed backup segment) = op_text (codes "close ") backup segment
-answer_text (answer.Raised id) = codes "raise " ++ decimal id ++ 10 ∷ []
-answer_text (answer.Repaired backup segment) = op_text (codes "repair ") backup segment
-answer_text (answer.Begun survivors) = begun_text survivors
-answer_text answer.Moved = codes "moved" ++ 10 ∷ []
-answer_text answer.Carried = codes "carried" ++ 10 ∷ []
-answer_text answer.Dropped = codes "dropped" ++ 10 ∷ []
-answer_text (answer.Sealed backup) = codes "sealed " ++ decimal backup ++ 10 ∷ []
-answer_text (answer.Freed segment backup) = op_text (codes "freed ") segment backup
+answer_text (answer.Step made) = step_text made
 answer_text (answer.Cleaned survivors head) = cleaned_text survivors head
 answer_text (answer.Tended made) = codes "tended " ++ decimal made ++ 10 ∷ []
 answer_text (answer.Counted clients rounds calls) = codes "clients " ++ decimal clients ++ 32 ∷ op_text [] rounds calls

@@ -7,7 +7,7 @@ ghost use Rattle.answers.specs.Texts.{answer_text, hex_digits, hex_text, object_
 ghost use Rattle.answers.specs.Texts.{part_text, place_text, will_text, take_fault_text};
 ghost use Rattle.recovery.specs.master.cleaner.Passes.{survivor_ids};
 ghost use Rattle.answers.specs.Texts.{asked_text, begun_text, cleaned_text, op_text, log_text, room_text, spaced_text};
-ghost use Rattle.answers.specs.Texts.{label_text, limit_text, live_text, needs_text, state_text};
+ghost use Rattle.answers.specs.Texts.{label_text, limit_text, live_text, needs_text, state_text, step_text};
 ghost use Rattle.answers.specs.Errors.{IsHanded};
 ghost use Rattle.lines.specs.Grammar.{fate_word};
 ghost use Rattle.std.specs.List.{flat_map};
@@ -22,7 +22,7 @@ use arrayvec::ArrayString;
 use entry::{ObjectRef, Row, Version};
 use history::{ReplyRef, view_reply};
 use itoa::write_digits;
-use recovery::master::{Refusal, Reply, SegmentRow, Survivors};
+use recovery::master::{Refusal, Reply, SegmentRow, StepAnswer, Survivors};
 use recovery::{Rebuilt, RecoveryFault};
 use replica::{Label, Labels, TakeFault};
 use std::fmt::{Display, Write as _};
@@ -62,32 +62,8 @@ pub enum Answer {
     NumbersSpent,
     /// The number of the head, which is open.
     Head(u64),
-    /// A roll began. This is the number of the head that it opens.
-    Opening(u64),
-    /// The segment that was compacted, and how many bytes its image has now.
-    Compacted(u64, u64),
-    /// The backup and the segment of a push that extended a replica.
-    Extended(u64, u64),
-    /// The backup and the segment of a push that opened a replica.
-    Opened(u64, u64),
-    /// The backup and the segment of a push that closed a replica.
-    Closed(u64, u64),
-    /// The head to which a push raised the registry.
-    Raised(u64),
-    /// The backup and the segment of a push that sealed a lost replica anew.
-    Repaired(u64, u64),
-    /// The survivors of the pass that began.
-    Begun(Survivors),
-    /// An object that is live was copied to a survivor.
-    Moved,
-    /// A tombstone that is kept was copied to a survivor.
-    Carried,
-    /// An entry that isn't kept was passed over.
-    Dropped,
-    /// The backup of a replica of a survivor that was sealed.
-    Sealed(u64),
-    /// The segment and the backup of a replica that was freed.
-    Freed(u64, u64),
+    /// What the one step did that was asked for.
+    Step(StepAnswer),
     /// The survivors of the cleaning that was made, and the head that it ended with.
     Cleaned(Survivors, u64),
     /// How many steps the cleaner made.
@@ -149,19 +125,7 @@ pub fn write_answer<W: Write>(writer: &mut W, answer: &Answer) -> Result<(), Wri
         Answer::NotRetired(fault) => write_take_fault(writer, *fault),
         Answer::NumbersSpent => hand(writer, b"refused NumbersSpent\n"),
         Answer::Head(id) => write_number(writer, b"head ", *id, b'\n'),
-        Answer::Opening(id) => write_number(writer, b"opening ", *id, b'\n'),
-        Answer::Compacted(segment, len) => write_op(writer, b"compacted ", *segment, *len),
-        Answer::Extended(backup, segment) => write_op(writer, b"extend ", *backup, *segment),
-        Answer::Opened(backup, segment) => write_op(writer, b"open ", *backup, *segment),
-        Answer::Closed(backup, segment) => write_op(writer, b"close ", *backup, *segment),
-        Answer::Raised(id) => write_number(writer, b"raise ", *id, b'\n'),
-        Answer::Repaired(backup, segment) => write_op(writer, b"repair ", *backup, *segment),
-        Answer::Begun(survivors) => write_begun(writer, *survivors),
-        Answer::Moved => hand(writer, b"moved\n"),
-        Answer::Carried => hand(writer, b"carried\n"),
-        Answer::Dropped => hand(writer, b"dropped\n"),
-        Answer::Sealed(backup) => write_number(writer, b"sealed ", *backup, b'\n'),
-        Answer::Freed(segment, backup) => write_op(writer, b"freed ", *segment, *backup),
+        Answer::Step(made) => write_step(writer, made),
         Answer::Cleaned(survivors, head) => write_cleaned(writer, *survivors, *head),
         Answer::Tended(made) => write_number(writer, b"tended ", *made, b'\n'),
         Answer::Counted(clients, rounds, calls) => {
@@ -197,6 +161,29 @@ pub fn write_reply<W: Write>(writer: &mut W, reply: &ReplyRef<'_>) -> Result<(),
         ReplyRef::Mismatch(Some(version)) => {
             write_number(writer, b"mismatch ", version.get(), b'\n')
         }
+    }
+}
+
+/// Writes the line of a step that was made.
+#[inline(never)]
+fn write_step<W: Write>(writer: &mut W, made: &StepAnswer) -> Result<(), WriteFailed>
+    ensures { IsHanded (W.contents writer.old) (W.contents writer.new) (step_text made.now) result }
+{
+    match made {
+        StepAnswer::Applied(_, reply) => write_reply(writer, &view_reply(reply)),
+        StepAnswer::Extended(backup, segment) => write_op(writer, b"extend ", *backup, *segment),
+        StepAnswer::Opened(backup, segment) => write_op(writer, b"open ", *backup, *segment),
+        StepAnswer::Closed(backup, segment) => write_op(writer, b"close ", *backup, *segment),
+        StepAnswer::Rolling(id) => write_number(writer, b"opening ", *id, b'\n'),
+        StepAnswer::Compacted(segment, len) => write_op(writer, b"compacted ", *segment, *len),
+        StepAnswer::Begun(survivors) => write_begun(writer, *survivors),
+        StepAnswer::Moved => hand(writer, b"moved\n"),
+        StepAnswer::Carried => hand(writer, b"carried\n"),
+        StepAnswer::Dropped => hand(writer, b"dropped\n"),
+        StepAnswer::Sealed(backup) => write_number(writer, b"sealed ", *backup, b'\n'),
+        StepAnswer::Freed(segment, backup) => write_op(writer, b"freed ", *segment, *backup),
+        StepAnswer::Raised(id) => write_number(writer, b"raise ", *id, b'\n'),
+        StepAnswer::Repaired(backup, segment) => write_op(writer, b"repair ", *backup, *segment),
     }
 }
 

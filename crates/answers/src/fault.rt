@@ -64,8 +64,8 @@ impl fmt::Display for ScriptFault {
     }
 }
 
-/// Writes the line of a fault and, if the output explains faults, one that says why. Answers the program's exit status:
-/// 2 for a bad line, else 1. It takes no memory.
+/// Writes the line of a fault and, if the output explains faults, one that says why. Answers the program's exit
+/// status: 2 for a bad line, else 1. It takes no memory.
 pub fn report<W: Write + Drop>(fault: &ScriptFault, errors: &mut ErrorOutput<W>) -> u8
     ensures lines { Writes errors.old errors.new (fault_lines errors.old.explains fault.now) }
     ensures status { result ≡ exit_status fault.now }
@@ -126,7 +126,8 @@ pub fn report_config<W: Write + Drop>(
     2
 }
 
-/// Writes which options disagree, if the output explains faults, and by how much, unless it is the limit of live bytes.
+/// Writes which options disagree, if the output explains faults, and by how much, unless it is the limit of live
+/// bytes.
 fn write_config_why<W: Write + Drop>(
     errors: &mut ErrorOutput<W>,
     config: &Config,

@@ -9,8 +9,8 @@ use std::marker::Model;
 /// The most bytes of a short line.
 const SHORT_LINE_LEN: usize = 240;
 
-/// The end of a line of at most 240 bytes. It grows at its front, so no part needs to know how long the parts before it
-/// are. A contract sees its bytes.
+/// The end of a line of at most 240 bytes. It grows at its front, so no part needs to know how long the parts before
+/// it are. A contract sees its bytes.
 #[derive(Drop)]
 pub(crate) struct ShortLine {
     bytes: [u8; SHORT_LINE_LEN],

@@ -6,8 +6,7 @@ use Rattle.std.specs.Prelude.{Option, Some, None, Result, Ok, Err, slice_get}
 use Rattle.std.specs.Option.{option_map}
 use Rattle.backup.specs.State.{fleet_state}
 use Rattle.backup.specs.declared.fleet.MemoryFleet.{MemoryFleet}
-use Rattle.lines.specs.Grammar.{LineValue, Put, New, Cas, Get, Del, Roll, BeginRoll, Compact, Push, Clean, Begin, Copy}
-use Rattle.lines.specs.Grammar.{Seal, Free, Tend, Clients, Recover}
+use Rattle.lines.specs.Grammar.{LineValue, Put, New, Cas, Get, Del, Roll, Clean, Tend, Clients, Recover}
 use Rattle.versioned_map.specs.declared.command.Command.{Command}
 use Rattle.versioned_map.specs.declared.command.Command.TheVariants as command
 use Rattle.versioned_map.specs.declared.command.If.TheVariants.{Any, Absent, Version}
@@ -37,6 +36,7 @@ use Rattle.cluster.specs.Tended.{EndsTended, Gains, GainsNothing, GainsRoom, Has
 use Rattle.cluster.specs.Tended.{RunsAfterRoll, RunsLine, RunsTended, StaysOn, TellsLine, TendsOn}
 use Rattle.cluster.specs.Told.{command_of, IsStepRefusal, Tells}
 use Rattle.cluster.specs.Waits.{IsReplyAt, MakesOpen, MakesTry, Serves}
+use Rattle.cluster.proofs.ByHand.{of_step}
 use Rattle.cluster.proofs.LeastHeads.{IsUpTo, StaysUnraised, command_made, made, same_node}
 use Rattle.cluster.proofs.Rolls.{later_told}
 use Rattle.cluster.proofs.Standing.{is_up_none, same_opening}
@@ -117,17 +117,10 @@ line_asks (command.Delete key) = refl
 -- a command's line asks for no step
 no_step : (config : Config) (life : Life) (line : LineValue) (r : Refusal) (c : Command) → command_of line ≡ Some c
     → IsStepRefusal config life line r → ⊥
-no_step config life BeginRoll r c asks is = absurd (cc)
-no_step config life (Compact segment) r c asks is = absurd (cc)
-no_step config life Push r c asks is = absurd (cc)
-no_step config life (Begin victims) r c asks is = absurd (cc)
-no_step config life Copy r c asks is = absurd (cc)
-no_step config life Seal r c asks is = absurd (cc)
-no_step config life Free r c asks is = absurd (cc)
 no_step config life Roll r c asks is = absurd (cc)
 no_step config life (Clean victims) r c asks is = absurd (cc)
 no_step config life (Tend steps) r c asks is = absurd (cc)
-no_step config life line r c asks is = is
+no_step config life line r c asks is = let alone = (of_step is.0 line is.1).alone in absurd (cc)
 
 none_more : (xs more : List Record) → length (xs ++ more) ≡ length xs → more ≡ []
 none_more [] [] same = refl

@@ -1,19 +1,14 @@
--- A node without a master rolls nothing, and shows nothing of a master.
+-- A node without a master makes no room, and shows nothing of a master.
 use Rattle.std.proofs.Common.{◌≡◌, ℕ, false, refl}
 use Rattle.std.specs.Prelude.{Err}
 use Rattle.answers.specs.driving.master.master_state.declared.config.Config.{Config}
 use Rattle.answers.specs.declared.answer.Answer.TheVariants as answer
 use Rattle.cluster.specs.declared.node.Node.{Node}
 use Rattle.cluster.specs.declared.node.Node.TheVariants.{Up, Down, Changing}
-use Rattle.cluster.specs.Served.{MakesRoll, is_up}
+use Rattle.cluster.specs.Served.{is_up}
 use Rattle.cluster.specs.Shows.{ShowsDigest, ShowsImage, ShowsLive, ShowsRoom, ShowsSegments}
 use Rattle.cluster.specs.Waits.{MakesOpen, MakesRoom}
 use Rattle.cluster.proofs.Standing.{is_down_some}
-
-pub down_roll : (node : Node) → is_up node ≡ false → MakesRoll node node answer.Down
-down_roll (Up m) down = absurd (cc)
-down_roll (Down fleet) down = (refl, refl)
-down_roll Changing down = (refl, refl)
 
 pub down_open : (node : Node) → is_up node ≡ false → MakesOpen node node (Err answer.Down)
 down_open (Up m) down = absurd (cc)

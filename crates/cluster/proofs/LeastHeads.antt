@@ -1,6 +1,6 @@
 -- No line raises a least head of a master with a greater number than the node's.
 use Rattle.std.proofs.Common.{◌≡◌, ℕ, ◌≤◌, List, sym, ap, subst, ◌∙◌, arith}
-use Rattle.std.specs.Prelude.{Option, Some, None, IfSome}
+use Rattle.std.specs.Prelude.{Option, Some, None, IfSome, Result}
 use Rattle.std.specs.Option.{option_map}
 use Rattle.backup.specs.State.{fleet_state, lost}
 use Rattle.backup.specs.declared.fleet.MemoryFleet.{MemoryFleet}
@@ -8,6 +8,7 @@ use Rattle.replica.specs.Picture.{FleetState}
 use Rattle.replica.specs.Take.{limited}
 use Rattle.versioned_map.specs.declared.command.Command.{Command}
 use Rattle.answers.specs.driving.master.master_state.declared.config.Config.{Config}
+use Rattle.answers.specs.driving.master.master_state.declared.step.Refusal.{Refusal}
 use Rattle.answers.specs.driving.master.master_state.declared.step.Step.{Step}
 use Rattle.answers.specs.driving.master.master_state.Data.{MasterData}
 use Rattle.answers.specs.driving.master.Registry.{AreUnraisedAbove}
@@ -21,7 +22,8 @@ use Rattle.cluster.specs.Lives.{Position}
 use Rattle.cluster.specs.Served.{fleet_of, world_of, IsLeftIn, IsNodeAt, MakesStep, MakesRoll, MakesClean, MakesTend}
 use Rattle.tending.specs.Low.{usual_for}
 use Rattle.tending.proofs.LeastHeads.{tends_leave}
-use Rattle.cluster.specs.Served.{MakesCommand, LosesOne}
+use Rattle.cluster.specs.Served.{CommandRuns, MakesCommand, MakesRun, LosesOne, cleaned}
+use Rattle.cluster.specs.Told.{CleanRuns, RollRuns, StepRuns, TendRuns}
 
 -- of each master with a greater number than this any head may be used
 abbrev pub IsUnraisedAbove : ℕ → Option FleetState → Type 0
@@ -87,39 +89,33 @@ module _ (number : ℕ) where
     pub made : SameLeast (world fleet_state m) w → StaysUnraised number (Up m) new
     made same are = left_unraised w a new is (made_unraised number (world fleet_state m) w below same are)
 
+  module _ {X : Type 0} (runs : World → Result X Refusal → World → Type 0) (gives : X → Answer)
+      (leaves : (old new : World) (r : Result X Refusal) → runs old r new → SameLeast old new) where
+    run_made : (old new : Node) (a : Answer) → MakesRun runs gives old new a → IsUpTo number old
+        → StaysUnraised number old new
+    run_made (Up m) new a is below = made m is.1 a new is.4 below (leaves (world fleet_state m) is.1 is.0 is.2)
+    run_made (Down fleet) new a is below = same_node (Down fleet) new is.0
+    run_made Changing new a is below = same_node Changing new is.0
+
   pub step_made : (old : Node) (s : Step) (new : Node) (a : Answer) → MakesStep old s new a → IsUpTo number old
       → StaysUnraised number old new
-  step_made (Up m) s new a is below = made m is.1 a new is.4 below (step_least (world fleet_state m) is.1 s is.0 is.2)
-  step_made (Down fleet) s new a is below = same_node (Down fleet) new is.0
-  step_made Changing s new a is below = same_node Changing new is.0
+  step_made old s = run_made (StepRuns s) answer.Step (λ v w r ran. step_least v w s r ran) old
 
   pub roll_made : (old new : Node) (a : Answer) → MakesRoll old new a → IsUpTo number old → StaysUnraised number old new
-  roll_made (Up m) new a is below =
-      made m is.1 a new is.4 below (rolls_leave (world fleet_state m) is.1 is.0 is.2).least
-  roll_made (Down fleet) new a is below = same_node (Down fleet) new is.0
-  roll_made Changing new a is below = same_node Changing new is.0
+  roll_made = run_made RollRuns answer.Head (λ v w r ran. (rolls_leave v w r ran).least)
 
   pub clean_made : (old : Node) (victims : List ℕ) (new : Node) (a : Answer) → MakesClean old victims new a
       → IsUpTo number old → StaysUnraised number old new
-  clean_made (Up m) victims new a is below =
-      made m is.1 a new is.4 below (cleans_leave (world fleet_state m) is.1 victims is.0 is.2).least
-  clean_made (Down fleet) victims new a is below = same_node (Down fleet) new is.0
-  clean_made Changing victims new a is below = same_node Changing new is.0
+  clean_made old victims = run_made (CleanRuns victims) cleaned (λ v w r ran. (cleans_leave v w victims r ran).least) old
 
   pub tend_made : (old : Node) (steps : ℕ) (new : Node) (a : Answer) → MakesTend old steps new a
       → IsUpTo number old → StaysUnraised number old new
-  tend_made (Up m) steps new a is below =
-      made m is.1 a new is.4 below
-      (tends_leave (usual_for m.knows.config) steps (world fleet_state m) is.1 is.0 is.2).least
-  tend_made (Down fleet) steps new a is below = same_node (Down fleet) new is.0
-  tend_made Changing steps new a is below = same_node Changing new is.0
+  tend_made old steps = run_made (TendRuns steps) answer.Tended
+      (λ v w r ran. (tends_leave (usual_for v.knows.config) steps v w r ran).least) old
 
   pub command_made : (old : Node) (c : Command) (new : Node) (a : Answer) → MakesCommand old c new a
       → IsUpTo number old → StaysUnraised number old new
-  command_made (Up m) c new a is below =
-      made m is.1 a new is.4 below (command_leaves (world fleet_state m) is.1 c is.0 is.2).least
-  command_made (Down fleet) c new a is below = same_node (Down fleet) new is.0
-  command_made Changing c new a is below = same_node Changing new is.0
+  command_made old c = run_made (CommandRuns c) answer.Reply (λ v w r ran. (command_leaves v w c r ran).least) old
 
   -- ---- what is done to the fleet
 

@@ -4,7 +4,7 @@ use Rattle.std.proofs.Common.{arith}
 use Rattle.std.proofs.lemmas.List.{append-nil, length-append}
 use Rattle.std.proofs.Math.Seq.{take-length}
 use lib.Seq.{take-append_seam}
-use Rattle.std.specs.Prelude.{Option, Some, None, slice_get}
+use Rattle.std.specs.Prelude.{Option, Some, None, Result, slice_get}
 use Rattle.backup.specs.declared.fleet.MemoryFleet.{MemoryFleet}
 use Rattle.lines.specs.Grammar.{LineValue, Put, New, Cas, Get, Del}
 use Rattle.replica.specs.Picture.{FleetState}
@@ -15,18 +15,18 @@ use Rattle.versioned_map.specs.declared.command.Reply.{Reply}
 use Rattle.entry.specs.Meaning.{contents_of}
 use Rattle.answers.specs.driving.master.log_laws.Data.{durable_of}
 use Rattle.answers.specs.driving.master.master_state.declared.config.Config.{Config}
+use Rattle.answers.specs.driving.master.master_state.declared.step.Refusal.{Refusal}
 use Rattle.answers.specs.driving.master.master_state.Data.{Origin, MasterData}
 use Rattle.answers.specs.driving.master.master_state.Log.{opening_of, log_of}
 use Rattle.answers.specs.driving.master.Valid.{IsValid}
-use Rattle.answers.specs.driving.master.World.{MasterValue}
-use Rattle.answers.specs.driving.master.master_state.declared.step.Step.{Step}
+use Rattle.answers.specs.driving.master.World.{MasterValue, World}
 use Rattle.answers.specs.declared.answer.Answer.{Answer}
 use Rattle.answers.specs.declared.answer.Answer.TheVariants as answer
 use Rattle.cluster.specs.declared.node.Node.{Node}
 use Rattle.cluster.specs.declared.node.Node.TheVariants.{Up, Down, Changing}
 use Rattle.cluster.specs.Lives.{life_to, HasLived, Left, Position}
 use Rattle.answers.specs.driving.Served.{LivesOn, record_of}
-use Rattle.cluster.specs.Served.{IsOf, IsNodeAt, AnswersLine, LivesLonger, MakesClean, MakesStep, MakesTend, is_up}
+use Rattle.cluster.specs.Served.{IsOf, IsNodeAt, AnswersLine, LivesLonger, MakesRun, is_up}
 use Rattle.cluster.specs.Served.{life_of}
 use Rattle.cluster.specs.Told.{command_of, is_for_master, is_for_none, Tells}
 
@@ -161,21 +161,12 @@ pub down_told : (node : Node) (config : Config) (line : LineValue) → is_up nod
 down_told node config line down asks =
     stays_told node config line answer.Down (λ d at s. (is_down_some node d at.left down s.node_of, asks, refl))
 
--- a node without a master makes no step, no cleaning, and no step of a cleaner
-pub down_step : (node : Node) (step : Step) → is_up node ≡ false → MakesStep node step node answer.Down
-down_step (Up m) step down = absurd (cc)
-down_step (Down fleet) step down = (refl, refl)
-down_step Changing step down = (refl, refl)
-
-pub down_clean : (node : Node) (victims : List ℕ) → is_up node ≡ false → MakesClean node victims node answer.Down
-down_clean (Up m) victims down = absurd (cc)
-down_clean (Down fleet) victims down = (refl, refl)
-down_clean Changing victims down = (refl, refl)
-
-pub down_tend : (node : Node) (steps : ℕ) → is_up node ≡ false → MakesTend node steps node answer.Down
-down_tend (Up m) steps down = absurd (cc)
-down_tend (Down fleet) steps down = (refl, refl)
-down_tend Changing steps down = (refl, refl)
+-- a node without a master makes no step
+pub down_run : {X : Type 0} (runs : World → Result X Refusal → World → Type 0) (gives : X → Answer) (node : Node)
+    → is_up node ≡ false → MakesRun runs gives node node answer.Down
+down_run runs gives (Up m) down = absurd (cc)
+down_run runs gives (Down fleet) down = (refl, refl)
+down_run runs gives Changing down = (refl, refl)
 
 pub up_told : (node : Node) (config : Config) (line : LineValue) → is_up node ≡ true → is_for_none line ≡ true
     → AnswersLine node config line node answer.Up

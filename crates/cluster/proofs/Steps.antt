@@ -9,35 +9,30 @@ use Rattle.std.specs.declared.alloc.AllocError.{AllocError}
 use Rattle.answers.specs.driving.master.cleaner.declared.survivors.Survivors.{Survivors}
 use Rattle.replica.specs.declared.label.Label.{Label}
 use Rattle.backup.specs.Inventory.{AreRising}
-use Rattle.backup.specs.State.{HoldsAny}
+use Rattle.backup.specs.State.{HoldsAny, fleet_state}
+use Rattle.backup.specs.declared.fleet.MemoryFleet.{MemoryFleet}
 use Rattle.replica.specs.Picture.{FleetState, AreLabelsOf}
 use Rattle.replica.specs.Take.{limited, no_limit}
 use Rattle.answers.specs.driving.master.master_state.declared.config.Config.{Config}
 use Rattle.answers.specs.driving.master.master_state.declared.step.Refusal.{Refusal}
 use Rattle.answers.specs.driving.master.master_state.declared.step.Refusal.TheVariants as refusal
-use Rattle.answers.specs.driving.master.master_state.declared.step.Step.{Step}
-use Rattle.answers.specs.driving.master.master_state.declared.step.StepAnswer.{StepAnswer}
 use Rattle.answers.specs.driving.master.master_state.Data.{MasterData}
-use Rattle.answers.specs.driving.master.Steps.{Steps}
-use Rattle.answers.specs.driving.master.World.{World}
+use Rattle.answers.specs.driving.master.World.{MasterValue, World, world}
 use Rattle.answers.specs.driving.master.Valid.{IsValid}
 use Rattle.answers.specs.declared.answer.Answer.{Answer}
 use Rattle.answers.specs.declared.answer.Answer.TheVariants as answer
 use Rattle.cluster.specs.declared.node.Node.{Node}
+use Rattle.cluster.specs.declared.node.Node.TheVariants.{Up}
 use Rattle.cluster.specs.Lives.{Life, life_to, HasLived, Left, IsLeftBySpent, Position}
-use Rattle.answers.specs.driving.Cleans.{Cleans}
-use Rattle.answers.specs.driving.Rolls.{Rolls}
 use Rattle.answers.specs.driving.Served.{LivesOn, IsSpent}
-use Rattle.cluster.specs.Served.{IsOf, IsNodeAt, Refuses, fleet_of, life_of, held_answer, IsLeftIn}
-use Rattle.cluster.specs.Served.{ShowsFleet, refusal_answer, world_of}
-use Rattle.cluster.specs.Told.{pushes, is_for_master, IsStepAt, IsRollAt, IsCleanAt, IsTendAt, IsStepRefusal}
+use Rattle.cluster.specs.Served.{AnswersLine, IsOf, IsNodeAt, MakesRun, Refuses, cleaned, fleet_of, life_of, held_answer}
+use Rattle.cluster.specs.Served.{IsLeftIn, ShowsFleet, refusal_answer, world_of}
+use Rattle.cluster.specs.Told.{CleanRuns, IsRunAt, IsStepRefusal, RollRuns, TendRuns, is_for_master, pushes}
 use Rattle.cluster.specs.Told.{AreHeldAt, TellsNoStep, Tells}
-use Rattle.tending.specs.Low.{usual_for}
-use Rattle.tending.specs.Tends.{Tends}
 use Rattle.cluster.proofs.Rolls.{no_step_told}
 use Rattle.cluster.proofs.Standing.{Answered, still_stands, lived, lived_longer}
 
--- ---- a step and a roll, of a master that goes on
+-- ---- a master that goes on
 
 module _ (d e : MasterData) (old new : Node) (config : Config) (at : Position) (s : IsNodeAt old config d at)
     (none : at.left ≡ None)
@@ -54,53 +49,10 @@ module _ (d e : MasterData) (old new : Node) (config : Config) (at : Position) (
   after : HasLived config (life_to (life_of e) at.made) e g
   after = lived_longer d e old new config at None of s g now at.made stays.configured stays.made
 
-  pub step_at : (step : Step) (r : Result StepAnswer Refusal)
-      → Steps (record { knows = d; fleet = f }) step r (record { knows = e; fleet = g })
-      → IsStepAt config (life_to (life_of e) at.made) step r
-  step_at step r steps = (record { knows = d; fleet = f }, record { knows = e; fleet = g }, before, after, steps)
-
-  pub roll_at : (r : Result ℕ Refusal) → Rolls (record { knows = d; fleet = f }) r (record { knows = e; fleet = g })
-      → IsRollAt config (life_to (life_of e) at.made) r
-  roll_at r rolls = (record { knows = d; fleet = f }, record { knows = e; fleet = g }, before, after, rolls)
-
-  pub head_told : (id : ℕ) → Rolls (record { knows = d; fleet = f }) (Ok id) (record { knows = e; fleet = g })
-      → Answered d new config at Roll (answer.Head id)
-  head_told id rolls = (e, at, stays, ([], on.origin, on.history), (none, refl, roll_at (Ok id) rolls, refl))
-
-  pub clean_at : (victims : List ℕ) (r : Result (Survivors × ℕ) Refusal)
-      → Cleans (record { knows = d; fleet = f }) victims r (record { knows = e; fleet = g })
-      → IsCleanAt config (life_to (life_of e) at.made) victims r
-  clean_at victims r cleans = (record { knows = d; fleet = f }, record { knows = e; fleet = g }, before, after, cleans)
-
-  pub cleaned_told : (victims : List ℕ) (survivors : Survivors) (head : ℕ)
-      → Cleans (record { knows = d; fleet = f }) victims (Ok (survivors, head)) (record { knows = e; fleet = g })
-      → Answered d new config at (Clean victims) (answer.Cleaned survivors head)
-  cleaned_told victims survivors head cleans = (
-    e,
-    at,
-    stays,
-    ([], on.origin, on.history),
-    (
-      none,
-      (
-        victims,
-        refl,
-        clean_at victims (Ok (survivors, head)) cleans,
-      ),
-      refl,
-    ),
-  )
-
-  pub tend_at : (steps : ℕ) (r : Result ℕ Refusal)
-      → Tends (usual_for d.config) steps (record { knows = d; fleet = f }) r (record { knows = e; fleet = g })
-      → IsTendAt config (life_to (life_of e) at.made) steps r
-  tend_at steps r tends = (record { knows = d; fleet = f }, record { knows = e; fleet = g }, before, after, tends)
-
-  pub tended_told : (steps made : ℕ)
-      → Tends (usual_for d.config) steps (record { knows = d; fleet = f }) (Ok made) (record { knows = e; fleet = g })
-      → Answered d new config at (Tend steps) (answer.Tended made)
-  tended_told steps made tends =
-      (e, at, stays, ([], on.origin, on.history), (none, (steps, refl, tend_at steps (Ok made) tends), refl))
+  pub run_at : {X : Type 0} (runs : World → Result X Refusal → World → Type 0) (r : Result X Refusal)
+      → runs (record { knows = d; fleet = f }) r (record { knows = e; fleet = g })
+      → IsRunAt runs config (life_to (life_of e) at.made) r
+  run_at runs r ran = (record { knows = d; fleet = f }, record { knows = e; fleet = g }, before, after, ran)
 
 -- ---- a step that is refused
 
@@ -152,6 +104,93 @@ refused_left mid new w r a up fleet (inr (is, spent, dropped, (down, lifted))) =
         ∙ ap (λ (o : Option FleetState). option_map (λ (f : FleetState). limited f no_limit) o) fleet,
   ),
 )
+
+-- ---- a run of steps, and what is told of it
+
+-- what is told of a line that asks for this run
+pub record IsLineOf (X : Type 0) (runs : World → Result X Refusal → World → Type 0) (gives : X → Answer)
+    (line : LineValue) : Type 0 where
+  pub up : is_for_master line ≡ true
+  pub made : (config : Config) (life : Life) (at : Position) → at.left ≡ None → (x : X)
+      → IsRunAt runs config (life_to life at.made) (Ok x) → Tells config life at line (gives x) at
+  pub refused : (config : Config) (life : Life) (r : Refusal) → IsRunAt runs config life (Err r)
+      → IsStepRefusal config life line r
+
+-- what the run makes of the node
+module _ (X : Type 0) (runs : World → Result X Refusal → World → Type 0) (gives : X → Answer) (node : Node)
+    (up m : MasterValue MemoryFleet) (there : node ≡ Up up) where
+  pub run_makes : (x : X) → runs (world fleet_state up) (Ok x) (world fleet_state m)
+      → IsLeftIn (world fleet_state m) (gives x) (Up m) → MakesRun runs gives node (Up m) (gives x)
+  run_makes x ran left =
+      subst (λ (n : Node). MakesRun runs gives n (Up m) (gives x)) (sym there)
+      (Ok x, world fleet_state m, ran, refl, left)
+
+  pub run_refused : (r : Refusal) → runs (world fleet_state up) (Err r) (world fleet_state m) → (new : Node) (a : Answer)
+      → Refuses (Up m) r new a → MakesRun runs gives node new a
+  run_refused r ran new a refuses =
+      let left = refused_left (Up m) new (world fleet_state m) r a refl refl refuses in
+      subst (λ (n : Node). MakesRun runs gives n new a) (sym there)
+      (Err r, world fleet_state m, ran, left.0, left.1)
+
+  -- what its line tells of the master's life, if the master goes on without a record
+  module _ (line : LineValue) (is : IsLineOf X runs gives line) (now : IsValid m.knows (fleet_state m.fleet))
+      (goes_on : LivesOn up.knows m.knows []) where
+    module _ (config : Config) (d : MasterData) (at : Position) (s : IsNodeAt node config d at) where
+      was : IsOf (Up up) at.left d
+      was = subst (λ (n : Node). IsOf n at.left d) there s.node_of
+
+      on : LivesOn d m.knows []
+      on = subst (λ (x : MasterData). LivesOn x m.knows []) was.1 goes_on
+
+      told_at : (r : Result X Refusal) → runs (world fleet_state up) r (world fleet_state m)
+          → IsRunAt runs config (life_to (life_of m.knows) at.made) r
+      told_at r ran = run_at d m.knows node (Up m) config at s was.0 (refl, refl, now) (fleet_state up.fleet)
+          (fleet_state m.fleet) was.2 now on runs r
+          (subst (λ (x : MasterData). runs (record { knows = x; fleet = fleet_state up.fleet }) r (world fleet_state m))
+          was.1 ran)
+
+    pub run_told : (x : X) → runs (world fleet_state up) (Ok x) (world fleet_state m) → (config : Config)
+        → AnswersLine node config line (Up m) (gives x)
+    run_told x ran config d at s =
+        let old = was config d at s in
+        let goes = on config d at s in (
+          m.knows,
+          at,
+          stays d m.knows node (Up m) config at s old.0 (refl, refl, now) (fleet_state up.fleet)
+              (fleet_state m.fleet) old.2 now goes,
+          ([], goes.origin, goes.history),
+          is.made config (life_of m.knows) at old.0 x (told_at config d at s (Ok x) ran),
+        )
+
+    pub refusal_told : (r : Refusal) → runs (world fleet_state up) (Err r) (world fleet_state m)
+        → (r ≡ refusal.Spent → IsSpent (fleet_state m.fleet)) → (r ≡ refusal.Spent → pushes line ≡ true)
+        → (new : Node) (a : Answer) → Refuses (Up m) r new a → (config : Config) → AnswersLine node config line new a
+    refusal_told r ran spent may new a refuses config d at s = no_step_answered d m.knows node (Up m) new config at s
+        (was config d at s).0 line is.up r a (fleet_state m.fleet) (refl, refl, now) refl now spent may
+        (on config d at s)
+        (is.refused config (life_to (life_of m.knows) at.made) r (told_at config d at s (Err r) ran)) refuses
+
+-- the lines of a roll, of a cleaning, and of steps of the cleaner
+pub of_roll : IsLineOf ℕ RollRuns answer.Head Roll
+of_roll = record {
+  up = refl;
+  made = λ config life at none x ran. (none, refl, ran, refl);
+  refused = λ config life r ran. ran;
+}
+
+pub of_clean : (victims : List ℕ) → IsLineOf (Survivors × ℕ) (CleanRuns victims) cleaned (Clean victims)
+of_clean victims = record {
+  up = refl;
+  made = λ config life at none x ran. (none, (victims, refl, ran), refl);
+  refused = λ config life r ran. ran;
+}
+
+pub of_tend : (steps : ℕ) → IsLineOf ℕ (TendRuns steps) answer.Tended (Tend steps)
+of_tend steps = record {
+  up = refl;
+  made = λ config life at none x ran. (none, (steps, refl, ran), refl);
+  refused = λ config life r ran. ran;
+}
 
 -- ---- what backups hold
 

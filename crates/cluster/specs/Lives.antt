@@ -31,7 +31,8 @@ pub record HasLived (config : Config) (life : Life) (d : MasterData) (f : FleetS
 -- ---- what is left
 
 -- What a recovery was shown of a master when it was dropped, the newest head that was opened on all its homes, the
--- homes of each segment (the backups that took it and haven't failed), and which backups have lost all they held since.
+-- homes of each segment (the backups that took it and haven't failed), and which backups have lost all they held
+-- since.
 pub record Left : Type 0 where
   pub shown : Shown
   pub opened : Option ℕ

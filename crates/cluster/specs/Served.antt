@@ -3,7 +3,7 @@ use Rattle.std.specs.Prelude.{◌≡◌, ◌⊎◌, ℕ, ◌≤◌, List, ◌++�
 use Rattle.std.specs.Prelude.{Err, IfSome}
 use Rattle.backup.specs.State.{fleet_state, lost, HoldsAny}
 use Rattle.backup.specs.declared.fleet.Asked.{Asked}
-use Rattle.lines.specs.Grammar.{LineValue, BeginRoll, Compact, Push, Begin, Copy, Seal, Free}
+use Rattle.lines.specs.Grammar.{LineValue}
 use Rattle.std.specs.Option.{option_map}
 use Rattle.std.specs.declared.alloc.AllocError.{AllocError}
 use Rattle.answers.specs.driving.master.cleaner.declared.survivors.Survivors.{Survivors}
@@ -19,28 +19,19 @@ use Rattle.answers.specs.driving.master.master_state.declared.config.Config.{Con
 use Rattle.answers.specs.driving.master.master_state.declared.step.Refusal.{Refusal}
 use Rattle.answers.specs.driving.master.master_state.declared.step.Refusal.TheVariants.{NoMemory, Spent}
 use Rattle.answers.specs.driving.master.master_state.declared.step.Step.{Step}
-use Rattle.answers.specs.driving.master.master_state.declared.step.Step.TheVariants as step
-use Rattle.answers.specs.driving.master.master_state.declared.step.StepAnswer.{StepAnswer}
-use Rattle.answers.specs.driving.master.master_state.declared.step.StepAnswer.TheVariants as step_answer
 use Rattle.answers.specs.driving.master.master_state.Data.{MasterData}
 use Rattle.answers.specs.driving.master.master_state.Log.{opening_of, log_of}
-use Rattle.answers.specs.driving.master.Steps.{Steps}
 use Rattle.answers.specs.driving.master.Valid.{IsValid}
 use Rattle.answers.specs.driving.master.World.{World, limited_world, world}
 use Rattle.answers.specs.declared.answer.Answer.{Answer}
 use Rattle.answers.specs.declared.answer.Answer.TheVariants.{Refused, Stopped, Holdings, Reply as Replied, Head}
-use Rattle.answers.specs.declared.answer.Answer.TheVariants.{Opening, Compacted, Extended, Opened, Closed, Begun}
-use Rattle.answers.specs.declared.answer.Answer.TheVariants.{Moved, Carried, Dropped, Sealed, Freed, Cleaned, Tended}
+use Rattle.answers.specs.declared.answer.Answer.TheVariants.{Cleaned, Tended}
 use Rattle.answers.specs.declared.answer.Answer.TheVariants as answers
 use Rattle.cluster.specs.declared.node.Node.{Node}
 use Rattle.cluster.specs.declared.node.Node.TheVariants.{Up, Down, Changing}
 use Rattle.cluster.specs.Lives.{Life, Left, left_now, is_left, Position}
-use Rattle.answers.specs.driving.Cleans.{Cleans}
 use Rattle.answers.specs.driving.Commands.{RunsCommand}
-use Rattle.answers.specs.driving.Rolls.{Rolls}
-use Rattle.cluster.specs.Told.{Tells}
-use Rattle.tending.specs.Low.{usual_for}
-use Rattle.tending.specs.Tends.{Tends}
+use Rattle.cluster.specs.Told.{CleanRuns, RollRuns, StepRuns, TendRuns, Tells, line_of}
 use Rattle.tablet_will.specs.declared.part.Part.{Part}
 use Rattle.tablet_will.specs.Parts.{Divides}
 
@@ -124,76 +115,48 @@ abbrev pub refusal_answer : Refusal → Answer
 refusal_answer Spent = Stopped
 refusal_answer r = Refused r
 
--- what is answered to a step
-abbrev pub step_told : Result StepAnswer Refusal → Answer
-step_told (Ok (step_answer.Applied place reply)) = Replied reply
-step_told (Ok (step_answer.Rolling id)) = Opening id
-step_told (Ok (step_answer.Compacted segment len)) = Compacted segment len
-step_told (Ok (step_answer.Extended backup segment)) = Extended backup segment
-step_told (Ok (step_answer.Opened backup segment)) = Opened backup segment
-step_told (Ok (step_answer.Closed backup segment)) = Closed backup segment
-step_told (Ok (step_answer.Begun survivors)) = Begun survivors
-step_told (Ok step_answer.Moved) = Moved
-step_told (Ok step_answer.Carried) = Carried
-step_told (Ok step_answer.Dropped) = Dropped
-step_told (Ok (step_answer.Sealed backup)) = Sealed backup
-step_told (Ok (step_answer.Freed segment backup)) = Freed segment backup
-step_told (Ok (step_answer.Raised id)) = answers.Raised id
-step_told (Ok (step_answer.Repaired backup segment)) = answers.Repaired backup segment
-step_told (Err r) = refusal_answer r
-
--- what is answered to a roll
-abbrev pub roll_told : Result ℕ Refusal → Answer
-roll_told (Ok id) = Head id
-roll_told (Err r) = refusal_answer r
+-- what is answered to a run of steps: what it gave, or its refusal
+abbrev pub told_by : {X : Type 0} → (X → Answer) → Result X Refusal → Answer
+told_by gives (Ok x) = gives x
+told_by gives (Err r) = refusal_answer r
 
 -- what is answered to a command
 abbrev pub reply_told : Result Reply Refusal → Answer
-reply_told (Ok reply) = Replied reply
-reply_told (Err r) = refusal_answer r
+reply_told result = told_by Replied result
 
--- what is answered to a whole cleaning
-abbrev pub clean_told : Result (Survivors × ℕ) Refusal → Answer
-clean_told (Ok (survivors, head)) = Cleaned survivors head
-clean_told (Err r) = refusal_answer r
+-- A node that is up makes just this run of steps, and answers what comes of it. Any other node does nothing.
+abbrev pub MakesRun : {X : Type 0} → (World → Result X Refusal → World → Type 0) → (X → Answer) → Node → Node
+    → Answer → Type 0
+MakesRun {X} runs gives (Up m) new answer = (result : Result X Refusal) × (w : World)
+    × runs (world fleet_state m) result w × (answer ≡ told_by gives result) × IsLeftIn w answer new
+MakesRun {X} runs gives old new answer = (new ≡ old) × (answer ≡ answers.Down)
 
--- what is answered to steps of the cleaner
-abbrev pub tend_told : Result ℕ Refusal → Answer
-tend_told (Ok made) = Tended made
-tend_told (Err r) = refusal_answer r
-
--- A node that is up makes just this step, and answers what comes of it. Any other node does nothing.
+-- the run is one step
 abbrev pub MakesStep : Node → Step → Node → Answer → Type 0
-MakesStep (Up m) step new answer = (result : Result StepAnswer Refusal) × (w : World)
-    × Steps (world fleet_state m) step result w × (answer ≡ step_told result) × IsLeftIn w answer new
-MakesStep old step new answer = (new ≡ old) × (answer ≡ answers.Down)
+MakesStep old step new answer = MakesRun (StepRuns step) answers.Step old new answer
 
--- A node that is up makes just this roll, and answers what comes of it. Any other node does nothing.
+-- the run is a roll with its pushes
 abbrev pub MakesRoll : Node → Node → Answer → Type 0
-MakesRoll (Up m) new answer = (result : Result ℕ Refusal) × (w : World)
-    × Rolls (world fleet_state m) result w × (answer ≡ roll_told result) × IsLeftIn w answer new
-MakesRoll old new answer = (new ≡ old) × (answer ≡ answers.Down)
+MakesRoll old new answer = MakesRun RollRuns Head old new answer
 
--- A node that is up makes just this cleaning, and answers what comes of it. Any other node does nothing.
+-- what a whole cleaning gave
+abbrev pub cleaned : Survivors × ℕ → Answer
+cleaned (survivors, head) = Cleaned survivors head
+
+-- the run cleans these segments
 abbrev pub MakesClean : Node → List ℕ → Node → Answer → Type 0
-MakesClean (Up m) victims new answer = (result : Result (Survivors × ℕ) Refusal) × (w : World)
-    × Cleans (world fleet_state m) victims result w × (answer ≡ clean_told result) × IsLeftIn w answer new
-MakesClean old victims new answer = (new ≡ old) × (answer ≡ answers.Down)
+MakesClean old victims new answer = MakesRun (CleanRuns victims) cleaned old new answer
 
--- A node that is up makes just so many steps of the cleaner, by the usual policy, and answers what comes of them. Any
--- other node does nothing.
+-- the run is of up to so many steps of the cleaner, by the usual policy
 abbrev pub MakesTend : Node → ℕ → Node → Answer → Type 0
-MakesTend (Up m) steps new answer = (result : Result ℕ Refusal) × (w : World)
-    × Tends (usual_for m.knows.config) steps (world fleet_state m) result w × (answer ≡ tend_told result)
-    × IsLeftIn w answer new
-MakesTend old steps new answer = (new ≡ old) × (answer ≡ answers.Down)
+MakesTend old steps new answer = MakesRun (TendRuns steps) Tended old new answer
 
--- A node that is up makes just the steps of this command's line, and answers what comes of them. Any other node does
--- nothing.
+-- the run is that of this command's line
+abbrev pub CommandRuns : Command → World → Result Reply Refusal → World → Type 0
+CommandRuns command old result new = RunsCommand old command result new
+
 abbrev pub MakesCommand : Node → Command → Node → Answer → Type 0
-MakesCommand (Up m) command new answer = (result : Result Reply Refusal) × (w : World)
-    × RunsCommand (world fleet_state m) command result w × (answer ≡ reply_told result) × IsLeftIn w answer new
-MakesCommand old command new answer = (new ≡ old) × (answer ≡ answers.Down)
+MakesCommand old command new answer = MakesRun (CommandRuns command) Replied old new answer
 
 -- ---- lines
 
@@ -207,17 +170,6 @@ abbrev pub AnswersLine : Node → Config → LineValue → Node → Answer → T
 AnswersLine old config line new answer = (d : MasterData) (at : Position) → IsNodeAt old config d at →
     (e : MasterData) × (next : Position) × IsNodeAt new config e next
     × LivesLonger d e × Tells config (life_of e) at line answer next
-
--- the line that asks for a step by hand; no line asks to apply a command without pushing it
-abbrev pub line_of : Step → Option LineValue
-line_of (step.Apply seat command) = None
-line_of step.Push = Some Push
-line_of step.BeginRoll = Some BeginRoll
-line_of (step.Compact segment) = Some (Compact segment)
-line_of (step.BeginClean victims) = Some (Begin victims)
-line_of step.Copy = Some Copy
-line_of step.Seal = Some Seal
-line_of step.Free = Some Free
 
 -- the same for the line that asks for this step, if there is such a line
 abbrev pub AnswersStep : Node → Config → Step → Node → Answer → Type 0

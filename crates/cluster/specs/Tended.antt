@@ -87,8 +87,8 @@ abbrev pub StaysOn : Node → Node → Type 0
 StaysOn old new = (config : Config) (d : MasterData) (at : Position) → IsNodeAt old config d at →
     (e : MasterData) × StaysAt new config d at e
 
--- A node that is up was led through so many rounds of the cleaner, each behind a try of the command that was refused as
--- Full. Any other node did nothing, and had no round.
+-- A node that is up was led through so many rounds of the cleaner, each behind a try of the command that was refused
+-- as Full. Any other node did nothing, and had no round.
 abbrev pub HasWay : ℕ → Node → Command → Node → Type 0
 HasWay rounds (Up m) command new =
     (w : World) × MakesWay rounds (world fleet_state m) command w × (world_of new ≡ Some w)
@@ -100,7 +100,8 @@ GainsRoom (Up m) true new = (w : World) × Gains (world fleet_state m) w × (wor
 GainsRoom (Up m) false new = (w : World) × GainsNothing (world fleet_state m) w × (world_of new ≡ Some w)
 GainsRoom old gained new = (new ≡ old) × (gained ≡ false)
 
--- A node that is up just makes up to so many steps of the cleaner, whatever comes of them. Any other node does nothing.
+-- A node that is up just makes up to so many steps of the cleaner, whatever comes of them. Any other node does
+-- nothing.
 abbrev pub TendsOn : Node → ℕ → Node → Type 0
 TendsOn (Up m) steps new = (made : Result ℕ Refusal) × (w : World)
     × Tends (usual_for m.knows.config) steps (world fleet_state m) made w × (world_of new ≡ Some w)

@@ -30,7 +30,6 @@ use Rattle.answers.specs.driving.master.log_head.Head.{digest_of}
 use Rattle.answers.specs.driving.master.master_state.declared.step.Step.{Step}
 use Rattle.answers.specs.driving.master.master_state.declared.step.Step.TheVariants as step
 use Rattle.answers.specs.driving.master.master_state.declared.step.StepAnswer.{StepAnswer}
-use Rattle.answers.specs.driving.master.master_state.declared.step.StepAnswer.TheVariants as step_answer
 use Rattle.answers.specs.driving.master.master_state.Data.{MasterData}
 use Rattle.answers.specs.driving.master.Steps.{Steps}
 use Rattle.answers.specs.driving.master.World.{World}
@@ -93,39 +92,49 @@ IsIn life at line left next = (reply : Reply) × IsRecordAt life at.made line re
 
 -- ---- steps
 
--- a master that has lived this life makes this step, with this result, and has lived just this life after it, too
-abbrev pub IsStepAt : Config → Life → Step → Result StepAnswer Refusal → Type 0
-IsStepAt config life step result = (old : World) × (new : World) × HasLived config life old.knows old.fleet
-    × HasLived config life new.knows new.fleet × Steps old step result new
+-- a master that has lived this life makes this run of steps, with this result, and has lived just this life after it
+abbrev pub IsRunAt : {X : Type 0} → (World → Result X Refusal → World → Type 0) → Config → Life → Result X Refusal
+    → Type 0
+IsRunAt runs config life result = (old : World) × (new : World) × HasLived config life old.knows old.fleet
+    × HasLived config life new.knows new.fleet × runs old result new
 
--- a master that has lived this life makes this roll with its pushes, and has lived just this life after it, too
-abbrev pub IsRollAt : Config → Life → Result ℕ Refusal → Type 0
-IsRollAt config life result = (old : World) × (new : World) × HasLived config life old.knows old.fleet
-    × HasLived config life new.knows new.fleet × Rolls old result new
+-- the run of one step
+abbrev pub StepRuns : Step → World → Result StepAnswer Refusal → World → Type 0
+StepRuns step old result new = Steps old step result new
 
--- a master that has lived this life cleans these segments, with this result, and has lived just this life after it
-abbrev pub IsCleanAt : Config → Life → List ℕ → Result (Survivors × ℕ) Refusal → Type 0
-IsCleanAt config life victims result = (old : World) × (new : World) × HasLived config life old.knows old.fleet
-    × HasLived config life new.knows new.fleet × Cleans old victims result new
+-- the run of a roll with its pushes
+abbrev pub RollRuns : World → Result ℕ Refusal → World → Type 0
+RollRuns old result new = Rolls old result new
 
--- a master that has lived this life lets its cleaner make so many steps, and has lived just this life after them, too
-abbrev pub IsTendAt : Config → Life → ℕ → Result ℕ Refusal → Type 0
-IsTendAt config life steps result = (old : World) × (new : World) × HasLived config life old.knows old.fleet
-    × HasLived config life new.knows new.fleet × Tends (usual_for old.knows.config) steps old result new
+-- the run that cleans these segments
+abbrev pub CleanRuns : List ℕ → World → Result (Survivors × ℕ) Refusal → World → Type 0
+CleanRuns victims old result new = Cleans old victims result new
+
+-- the run of up to so many steps of the cleaner, by the usual policy
+abbrev pub TendRuns : ℕ → World → Result ℕ Refusal → World → Type 0
+TendRuns steps old result new = Tends (usual_for old.knows.config) steps old result new
+
+-- the line that asks for a step by hand; no line asks to apply a command without pushing it
+abbrev pub line_of : Step → Option LineValue
+line_of (step.Apply seat command) = None
+line_of step.Push = Some Push
+line_of step.BeginRoll = Some BeginRoll
+line_of (step.Compact segment) = Some (Compact segment)
+line_of (step.BeginClean victims) = Some (Begin victims)
+line_of step.Copy = Some Copy
+line_of step.Seal = Some Seal
+line_of step.Free = Some Free
+
+-- the line asks for a step, and a master that has lived this life makes it so
+abbrev pub IsStepOf : Config → Life → LineValue → Result StepAnswer Refusal → Type 0
+IsStepOf config life line result = (s : Step) × (line_of s ≡ Some line) × IsRunAt (StepRuns s) config life result
 
 -- a master that has lived this life refuses what the line asks for: a step, a roll, a cleaning or steps of its cleaner
 abbrev pub IsStepRefusal : Config → Life → LineValue → Refusal → Type 0
-IsStepRefusal config life BeginRoll r = IsStepAt config life step.BeginRoll (Err r)
-IsStepRefusal config life (Compact segment) r = IsStepAt config life (step.Compact segment) (Err r)
-IsStepRefusal config life Push r = IsStepAt config life step.Push (Err r)
-IsStepRefusal config life (Begin victims) r = IsStepAt config life (step.BeginClean victims) (Err r)
-IsStepRefusal config life Copy r = IsStepAt config life step.Copy (Err r)
-IsStepRefusal config life Seal r = IsStepAt config life step.Seal (Err r)
-IsStepRefusal config life Free r = IsStepAt config life step.Free (Err r)
-IsStepRefusal config life Roll r = IsRollAt config life (Err r)
-IsStepRefusal config life (Clean victims) r = IsCleanAt config life victims (Err r)
-IsStepRefusal config life (Tend steps) r = IsTendAt config life steps (Err r)
-IsStepRefusal config life line r = ⊥
+IsStepRefusal config life Roll r = IsRunAt RollRuns config life (Err r)
+IsStepRefusal config life (Clean victims) r = IsRunAt (CleanRuns victims) config life (Err r)
+IsStepRefusal config life (Tend steps) r = IsRunAt (TendRuns steps) config life (Err r)
+IsStepRefusal config life line r = IsStepOf config life line (Err r)
 
 -- the line hands ops to backups, and makes no record
 abbrev pub pushes : LineValue → Bool
@@ -137,7 +146,8 @@ pushes (Clean victims) = true
 pushes (Tend steps) = true
 pushes line = false
 
--- What an answer tells of steps, a roll or a cleaning that weren't made, and the position after it. No record was made.
+-- What an answer tells of steps, a roll or a cleaning that weren't made, and the position after it. No record was
+-- made.
 abbrev pub TellsNoStep : Config → Life → Position → LineValue → Answer → Position → Type 0
 TellsNoStep config life at line (answer.Refused r) next = (at.left ≡ None)
     × IsStepRefusal config (life_to life at.made) line r × (r ≡ refusal.Spent → ⊥)
@@ -162,7 +172,7 @@ IsTest config life c r = (d : MasterData) × (f : FleetState) × HasLived config
 -- A test refuses the command, or the command has to wait for a roll and the roll is refused.
 abbrev pub IsCause : Config → Life → Command → Refusal → Type 0
 IsCause config life c r =
-    IsTest config life c r ⊎ (IsTest config life c refusal.Rolling × IsRollAt config life (Err r))
+    IsTest config life c r ⊎ (IsTest config life c refusal.Rolling × IsRunAt RollRuns config life (Err r))
 
 -- a master that has lived this life is pushed until a push is refused, and has lived just this life after that, too
 abbrev pub IsPushedAt : Config → Life → Refusal → Type 0
@@ -354,42 +364,15 @@ Tells config life at line (answer.Refused r) next =
     ⊎ (((r ≡ refusal.NoMemory) × (shows line ≡ true) × (next ≡ at))
     ⊎ ((r ≡ refusal.Spent → ⊥) × (IsUnadopted config life at line r next ⊎ AreUncounted at line None next)))
 Tells config life at line (answer.Head id) next = (at.left ≡ None) × (line ≡ Roll)
-    × IsRollAt config (life_to life at.made) (Ok id) × (next ≡ at)
-Tells config life at line (answer.Opening id) next = (at.left ≡ None) × (line ≡ BeginRoll)
-    × IsStepAt config (life_to life at.made) step.BeginRoll (Ok (step_answer.Rolling id)) × (next ≡ at)
-Tells config life at line (answer.Compacted segment len) next = (at.left ≡ None) × (line ≡ Compact segment)
-    × IsStepAt config (life_to life at.made) (step.Compact segment) (Ok (step_answer.Compacted segment len))
-    × (next ≡ at)
-Tells config life at line (answer.Extended backup segment) next = (at.left ≡ None) × (line ≡ Push)
-    × IsStepAt config (life_to life at.made) step.Push (Ok (step_answer.Extended backup segment)) × (next ≡ at)
-Tells config life at line (answer.Opened backup segment) next = (at.left ≡ None) × (line ≡ Push)
-    × IsStepAt config (life_to life at.made) step.Push (Ok (step_answer.Opened backup segment)) × (next ≡ at)
-Tells config life at line (answer.Closed backup segment) next = (at.left ≡ None) × (line ≡ Push)
-    × IsStepAt config (life_to life at.made) step.Push (Ok (step_answer.Closed backup segment)) × (next ≡ at)
-Tells config life at line (answer.Raised id) next = (at.left ≡ None) × (line ≡ Push)
-    × IsStepAt config (life_to life at.made) step.Push (Ok (step_answer.Raised id)) × (next ≡ at)
-Tells config life at line (answer.Repaired backup segment) next = (at.left ≡ None) × (line ≡ Push)
-    × IsStepAt config (life_to life at.made) step.Push (Ok (step_answer.Repaired backup segment)) × (next ≡ at)
-Tells config life at line (answer.Begun survivors) next = (at.left ≡ None)
-    × ((victims : List ℕ) × (line ≡ Begin victims)
-    × IsStepAt config (life_to life at.made) (step.BeginClean victims) (Ok (step_answer.Begun survivors)))
-    × (next ≡ at)
-Tells config life at line answer.Moved next = (at.left ≡ None) × (line ≡ Copy)
-    × IsStepAt config (life_to life at.made) step.Copy (Ok step_answer.Moved) × (next ≡ at)
-Tells config life at line answer.Carried next = (at.left ≡ None) × (line ≡ Copy)
-    × IsStepAt config (life_to life at.made) step.Copy (Ok step_answer.Carried) × (next ≡ at)
-Tells config life at line answer.Dropped next = (at.left ≡ None) × (line ≡ Copy)
-    × IsStepAt config (life_to life at.made) step.Copy (Ok step_answer.Dropped) × (next ≡ at)
-Tells config life at line (answer.Sealed backup) next = (at.left ≡ None) × (line ≡ Seal)
-    × IsStepAt config (life_to life at.made) step.Seal (Ok (step_answer.Sealed backup)) × (next ≡ at)
-Tells config life at line (answer.Freed segment backup) next = (at.left ≡ None) × (line ≡ Free)
-    × IsStepAt config (life_to life at.made) step.Free (Ok (step_answer.Freed segment backup)) × (next ≡ at)
+    × IsRunAt RollRuns config (life_to life at.made) (Ok id) × (next ≡ at)
+Tells config life at line (answer.Step made) next = (at.left ≡ None)
+    × IsStepOf config (life_to life at.made) line (Ok made) × (next ≡ at)
 Tells config life at line (answer.Cleaned survivors head) next = (at.left ≡ None)
     × ((victims : List ℕ) × (line ≡ Clean victims)
-    × IsCleanAt config (life_to life at.made) victims (Ok (survivors, head)))
+    × IsRunAt (CleanRuns victims) config (life_to life at.made) (Ok (survivors, head)))
     × (next ≡ at)
 Tells config life at line (answer.Tended made) next = (at.left ≡ None)
-    × ((steps : ℕ) × (line ≡ Tend steps) × IsTendAt config (life_to life at.made) steps (Ok made))
+    × ((steps : ℕ) × (line ≡ Tend steps) × IsRunAt (TendRuns steps) config (life_to life at.made) (Ok made))
     × (next ≡ at)
 Tells config life at line (answer.Counted clients rounds calls) next = (at.left ≡ None)
     × AsksClients line clients rounds × AreCounted life at clients rounds calls next

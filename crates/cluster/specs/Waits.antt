@@ -85,8 +85,8 @@ TriesLine old command new (tried.Refused r) = (is_up new ≡ true)
 TriesLine old command new tried.Down =
     Serves old command new (Some answers.Down) × MakesTry old command new (Some answers.Down)
 
--- A node that is up just makes a roll. If there is an error, it is the answer that tells why the roll was refused. Any other node does
--- nothing.
+-- A node that is up just makes a roll. If there is an error, it is the answer that tells why the roll was refused. Any
+-- other node does nothing.
 abbrev pub MakesOpen : Node → Node → Result (Unit {0}) Answer → Type 0
 MakesOpen (Up m) new (Err answer) = (r : Refusal) × (w : World)
     × Rolls (world fleet_state m) (Err r) w × (answer ≡ refusal_answer r) × IsLeftIn w answer new

@@ -1,6 +1,6 @@
 //! A fleet, and the master over it if there is one.
 
-ghost use Rattle.std.specs.Prelude.{◌≡◌, true, false, None, Some, Ok};
+ghost use Rattle.std.specs.Prelude.{◌≡◌, true, false, None, Some};
 ghost use Rattle.versioned_map.specs.declared.command.Reply.{Reply as ReplyValue};
 ghost use Rattle.std.specs.Option.{option_map};
 ghost use Rattle.history.specs.View.{shown_command, shown_reply};
@@ -9,14 +9,12 @@ ghost use Rattle.answers.specs.Texts.{reply_text};
 ghost use Rattle.answers.specs.driving.master.master_state.declared.config.Config.{Config};
 ghost use Rattle.cluster.specs.Served.{IsDropped, AsksFault, asked_of, fleet_of, is_up};
 ghost use Rattle.cluster.specs.Served.{AnswersLine, LimitsFleet, LosesMaster, LosesOne, MakesStep, MakesRoll, Refuses};
-ghost use Rattle.cluster.specs.Served.{AnswersStep, MakesClean, MakesTend, ShowsFleet, held_answer, step_told};
+ghost use Rattle.cluster.specs.Served.{AnswersStep, MakesClean, MakesTend, ShowsFleet, held_answer};
 ghost use Rattle.cluster.specs.Shows.{ShowsDigest, ShowsImage, ShowsLive, ShowsRoom, ShowsSegments};
 ghost use Rattle.cluster.specs.Waits.{MakesRoom, MakesOpen, TriesLine, IsReplyAt};
 
 use crate::tried::Tried;
-use answers::driving::master::{
-    CommandRef, Look, Master, Refusal, ReplyRef, Shown, Step, StepAnswer,
-};
+use answers::driving::master::{CommandRef, Look, Master, Refusal, ReplyRef, Shown, Step};
 use answers::driving::{clean_all, roll_all, serve};
 use answers::{Answer, WriteFailed, write_reply};
 use backup::MemoryFleet;
@@ -43,28 +41,6 @@ fn held(labels: Result<Labels, NoMemory>) -> Answer
     match labels {
         Ok(labels) => Answer::Holdings(labels),
         Err(NoMemory) => Answer::Refused(Refusal::NoMemory),
-    }
-}
-
-/// The answer to a step that was made.
-fn answer_of(made: StepAnswer) -> Answer
-    ensures { result ≡ step_told (Ok made) }
-{
-    match made {
-        StepAnswer::Applied(_, reply) => Answer::Reply(reply),
-        StepAnswer::Extended(backup, segment) => Answer::Extended(backup, segment),
-        StepAnswer::Opened(backup, segment) => Answer::Opened(backup, segment),
-        StepAnswer::Closed(backup, segment) => Answer::Closed(backup, segment),
-        StepAnswer::Rolling(id) => Answer::Opening(id),
-        StepAnswer::Compacted(segment, len) => Answer::Compacted(segment, len),
-        StepAnswer::Begun(survivors) => Answer::Begun(survivors),
-        StepAnswer::Moved => Answer::Moved,
-        StepAnswer::Carried => Answer::Carried,
-        StepAnswer::Dropped => Answer::Dropped,
-        StepAnswer::Sealed(backup) => Answer::Sealed(backup),
-        StepAnswer::Freed(segment, backup) => Answer::Freed(segment, backup),
-        StepAnswer::Raised(id) => Answer::Raised(id),
-        StepAnswer::Repaired(backup, segment) => Answer::Repaired(backup, segment),
     }
 }
 
@@ -117,8 +93,8 @@ impl Node {
         }
     }
 
-    /// Begins a roll if none is under way, and pushes until nothing waits: then the head is open. The error is the answer
-    /// that tells why not.
+    /// Begins a roll if none is under way, and pushes until nothing waits: then the head is open. The error is the
+    /// answer that tells why not.
     pub fn make_room(&mut self) -> Result<(), Answer>
         ensures told { (config : Config) → MakesRoom self.old config self.new result }
         ensures rolled { MakesOpen self.old self.new result }
@@ -210,8 +186,8 @@ impl Node {
         }
     }
 
-    /// Makes up to so many steps of the cleaner, by the usual policy. Answers how many it made, or the refusal. After a
-    /// refusal, what was done stays done.
+    /// Makes up to so many steps of the cleaner, by the usual policy. Answers how many it made, or the refusal. After
+    /// a refusal, what was done stays done.
     pub fn tend(&mut self, notes: &mut Notes, steps: u64) -> Answer
         ensures told { (config : Config) → AnswersLine self.old config (Tend steps) self.new result }
         ensures tended { MakesTend self.old steps self.new result }
@@ -239,7 +215,7 @@ impl Node {
         };
         up.show_valid();
         match up.step(step) {
-            Ok(made) => answer_of(made),
+            Ok(made) => Answer::Step(made),
             Err(refusal) => self.refuse(refusal),
         }
     }

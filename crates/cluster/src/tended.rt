@@ -32,8 +32,8 @@ fn is_full(answer: &Answer) -> bool
 }
 
 impl Node {
-    /// Runs the line of a command: it is tried, and if it has to wait for a roll, once more behind that roll. The error
-    /// is the answer that tells why it has no reply.
+    /// Runs the line of a command: it is tried, and if it has to wait for a roll, once more behind that roll. The
+    /// error is the answer that tells why it has no reply.
     fn run(&mut self, command: &CommandRef<'_>) -> Result<u64, Answer>
         ensures { RunsLine self.old (shown_command command.now) self.new result }
     {
@@ -79,8 +79,8 @@ impl Node {
         }
     }
 
-    /// Makes up to so many steps of the cleaner by the usual policy. If a step is refused, what was done stays done, and
-    /// the node stays as the refusal left it.
+    /// Makes up to so many steps of the cleaner by the usual policy. If a step is refused, what was done stays done,
+    /// and the node stays as the refusal left it.
     fn tend_on(&mut self, notes: &mut Notes, steps: u64)
         ensures stays { StaysOn self.old self.new }
         ensures tends { TendsOn self.old steps self.new }
@@ -97,9 +97,9 @@ impl Node {
     }
 
     /// Runs the line of a command, and then up to so many steps of the cleaner. While the command is refused as Full,
-    /// the cleaner makes a round and the command is tried again, until it is accepted, refused for another reason, or a
-    /// round gained no seglet. The result is the place of the record, which has the reply and is durable, or the answer
-    /// that tells why there is none.
+    /// the cleaner makes a round and the command is tried again, until it is accepted, refused for another reason, or
+    /// a round gained no seglet. The result is the place of the record, which has the reply and is durable, or the
+    /// answer that tells why there is none.
     ///
     /// A refusal of the cleaner is not answered. The node stays as it left the master: one that is halted refuses the
     /// next command, and a fleet that takes no more ops ends the next line that hands it one.

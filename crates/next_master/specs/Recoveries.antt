@@ -1,5 +1,5 @@
 -- What a recovery makes of a node, by how it ends.
-use Rattle.std.specs.Prelude.{[], ◌≡◌, ◌⊎◌, ℕ, ◌<◌, max, List, true, false, Option, Some, None, Result, Ok, Err}
+use Rattle.std.specs.Prelude.{[], ◌≡◌, ◌⊎◌, ℕ, ◌<◌, max, List, true, false, Some, None, Result, Ok, Err}
 use Rattle.std.specs.Option.{option_map}
 use Rattle.backup.specs.State.{fleet_state}
 use Rattle.backup.specs.declared.fleet.MemoryFleet.{MemoryFleet}
@@ -92,8 +92,8 @@ pub record IsFoundIn (fleet : MemoryFleet) (options : Options) (later : Later) (
   pub unused : (b s : ℕ) → (fleet_state fleet).picture b config.master s ≡ None
   pub least : IsUnraised config.master (fleet_state fleet)
 
--- Whatever a master of this configuration left on the fleet, this answer tells why nothing was found. It is one for any
--- line that asks for a table.
+-- Whatever a master of this configuration left on the fleet, this answer tells why nothing was found. It is one for
+-- any line that asks for a table.
 abbrev pub FindsNone : MemoryFleet → Config → Answer → Type 0
 FindsNone fleet config answer = (line : LineValue) (d : MasterData) (at : Position) → AsksTable line
     → IsNodeAt (Down fleet) config d at → Tells config (life_of d) at line answer at

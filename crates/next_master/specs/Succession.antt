@@ -48,8 +48,8 @@ EndsRecovery to f table (answer.NotRetired fault) = (fault ≡ take_fault.Spent 
     × (l : Left) × (to.at.left ≡ Some l) × IsLeftBy to.config (life_to to.life 0) l
 EndsRecovery to f table _ = ⊥
 
--- A recovery ended a life, of which all is told. A table was found of what was left, with each acknowledged record. The
--- next life begins with this table, as that of a master with a greater number, and nothing is told of it yet.
+-- A recovery ended a life, of which all is told. A table was found of what was left, with each acknowledged record.
+-- The next life begins with this table, as that of a master with a greater number, and nothing is told of it yet.
 pub record Succeeds (from : Standing) (line : LineValue) (answer : Answer) (to : Standing) : Type 0 where
   pub asks : IsRecover line
   pub told : IsTold from

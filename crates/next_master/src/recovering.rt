@@ -256,8 +256,8 @@ pub fn recover_node<H: Threads + Wait + Sync>(
     }
 }
 
-/// Has a master of this configuration adopt the table. The error is the answer that tells why it can't. If the fleet takes no more ops,
-/// the limit is lifted.
+/// Has a master of this configuration adopt the table. The error is the answer that tells why it can't. If the fleet
+/// takes no more ops, the limit is lifted.
 fn adopt(alloc: Global, node: &mut Node, rebuilt: &Rebuilt, config: Config) -> Result<(), Answer>
     requires config { config_fault config ≡ None }
     requires fleet { (fleet : FleetValue) × (node.old ≡ Down fleet)

@@ -2,7 +2,7 @@
 use Rattle.std.proofs.Common.{[], ◌≡◌, ℕ, zero, suc, ◌≤◌, List, ◌∷◌, ◌++◌, take, length, sym, ap, subst, inl, inr}
 use Rattle.std.proofs.Common.{arith}
 use Rattle.std.proofs.lemmas.List.{take-append-le}
-use Rattle.std.specs.Prelude.{Option, None, Some, Result, Ok, slice_get}
+use Rattle.std.specs.Prelude.{Option, None, Some, Ok, slice_get}
 use Rattle.lines.specs.Grammar.{LineValue}
 use Rattle.versioned_map.specs.declared.command.Record.{Record}
 use Rattle.next_master.specs.master.master_state.declared.config.Config.{Config}
@@ -15,13 +15,9 @@ use Rattle.next_master.specs.recovery.Headline.{IsMapAfter}
 use Rattle.next_master.specs.cluster.Counted.{AreCounted}
 use Rattle.next_master.specs.cluster.Lives.{Life, life_to, Left, IsLeftBy, IsLeftBySpent, Position}
 use Rattle.next_master.specs.master.master_state.declared.step.Refusal.{Refusal}
-use Rattle.next_master.specs.master.master_state.declared.step.Step.{Step}
-use Rattle.next_master.specs.master.master_state.declared.step.StepAnswer.{StepAnswer}
-use Rattle.next_master.specs.master.master_state.declared.step.Step.TheVariants as step
-use Rattle.next_master.specs.master.master_state.declared.step.StepAnswer.TheVariants as step_answer
 use Rattle.next_master.specs.cluster.Told.{IsRecordAt, IsIn, IsCause, IsImageAt, IsPushedAt, IsRecoveredAt, IsUnadopted}
 use Rattle.next_master.specs.cluster.Told.{Tells}
-use Rattle.next_master.specs.cluster.Told.{IsStepAt, IsRollAt, IsCleanAt, IsTendAt, IsStepRefusal, IsDigestAt, AreSegmentsAt}
+use Rattle.next_master.specs.cluster.Told.{IsStepOf, IsRunAt, RollRuns, CleanRuns, TendRuns, IsStepRefusal, IsDigestAt, AreSegmentsAt}
 use Rattle.next_master.specs.cluster.Told.{IsLiveAt, IsRoomAt}
 use Rattle.next_master.specs.cluster.Told.{IsNeededAt, IsWillAt, AreHeldAt}
 
@@ -52,19 +48,7 @@ module _ (config : Config) (life : Life) where
     | inr (inr (unspent, inr more)) ↦ more.more
   ]
   rises at line (answer.Head id) next t = as_before at next t.3
-  rises at line (answer.Opening id) next t = as_before at next t.3
-  rises at line (answer.Compacted segment len) next t = as_before at next t.3
-  rises at line (answer.Extended backup segment) next t = as_before at next t.3
-  rises at line (answer.Opened backup segment) next t = as_before at next t.3
-  rises at line (answer.Closed backup segment) next t = as_before at next t.3
-  rises at line (answer.Raised id) next t = as_before at next t.3
-  rises at line (answer.Repaired backup segment) next t = as_before at next t.3
-  rises at line (answer.Begun survivors) next t = as_before at next t.2
-  rises at line answer.Moved next t = as_before at next t.3
-  rises at line answer.Carried next t = as_before at next t.3
-  rises at line answer.Dropped next t = as_before at next t.3
-  rises at line (answer.Sealed backup) next t = as_before at next t.3
-  rises at line (answer.Freed segment backup) next t = as_before at next t.3
+  rises at line (answer.Step made) next t = as_before at next t.2
   rises at line (answer.Cleaned survivors head) next t = as_before at next t.2
   rises at line (answer.Tended made) next t = as_before at next t.2
   rises at line (answer.Counted clients rounds calls) next t = t.2.more
@@ -120,13 +104,6 @@ module _ (config : Config) (opening : State) (history more : List Record) where
   in_longer : (at : Position) (line : LineValue) (left : Option Left) (next : Position) → IsIn life at line left next
       → IsIn longer at line left next
   in_longer at line left next (reply, there, is) = (reply, record_longer at.made line reply there, is)
-
-  step_longer : (at : Position) (is : Type 0) (s : Step) (a : Result StepAnswer Refusal) (next : Position)
-      → at.made ≤ length history
-      → (at.left ≡ None) × is × IsStepAt config (life_to life at.made) s a × (next ≡ at)
-      → (at.left ≡ None) × is × IsStepAt config (life_to longer at.made) s a × (next ≡ at)
-  step_longer at is s a next within t =
-      (t.0, t.1, subst (λ (l : Life). IsStepAt config l s a) (same_front at.made within) t.2, t.3)
 
   -- a table that was recovered
   recovered_longer : (at : Position) (r : Rebuilt) → at.made ≤ length history → IsRecoveredAt life at r
@@ -209,54 +186,22 @@ module _ (config : Config) (opening : State) (history more : List Record) where
     | inr (inr (unspent, inr more)) ↦ inr (inr (unspent, inr more))
   ]
   tells_longer at line (answer.Head id) next within after t =
-      (t.0, t.1, subst (λ (l : Life). IsRollAt config l (Ok id)) (same_front at.made within) t.2, t.3)
-  tells_longer at line (answer.Opening id) next within after t =
-      step_longer at _ step.BeginRoll (Ok (step_answer.Rolling id)) next within t
-  tells_longer at line (answer.Compacted segment len) next within after t =
-      step_longer at _ (step.Compact segment) (Ok (step_answer.Compacted segment len)) next within t
-  tells_longer at line (answer.Extended backup segment) next within after t =
-      step_longer at _ step.Push (Ok (step_answer.Extended backup segment)) next within t
-  tells_longer at line (answer.Opened backup segment) next within after t =
-      step_longer at _ step.Push (Ok (step_answer.Opened backup segment)) next within t
-  tells_longer at line (answer.Closed backup segment) next within after t =
-      step_longer at _ step.Push (Ok (step_answer.Closed backup segment)) next within t
-  tells_longer at line (answer.Raised id) next within after t =
-      step_longer at _ step.Push (Ok (step_answer.Raised id)) next within t
-  tells_longer at line (answer.Repaired backup segment) next within after t =
-      step_longer at _ step.Push (Ok (step_answer.Repaired backup segment)) next within t
-  tells_longer at line (answer.Begun survivors) next within after t = (
-    t.0,
-    (
-      t.1.0,
-      t.1.1,
-      subst (λ (l : Life). IsStepAt config l (step.BeginClean t.1.0) (Ok (step_answer.Begun survivors)))
-          (same_front at.made within) t.1.2,
-    ),
-    t.2,
-  )
-  tells_longer at line answer.Moved next within after t =
-      step_longer at _ step.Copy (Ok step_answer.Moved) next within t
-  tells_longer at line answer.Carried next within after t =
-      step_longer at _ step.Copy (Ok step_answer.Carried) next within t
-  tells_longer at line answer.Dropped next within after t =
-      step_longer at _ step.Copy (Ok step_answer.Dropped) next within t
-  tells_longer at line (answer.Sealed backup) next within after t =
-      step_longer at _ step.Seal (Ok (step_answer.Sealed backup)) next within t
-  tells_longer at line (answer.Freed segment backup) next within after t =
-      step_longer at _ step.Free (Ok (step_answer.Freed segment backup)) next within t
+      (t.0, t.1, subst (λ (l : Life). IsRunAt RollRuns config l (Ok id)) (same_front at.made within) t.2, t.3)
+  tells_longer at line (answer.Step made) next within after t =
+      (t.0, subst (λ (l : Life). IsStepOf config l line (Ok made)) (same_front at.made within) t.1, t.2)
   tells_longer at line (answer.Cleaned survivors head) next within after t = (
     t.0,
     (
       t.1.0,
       t.1.1,
-      subst (λ (l : Life). IsCleanAt config l t.1.0 (Ok (survivors, head)))
+      subst (λ (l : Life). IsRunAt (CleanRuns t.1.0) config l (Ok (survivors, head)))
           (same_front at.made within) t.1.2,
     ),
     t.2,
   )
   tells_longer at line (answer.Tended made) next within after t = (
     t.0,
-    (t.1.0, t.1.1, subst (λ (l : Life). IsTendAt config l t.1.0 (Ok made)) (same_front at.made within) t.1.2),
+    (t.1.0, t.1.1, subst (λ (l : Life). IsRunAt (TendRuns t.1.0) config l (Ok made)) (same_front at.made within) t.1.2),
     t.2,
   )
   tells_longer at line (answer.Counted clients rounds calls) next within after t =

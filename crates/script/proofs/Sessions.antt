@@ -18,6 +18,7 @@ use Rattle.next_master.specs.declared.later.Later.{Later}
 use Rattle.next_master.specs.master.master_state.Config.{config_fault}
 use Rattle.next_master.specs.cluster.Lives.{Left, at_start}
 use Rattle.next_master.specs.cluster.Served.{DividesAnew, AnswersLine, IsOf, is_up}
+use Rattle.cluster_lines.specs.Lines.{MakesLine}
 use Rattle.script.specs.Sessions.{IsToldOf, KeepsWord, RenewsOptions, SessionAnswers, SessionShows, Stands}
 use Rattle.script.specs.Sessions.{BeginsSession, MakesWill as MakesWillOf, later_after}
 use Rattle.next_master.specs.cluster.Told.{AsksTable, command_of}
@@ -152,6 +153,26 @@ renewed_begins old new (inr (other, later)) kept may =
     (subst (λ (o : Options). MayBegin old.later o) (sym later)
     (subst (λ (o : Options). config_fault (config_of o 1) ≡ None) (sym (later_twice old.later old.options)) may))
 
+-- a line that changes just the node
+pub node_answers : (s : Session) (line : LineValue) (node : Node) (a : Answer)
+    → ((config : Config) → IsToldOf s line config → AnswersLine s.node config line node a)
+    → MakesLine s.options.tend s.node line node a → MakesWillOf s line (record s { node = node }) a
+    → KeepsWord s line (record s { node = node }) a → s.later ≡ later_after line s.later → SessionShows s line a
+    → SessionAnswers s line (record s { node = node }) a
+node_answers s line node a told makes wills word later shows = record {
+  number = refl;
+  options = refl;
+  used = refl;
+  covers = λ all. all.0;
+  answers = told;
+  makes = makes;
+  wills = wills;
+  word = word;
+  later = later;
+  begins = λ all. all.3;
+  shows = shows;
+}
+
 -- a line that sets what later masters have
 pub format_answers : (s : Session) → MayBegin (later_after Format s.later) s.options
     → SessionAnswers s Format (record s { later = later_after Format s.later }) answer.Format
@@ -198,19 +219,8 @@ told_of s line = refl
 pub needs_answers : (s : Session) (a : Answer)
     → AnswersLine s.node (config_of s.options s.master) Needs s.node a → SessionShows s Needs a
     → SessionAnswers s Needs s a
-needs_answers s a told shown = record {
-  number = refl;
-  options = refl;
-  used = refl;
-  covers = λ all. all.0;
-  answers = λ config is. subst (λ (k : Config). AnswersLine s.node k Needs s.node a) (sym is) told;
-  makes = refl;
-  wills = refl;
-  word = refl;
-  later = refl;
-  begins = λ all. all.3;
-  shows = shown;
-}
+needs_answers s a told shown = node_answers s Needs s.node a
+    (λ config is. subst (λ (k : Config). AnswersLine s.node k Needs s.node a) (sym is) told) refl refl refl refl shown
 
 -- ---- recoveries that are not made
 

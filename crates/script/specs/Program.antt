@@ -24,7 +24,8 @@ abbrev pub IsReported : RunResult → Errors → Errors → ℕ → Type 0
 IsReported (Ok done) old new status = (new ≡ old) × (status ≡ 0)
 IsReported (Err fault) old new status = Writes old new (fault_lines old.explains fault) × (status ≡ exit_status fault)
 
--- The configuration fails its check. Its fault is named on the error output. Nothing is read, and nothing else written.
+-- The configuration fails its check. Its fault is named on the error output. Nothing is read, and nothing else
+-- written.
 pub record IsMisuse (config : Config) (old new : Streams) (status : ℕ) : Type 0 where
   pub fault : ConfigFault
   pub found : config_fault config ≡ Some fault

@@ -218,8 +218,8 @@ impl Session {
         }
     }
 
-    /// Sets what later masters have, if they are within their limits with it. Answers whether they are. If not, nothing
-    /// changes.
+    /// Sets what later masters have, if they are within their limits with it. Answers whether they are. If not,
+    /// nothing changes.
     fn set_later(&mut self, later: Later) -> bool
         requires { Stands self.old }
         ensures set { result ≡ true → self.new ≡ record self.old { later = later } }

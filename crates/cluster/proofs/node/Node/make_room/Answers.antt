@@ -11,7 +11,8 @@ use Rattle.answers.specs.driving.Served.{LivesOn}
 use Rattle.cluster.specs.Served.{IsOf, is_up}
 use Rattle.cluster.proofs.Rolls.{no_step_told}
 use Rattle.cluster.proofs.Standing.{is_up_none, not_up}
-use Rattle.cluster.proofs.Steps.{refused_left, roll_at}
+use Rattle.cluster.specs.Told.{RollRuns}
+use Rattle.cluster.proofs.Steps.{refused_left, run_at}
 use Rattle.cluster.proofs.Downs.{down_open, down_room}
 use Rattle.cluster.proofs.node.Node.make_room.Goals as goal
 
@@ -28,8 +29,8 @@ returns-in-Err-clause-told c = λ config d at s.
     subst (λ (x : MasterData). IsNotRolled (record { knows = x; fleet = f }) r (record { knows = m.knows; fleet = g }))
     was.1 c.in-Err.ensures.refused in
     let of : IsOf (Up m) None m.knows = (refl, refl, c.show_valid.ensures) in
-    let why = roll_at d m.knows c.args.self.now (Up m) config at s none of f g was.2 c.show_valid.ensures on
-    (Err r) refused in
+    let why = run_at d m.knows c.args.self.now (Up m) config at s none of f g was.2 c.show_valid.ensures on
+    RollRuns (Err r) refused in
     no_step_told d m.knows c.args.self.now (Up m) c.refuse.new.self config at s none Roll
     r c.refuse.result g of refl c.show_valid.ensures c.in-Err.ensures.spent (λ is. refl) on why c.refuse.ensures
 

@@ -1,72 +1,44 @@
-use Rattle.std.proofs.Common.{[], refl, subst, sym}
-use Rattle.std.specs.Prelude.{Ok, Err, None}
+use Rattle.std.proofs.Common.{ℕ, refl, subst, sym}
 use Rattle.lines.specs.Grammar.{Roll}
 use Rattle.backup.specs.State.{fleet_state}
 use Rattle.answers.specs.driving.master.World.{world}
-use Rattle.answers.specs.driving.master.master_state.Data.{MasterData}
-use Rattle.cluster.specs.declared.node.Node.{Node}
-use Rattle.cluster.specs.declared.node.Node.TheVariants.{Up}
-use Rattle.answers.specs.driving.Rolls.{IsNotRolled, IsRolled}
-use Rattle.answers.specs.driving.Served.{LivesOn}
-use Rattle.cluster.specs.Served.{IsOf}
-use Rattle.cluster.proofs.Steps.{head_told, no_step_answered, refused_left, roll_at}
-use Rattle.cluster.proofs.Downs.{down_roll}
-use Rattle.cluster.proofs.Standing.{down_told, not_up}
+use Rattle.answers.specs.driving.Rolls.{IsRolled}
+use Rattle.answers.specs.declared.answer.Answer.TheVariants.{Head}
+use Rattle.cluster.specs.Told.{RollRuns}
+use Rattle.cluster.proofs.Steps.{of_roll, refusal_told, run_makes, run_refused, run_told}
+use Rattle.cluster.proofs.Standing.{down_run, down_told, not_up}
 use Rattle.cluster.proofs.node.Node.roll.Goals as goal
 
 pub returns-in-Ok-clause-told : goal.returns-in-Ok-clause-told
-returns-in-Ok-clause-told c = λ config d at s.
+returns-in-Ok-clause-told c =
+    let up = c.in-Up.up in
     let m = c.roll_all-outcome.new.master in
-    let f = fleet_state c.in-Up.up.fleet in
-    let g = fleet_state m.fleet in
-    let was : IsOf (Up c.in-Up.up) at.left d = subst (λ (n : Node). IsOf n at.left d) c.in-Up.is s.node_of in
-    let on : LivesOn d m.knows [] = subst (λ (x : MasterData). LivesOn x m.knows []) was.1 c.in-Ok.ensures.goes_on in
-    let rolled : IsRolled (record { knows = d; fleet = f }) m.knows.head.id (record { knows = m.knows; fleet = g }) =
-    subst (λ (x : MasterData). IsRolled (record { knows = x; fleet = f }) m.knows.head.id
-    (record { knows = m.knows; fleet = g })) was.1 c.in-Ok.ensures.rolled in
-    head_told d m.knows c.args.self.now (Up m) config at s was.0 (refl, refl, c.show_valid-2.ensures) f
-    g was.2 c.show_valid-2.ensures on c.head-head.result
-    (subst (λ id. IsRolled (record { knows = d; fleet = f }) id (record { knows = m.knows; fleet = g }))
-    (sym c.head-head.ensures) rolled)
+    run_told ℕ RollRuns Head c.args.self.now up m c.in-Up.is Roll of_roll c.show_valid-2.ensures
+    c.in-Ok.ensures.goes_on c.head-head.result
+    (subst (λ id. IsRolled (world fleet_state up) id (world fleet_state m)) (sym c.head-head.ensures)
+    c.in-Ok.ensures.rolled)
 
 pub returns-in-Ok-clause-rolled : goal.returns-in-Ok-clause-rolled
 returns-in-Ok-clause-rolled c =
+    let up = c.in-Up.up in
     let m = c.roll_all-outcome.new.master in
-    rw c.in-Up.is (
-      Ok c.head-head.result,
-      world fleet_state m,
-      subst (λ id. IsRolled (world fleet_state c.in-Up.up) id (world fleet_state m))
-          (sym c.head-head.ensures) c.in-Ok.ensures.rolled,
-      refl,
-      refl,
-    )
+    run_makes ℕ RollRuns Head c.args.self.now up m c.in-Up.is c.head-head.result
+    (subst (λ id. IsRolled (world fleet_state up) id (world fleet_state m)) (sym c.head-head.ensures)
+    c.in-Ok.ensures.rolled) refl
 
 pub returns-in-Err-clause-told : goal.returns-in-Err-clause-told
-returns-in-Err-clause-told c = λ config d at s.
-    let m = c.roll_all-outcome.new.master in
-    let r = c.in-Err.refusal in
-    let f = fleet_state c.in-Up.up.fleet in
-    let g = fleet_state m.fleet in
-    let was : IsOf (Up c.in-Up.up) at.left d = subst (λ (n : Node). IsOf n at.left d) c.in-Up.is s.node_of in
-    let on : LivesOn d m.knows [] = subst (λ (x : MasterData). LivesOn x m.knows []) was.1 c.in-Err.ensures.goes_on in
-    let refused : IsNotRolled (record { knows = d; fleet = f }) r (record { knows = m.knows; fleet = g }) =
-    subst (λ (x : MasterData). IsNotRolled (record { knows = x; fleet = f }) r (record { knows = m.knows; fleet = g }))
-    was.1 c.in-Err.ensures.refused in
-    let of : IsOf (Up m) None m.knows = (refl, refl, c.show_valid-2.ensures) in
-    let why = roll_at d m.knows c.args.self.now (Up m) config at s was.0 of f g was.2 c.show_valid-2.ensures on
-    (Err r) refused in
-    no_step_answered d m.knows c.args.self.now (Up m) c.refuse.new.self config at s was.0 Roll refl
-    r c.refuse.result g of refl c.show_valid-2.ensures c.in-Err.ensures.spent (λ is. refl) on why c.refuse.ensures
+returns-in-Err-clause-told c =
+    refusal_told ℕ RollRuns Head c.args.self.now c.in-Up.up c.roll_all-outcome.new.master c.in-Up.is Roll of_roll
+    c.show_valid-2.ensures c.in-Err.ensures.goes_on c.in-Err.refusal c.in-Err.ensures.refused c.in-Err.ensures.spent
+    (λ is. refl) c.refuse.new.self c.refuse.result c.refuse.ensures
 
 pub returns-in-Err-clause-rolled : goal.returns-in-Err-clause-rolled
 returns-in-Err-clause-rolled c =
-    let m = c.roll_all-outcome.new.master in
-    let left = refused_left (Up m) c.refuse.new.self (world fleet_state m) c.in-Err.refusal c.refuse.result refl refl
-    c.refuse.ensures in
-    rw c.in-Up.is (Err c.in-Err.refusal, world fleet_state m, c.in-Err.ensures.refused, left.0, left.1)
+    run_refused ℕ RollRuns Head c.args.self.now c.in-Up.up c.roll_all-outcome.new.master c.in-Up.is c.in-Err.refusal
+    c.in-Err.ensures.refused c.refuse.new.self c.refuse.result c.refuse.ensures
 
 pub returns-in_default : goal.returns-in_default
 returns-in_default c =
     let node = c.args.self.now in
     let down = not_up node c.in_default.not-Up in
-    record { told = λ config. down_told node config Roll down refl; rolled = down_roll node down }
+    record { told = λ config. down_told node config Roll down refl; rolled = down_run RollRuns Head node down }

@@ -1,17 +1,11 @@
-use Rattle.std.proofs.Common.{sym, subst}
-use Rattle.answers.specs.declared.answer.Answer.{Answer}
-use Rattle.cluster.specs.declared.node.Node.TheVariants.{Up}
-use Rattle.cluster.specs.Served.{AnswersStep}
 use Rattle.cluster.proofs.ByHand.{made_told, refused_told}
 use Rattle.cluster.proofs.node.Node.step.Goals as goal
 
 pub returns-in-Ok-clause-told : goal.returns-in-Ok-clause-told
 returns-in-Ok-clause-told c = λ config.
     let a = c.in-Ok in
-    subst (λ (x : Answer). AnswersStep c.args.self.now config c.args.step (Up c.step.new.self) x)
-    (sym c.answer_of.ensures)
-    (made_told c.args.self.now c.in-Up.up c.step.new.self c.in-Up.is c.args.step a.ensures.valid a.ensures.keeps config
-    a.made a.ensures.gives)
+    made_told c.args.self.now c.in-Up.up c.step.new.self c.in-Up.is c.args.step a.ensures.valid a.ensures.keeps config
+    a.made a.ensures.gives
 
 pub returns-in-Err-clause-told : goal.returns-in-Err-clause-told
 returns-in-Err-clause-told c = λ config.

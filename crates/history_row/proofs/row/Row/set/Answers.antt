@@ -1,4 +1,4 @@
-use Rattle.std.proofs.Common.{ap, sym, ◌∙◌, ◌-◌, ℕ, Some, MatchBool, ◌≡◌, subst}
+use Rattle.std.proofs.Common.{ap, ◌∙◌, ◌-◌, ℕ, Some, MatchBool, ◌≡◌, subst}
 use Rattle.std.specs.Prelude.{slice_set}
 use Rattle.std.proofs.Math.Seq.{map-set_same}
 use Rattle.versioned_map.specs.declared.command.Record.{Record}

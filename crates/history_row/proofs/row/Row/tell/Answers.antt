@@ -3,7 +3,7 @@ use Rattle.std.specs.Prelude.{slice_get}
 use Rattle.std.proofs.Math.Seq.{map-set_same}
 use Rattle.std.proofs.lemmas.List.{length-map}
 use Rattle.history_row.specs.Receipts.{Told}
-use Rattle.history_row.specs.Rows.{names, row_of, known_of}
+use Rattle.history_row.specs.Rows.{names, known_of}
 use Rattle.std.proofs.lemmas.Option.{same_Some}
 use Rattle.history_row.proofs.Slots.{at_slot, at_name, get_behind, shown_agree, row_has}
 use Rattle.history_row.proofs.row.Row.tell.Goals as goal
