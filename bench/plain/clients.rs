@@ -1,13 +1,23 @@
 //! A plain Rust program of the same rules, without contracts: clients in threads of their own over one locked store. Its words
 //! are how many clients there are, how many rounds each makes, and the bytes of a segment. It prints what `ramlog` prints to
-//! the line `clients`. As there, each holding of the lock makes one step: it applies a command, hands one unit to one replica,
-//! or answers a call whose record is durable. Only a roll is one step here.
+//! the line `clients`. As there, each holding of the lock makes at most one step: it applies a command, or hands one unit to one
+//! replica. Only a roll is one step here. Two further words may say otherwise:
+//!
+//! - `three` or `six`: with `three`, as in `ramlog`, the holding that makes a step also answers a call whose record is durable
+//!   then, so a put takes the lock three times and a get once. With `six` an answer has a holding of its own.
+//! - `back` or `sleep`: with `back`, as in `ramlog`, a thread that finds the lock held tries again, with pauses that double, before
+//!   it sleeps. With `sleep` it waits as Rust's mutex does.
 
 use std::collections::HashMap;
-use std::sync::Mutex;
+use std::hint::spin_loop;
+use std::sync::{Mutex, MutexGuard, TryLockError};
 use std::thread;
 
 const REPLICAS: usize = 2;
+/// How often a thread tries to take the lock before it sleeps, and how long it pauses between tries, at first and at most.
+const TRIES: usize = 40;
+const FIRST_PAUSE: usize = 16;
+const LONGEST_PAUSE: usize = 512;
 
 /// Where an object is: its version, its segment, and where its value begins and ends there.
 #[derive(Clone, Copy)]
@@ -157,36 +167,102 @@ impl Master {
     }
 }
 
-fn finish(store: &Mutex<Master>, seat: usize, place: usize) {
-    while !store.lock().unwrap().settle(seat, place) {
-        store.lock().unwrap().push(false);
+/// A master that threads share.
+struct Store {
+    master: Mutex<Master>,
+    /// Whether the holding that makes a step answers too.
+    answers_at_once: bool,
+    /// Whether a thread tries again before it sleeps.
+    tries: bool,
+}
+
+impl Store {
+    fn take(&self) -> MutexGuard<'_, Master> {
+        let mut pause = FIRST_PAUSE;
+        for _ in 0..if self.tries { TRIES } else { 0 } {
+            match self.master.try_lock() {
+                Ok(guard) => return guard,
+                Err(TryLockError::WouldBlock) => {}
+                Err(TryLockError::Poisoned(_)) => panic!("a client panicked"),
+            }
+            for _ in 0..pause {
+                spin_loop();
+            }
+            pause = (2 * pause).min(LONGEST_PAUSE);
+        }
+        self.master.lock().unwrap()
+    }
+
+    /// Answers the call if its record is durable, in the holding of its step.
+    fn answer(&self, master: &mut Master, seat: usize, place: usize) -> bool {
+        self.answers_at_once && master.settle(seat, place)
+    }
+
+    fn finish(&self, seat: usize, place: usize) {
+        loop {
+            let mut master = self.take();
+            if master.settle(seat, place) {
+                return;
+            }
+            if !self.answers_at_once {
+                drop(master);
+                master = self.take();
+            }
+            master.push(false);
+            if self.answer(&mut master, seat, place) {
+                return;
+            }
+        }
+    }
+
+    fn put(&self, seat: usize, key: &[u8], value: &[u8]) {
+        loop {
+            let mut master = self.take();
+            let Applied::Done(place) = master.put(seat as u64, key, value) else {
+                drop(master);
+                self.take().push(true);
+                continue;
+            };
+            let is_answered = self.answer(&mut master, seat, place);
+            drop(master);
+            if !is_answered {
+                self.finish(seat, place);
+            }
+            return;
+        }
+    }
+
+    fn get(&self, seat: usize, key: &[u8]) {
+        let mut master = self.take();
+        let place = master.get(seat as u64, key);
+        let is_answered = self.answer(&mut master, seat, place);
+        drop(master);
+        if !is_answered {
+            self.finish(seat, place);
+        }
     }
 }
 
 /// All rounds of a client. Answers how many calls were accepted.
-fn serve(store: &Mutex<Master>, client: usize, rounds: u64) -> u64 {
+fn serve(store: &Store, client: usize, rounds: u64) -> u64 {
     let seat = client + 1;
     let key = format!("c{client}");
     for round in 1..=rounds {
-        let value = round.to_string();
-        let place = loop {
-            let applied = store.lock().unwrap().put(seat as u64, key.as_bytes(), value.as_bytes());
-            match applied {
-                Applied::Done(place) => break place,
-                Applied::Rolling => store.lock().unwrap().push(true),
-            }
-        };
-        finish(store, seat, place);
-        let place = store.lock().unwrap().get(seat as u64, key.as_bytes());
-        finish(store, seat, place);
+        store.put(seat, key.as_bytes(), round.to_string().as_bytes());
+        store.get(seat, key.as_bytes());
     }
     2 * rounds
 }
 
 fn main() {
-    let words: Vec<usize> = std::env::args().skip(1).map(|word| word.parse().unwrap()).collect();
-    let (clients, rounds) = (words[0], words[1]);
-    let store = Mutex::new(Master::new(words[2], 64));
+    let words: Vec<String> = std::env::args().skip(1).collect();
+    let number = |at: usize| words[at].parse::<usize>().unwrap();
+    let (clients, rounds) = (number(0), number(1));
+    let store = Store {
+        master: Mutex::new(Master::new(number(2), 64)),
+        answers_at_once: !words.iter().any(|word| word == "six"),
+        tries: !words.iter().any(|word| word == "sleep"),
+    };
     let calls: u64 = thread::scope(|scope| {
         let started: Vec<_> = (0..clients).map(|client| scope.spawn({
             let store = &store;

@@ -5,7 +5,7 @@ use lines::{Line, parse_line};
 use std::alloc::Global;
 use std::sync::Wait;
 use store_lines::locked_log::{CallFault, Naming, Seat, Store};
-use store_lines::master::{Look, Refusal, Shown};
+use store_lines::master::{Look, Refusal, Shown, StepAnswer};
 use store_lines::{Answer, Phase, command_of, look_line, take_all, turn_line};
 
 /// Runs a line, and answers what it prints.
@@ -149,7 +149,7 @@ pub fn push<B: Naming, R: Wait>(
 /// Begins a roll, and pushes until the new head is open. Answers the head.
 fn roll<B: Naming, R: Wait>(rt: &R, alloc: Global, store: &Store<MemoryFleet, B>) -> Answer {
     match take(rt, alloc, store, b"beginroll") {
-        Answer::Opening(_) => match push(rt, store, Phase::Pushes) {
+        Answer::Step(StepAnswer::Rolling(_)) => match push(rt, store, Phase::Pushes) {
             Ok(()) => head(rt, store),
             Err(refusal) => Answer::Refused(refusal),
         },
@@ -178,7 +178,7 @@ fn clean<B: Naming, R: Wait>(
     text: &[u8],
 ) -> Answer {
     match take(rt, alloc, store, text) {
-        Answer::Begun(survivors) => match finish(rt, alloc, store) {
+        Answer::Step(StepAnswer::Begun(survivors)) => match finish(rt, alloc, store) {
             Answer::Head(head) => Answer::Cleaned(survivors, head),
             answer => answer,
         },

@@ -1,7 +1,7 @@
 -- What a command under the lock did, from its step and from how its record was filed.
-use Rattle.std.proofs.Common.{◌≡◌, ◌≤◌, ◌<◌, ℕ, ◌+◌, ◌-◌, List, [], ◌∷◌, ◌++◌, Option, Some, true, false, length, get_or, refl, sym}
+use Rattle.std.proofs.Common.{◌≡◌, ◌≤◌, ◌<◌, ℕ, ◌+◌, ◌-◌, List, [], Option, Some, true, false, length, refl, sym}
 use Rattle.std.proofs.Common.{ap, ◌∙◌, subst, arith, inr}
-use Rattle.std.specs.Prelude.{slice_get, slice_set, Result, Ok, Err}
+use Rattle.std.specs.Prelude.{slice_set, Result, Ok, Err}
 use Rattle.replica.specs.Picture.{FleetState}
 use Rattle.versioned_map.specs.declared.command.Command.{Command}
 use Rattle.versioned_map.specs.declared.command.Record.{Record}
@@ -27,10 +27,8 @@ use Rattle.store_seat.specs.Made.{Made}
 use Rattle.store_seat.specs.Seats.{SeatValue, record_by, told, noted, unnoted}
 use Rattle.store_seat.specs.Accounts.{account, Knows}
 use Rattle.locked_log.specs.States.{IsState, Lasts}
-use Rattle.locked_log.proofs.Adding.{place_is, history_is}
-use Rattle.locked_log.proofs.Counting.{get_last}
+use Rattle.locked_log.proofs.Adding.{place_is}
 use Rattle.locked_log.proofs.Filing.{filed, filed_lasts, more, same_length}
-use Rattle.store_seat.proofs.Places.{get_there}
 use Rattle.locked_log.proofs.Writing.{row_whole, row_short}
 
 -- what is durable are records that there are, also while a failover is open
@@ -63,24 +61,14 @@ module _ (s t : Held) (m : SeatValue) (command : Command) (place : ℕ) (reply :
       total = total;
     }
 
-    -- what lies in the history at its place
-    pub what_is : (what : Record) → what ≡ get_or (history t) place what → what ≡ record_by m.number command reply
-    what_is what is = get_there (history t) place what (record_by m.number command reply) there is
-      where
-        there : slice_get (history t) place ≡ Some (record_by m.number command reply)
-        there =
-            ap (λ (l : List Record). slice_get l place) (history_is s.world t.world m.number command place reply accepted)
-            ∙ ap (slice_get (history s ++ record_by m.number command reply ∷ [])) at_end
-            ∙ get_last (history s) (record_by m.number command reply)
-
-    pub writes : (what : Record) (n : SeatValue) → Counts s m command place reply t → what ≡ get_or (history t) place what
-        → t.row ≡ slice_set s.row (place - s.start) (Some what) → t.is_refused ≡ false → n ≡ noted m (told place what)
+    pub writes : (what : Record) (n : SeatValue) → Counts s m command place reply t
+        → what ≡ record_by m.number command reply → t.row ≡ slice_set s.row (place - s.start) (Some what) → t.is_refused ≡ false → n ≡ noted m (told place what)
         → AppliesHeld s m command (Ok (place, reply)) t n
     writes what n counted is row refused seat = record {
       counts = counted;
-      row = row ∙ ap (λ (w : Record). slice_set s.row (place - s.start) (Some w)) (what_is what is);
+      row = row ∙ ap (λ (w : Record). slice_set s.row (place - s.start) (Some w)) is;
       refused = refused;
-      seat = seat ∙ ap (λ (w : Record). noted m (told place w)) (what_is what is);
+      seat = seat ∙ ap (λ (w : Record). noted m (told place w)) is;
     }
 
     pub loses : (n : SeatValue) → Counts s m command place reply t → t.row ≡ s.row → t.is_refused ≡ true → n ≡ unnoted m
@@ -133,7 +121,7 @@ module _ {F : Type 0} (state : F → FleetState) (v x : StateValue F) (same : v 
       (keeps : Keeps 1 (world state v.master) t.world)
       (remembers : t.world.knows.forgotten ≡ v.master.knows.forgotten) (valid : IsValid t.world.knows t.world.fleet)
       (begun : t.start ≡ v.start) (room : place < v.start + length v.row)
-      (is : what ≡ get_or (history t) place what)
+      (is : what ≡ record_by k command reply)
       (book : t.book ≡ slice_set v.book m.number (account m.first (m.count + 1))) (total : t.total ≡ v.total + 1) where
     abbrev s : Held
     s = held state x
@@ -170,14 +158,14 @@ module _ {F : Type 0} (state : F → FleetState) (v x : StateValue F) (same : v 
         (total ∙ ap (λ (y : StateValue F). y.total + 1) same)
 
     own : what ≡ record_by m.number command reply
-    own = what_is s t m command place reply made st_at known off_at gives_at begun_at what is
+    own = is ∙ ap (λ (z : ℕ). record_by z command reply) seat
 
     pub took : (n : SeatValue) → t.row ≡ slice_set v.row (place - v.start) (Some what) → t.is_refused ≡ v.is_refused
         → n ≡ noted m (told place what) → Done s m command (Ok (place, reply)) t n made
     took n row flag noted_is =
         let row_at : t.row ≡ slice_set s.row (place - s.start) (Some what) = row
         ∙ ap (λ (y : StateValue F). slice_set y.row (place - y.start) (Some what)) same in record {
-          applies = writes s t m command place reply made st_at known off_at gives_at begun_at what n counted is row_at
+          applies = writes s t m command place reply made st_at known off_at gives_at begun_at what n counted own row_at
               (flag ∙ off) noted_is;
           lasts = filed_lasts s t m command place reply counted begun_at keeps_at
               (same_length true s.row t.row (place - s.start) (Some what) row_at) (λ on. absurd (both on));

@@ -1,6 +1,6 @@
 -- A seat has few records.
 use Rattle.std.proofs.Common.{◌≡◌, ◌≤◌, ◌<◌, ◌+◌, ◌==◌, length, arith}
-use Rattle.std.specs.Prelude.{None, ◌^◌, not}
+use Rattle.std.specs.Prelude.{None, ◌^◌, ◌-◌, not}
 use Rattle.std.proofs.lemmas.Bool.{and_parts, not-false, leb-true}
 use Rattle.std.proofs.lemmas.List.{length-drop}
 use Rattle.std.proofs.lemmas.List.Sums.{count_by-le-length}
@@ -9,6 +9,8 @@ use Rattle.store_step.specs.master.master_state.declared.config.Config.{Config}
 use Rattle.store_step.specs.master.master_state.Config.{config_fault, has_backups, has_step, has_seglet, has_segment, has_budget}
 use Rattle.store_step.specs.master.master_state.Config.{has_tablets, has_history}
 use Rattle.store_step.proofs.of_master.master_state.Refusals.{passes}
+use Rattle.store_step.specs.master.Valid.{IsValid}
+use Rattle.store_step.specs.master.World.{World}
 use Rattle.locked_log.specs.Held.{Held, history, made_since}
 use Rattle.store_seat.specs.Made.{Made}
 use Rattle.store_seat.specs.Seats.{SeatValue}
@@ -27,6 +29,11 @@ few_records c ok =
     let h = passes (not (has_history c)) _ _ t.1 in
     let within = and_parts _ _ (not-false (has_history c) h.0) in
     leb-true c.history 1048576 within.1
+
+-- a history has few records
+pub few_all : (w : World) → IsValid w.knows w.fleet → length w.knows.history < 2 ^ 63 - 2 ^ 61
+few_all w valid =
+    omega (arith, valid.history.few, valid.history.places, few_records w.knows.config valid.config)
 
 -- its count can rise
 pub small : (h : Held) (made : Made) (m : SeatValue) → IsState h made → Knows h.book m → m.count + 1 < 2 ^ 64

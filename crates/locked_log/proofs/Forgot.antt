@@ -18,7 +18,7 @@ use Rattle.locked_log.specs.States.{IsState, Lasts}
 use Rattle.locked_log.specs.Steps.{ForgetsHeld}
 use Rattle.locked_log.proofs.Stepped.{moved_lasts, moved_state}
 
-lt_or : (a b : ℕ) → (a < b) ⊎ (b ≤ a)
+pub lt_or : (a b : ℕ) → (a < b) ⊎ (b ≤ a)
 lt_or a zero = inr (omega arith)
 lt_or zero (suc b) = inl (omega arith)
 lt_or (suc a) (suc b) = ⊎_elim (λ l. inl (omega (arith, l))) (λ l. inr (omega (arith, l))) (lt_or a b)

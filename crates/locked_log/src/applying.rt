@@ -8,6 +8,7 @@ ghost use Rattle.store_seat.specs.Accounts.{Knows};
 ghost use Rattle.store_step.specs.master.master_state.Causes.{command_refusal};
 
 use crate::state::State;
+use history::{RecordRef, view_command, view_reply};
 use replica::Fleet;
 use store_seat::{CallFault, Naming, Seat, file};
 use store_step::apply_command;
@@ -18,19 +19,19 @@ impl<F: Fleet, B: Naming> State<F, B> {
     pub fn apply_held(
         &mut self,
         seat: &mut Seat<B>,
-        command: Command,
+        command: &Command,
     ) -> Result<(u64, Reply), CallFault>
-        ensures applies { AppliesHeld (held F.state self.old) seat.old command result
+        ensures applies { AppliesHeld (held F.state self.old) seat.old command.now result
             (held F.state self.new) seat.new }
         ensures lasts { Lasts 1 (held F.state self.old) (held F.state self.new) }
         ensures valid { IsState (held F.state self.new) B.made }
     {
         self.show_valid();
         if !self.has_cell() {
-            return Err(self.lacks_cell(seat, &command));
+            return Err(self.lacks_cell(seat, command));
         }
         if !self.reserve() {
-            return Err(self.want(seat, &command));
+            return Err(self.want(seat, command));
         }
         self.apply_reserved(seat, command)
     }
@@ -99,10 +100,10 @@ impl<F: Fleet, B: Naming> State<F, B> {
     fn apply_reserved(
         &mut self,
         seat: &mut Seat<B>,
-        command: Command,
+        command: &Command,
     ) -> Result<(u64, Reply), CallFault>
         requires { length self.old.master.knows.history < self.old.start + length self.old.row }
-        ensures applies { AppliesHeld (held F.state self.old) seat.old command result
+        ensures applies { AppliesHeld (held F.state self.old) seat.old command.now result
             (held F.state self.new) seat.new }
         ensures lasts { Lasts 1 (held F.state self.old) (held F.state self.new) }
         ensures valid { IsState (held F.state self.new) B.made }
@@ -114,12 +115,16 @@ impl<F: Fleet, B: Naming> State<F, B> {
             return Err(CallFault::SeatUnknown);
         }
         self.master.show_kept();
-        let (place, reply) = match apply_command(&mut self.master, seat.number(), command) {
+        let number = seat.number();
+        let view = view_command(command);
+        let (place, reply) = match apply_command(&mut self.master, number, &view) {
             Ok(applied) => applied,
             Err(refusal) => return Err(CallFault::Refused(refusal)),
         };
-        let Some(what) = self.master.history().get(place as usize) else {
-            unreachable!()
+        let what = RecordRef {
+            seat: number,
+            command: view,
+            reply: view_reply(&reply),
         };
         if !file(
             self.alloc,

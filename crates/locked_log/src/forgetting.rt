@@ -27,7 +27,7 @@ impl<F: Fleet, B: Naming> State<F, B> {
 
     /// The place of the first durable record that a seat can still settle; without one, the durable count, or the first
     /// place that isn't forgotten and that has a cell, if that is higher.
-    fn bound(&self) -> u64
+    pub(crate) fn bound(&self) -> u64
         ensures settled { IsSettled self.now.start self.now.book self.now.master.knows.history result }
         ensures near { IsOpen self.now.book self.now.master.knows.history result
             ⊎ (durable_of (log_of self.now.master.knows) ≤ result) }

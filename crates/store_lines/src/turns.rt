@@ -68,28 +68,8 @@ fn turn_of(alloc: Global, line: Line<'_>) -> Result<Option<CleanTurn>, LineFault
 /// Makes one step, and gives its answer.
 fn take_turn<B: Naming, R: Wait>(rt: &R, store: &Store<MemoryFleet, B>, turn: CleanTurn) -> Answer {
     match store.turn(rt, turn) {
-        Ok(answer) => answer_of(answer),
+        Ok(made) => Answer::Step(made),
         Err(refusal) => refuse(rt, store, refusal),
-    }
-}
-
-/// The answer for a step that was made.
-fn answer_of(answer: StepAnswer) -> Answer {
-    match answer {
-        StepAnswer::Applied(_, reply) => Answer::Reply(reply),
-        StepAnswer::Extended(backup, segment) => Answer::Extended(backup, segment),
-        StepAnswer::Opened(backup, segment) => Answer::Opened(backup, segment),
-        StepAnswer::Closed(backup, segment) => Answer::Closed(backup, segment),
-        StepAnswer::Rolling(id) => Answer::Opening(id),
-        StepAnswer::Compacted(segment, len) => Answer::Compacted(segment, len),
-        StepAnswer::Begun(survivors) => Answer::Begun(survivors),
-        StepAnswer::Moved => Answer::Moved,
-        StepAnswer::Carried => Answer::Carried,
-        StepAnswer::Dropped => Answer::Dropped,
-        StepAnswer::Sealed(backup) => Answer::Sealed(backup),
-        StepAnswer::Freed(segment, backup) => Answer::Freed(segment, backup),
-        StepAnswer::Raised(id) => Answer::Raised(id),
-        StepAnswer::Repaired(backup, segment) => Answer::Repaired(backup, segment),
     }
 }
 
@@ -191,7 +171,7 @@ fn clean<B: Naming, R: Wait>(
             Ok(head) => Answer::Cleaned(survivors, head),
             Err(refusal) => refuse(rt, store, refusal),
         },
-        Ok(answer) => answer_of(answer),
+        Ok(made) => Answer::Step(made),
         Err(refusal) => refuse(rt, store, refusal),
     }
 }

@@ -1,5 +1,5 @@
 -- What a call does to its seat, from what it did under the lock.
-use Rattle.std.proofs.Common.{◌≡◌, ◌≤◌, ◌+◌, ℕ, Some, Err, refl, sym, ap, ◌∙◌, arith, ⊎_elim}
+use Rattle.std.proofs.Common.{◌≡◌, ◌≤◌, ◌+◌, ℕ, Bool, true, false, Some, Err, MatchBool, refl, sym, ap, ◌∙◌, arith, ⊎_elim}
 use Rattle.versioned_map.specs.declared.command.Command.{Command}
 use Rattle.versioned_map.specs.declared.command.Reply.{Reply}
 use Rattle.history_row.specs.Receipts.{Told}
@@ -84,3 +84,15 @@ answered_call m n k v command reply place t q r first is done same last kept giv
       seat = (λ i. record (whole i) { last = Some (q_is i) })
           ∙ ap (λ (x : Told). answered (noted m x) x.place) (sym r_is);
     }
+
+-- ---- a record whose seat was answered where it was made, or not
+
+pub unanswered : (b : Bool) (n x y : SeatValue) → b ≡ false → MatchBool b (n ≡ x) (n ≡ y) → n ≡ y
+unanswered true n x y off h = absurd (cc)
+unanswered false n x y off h = h
+
+-- either way it is answered in the end
+pub answered_then : (b : Bool) (k n v : SeatValue) (place : ℕ) → MatchBool b (n ≡ answered k place) (n ≡ k)
+    → MatchBool b (v ≡ n) (v ≡ answered n place) → v ≡ answered k place
+answered_then true k n v place h g = g ∙ h
+answered_then false k n v place h g = g ∙ ap (λ (x : SeatValue). answered x place) h

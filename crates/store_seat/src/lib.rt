@@ -19,6 +19,7 @@ mod log;
 mod naming;
 mod seat;
 mod shared;
+mod waiting;
 
 pub use account::{Account, is_known};
 pub use claiming::{claim, owns};
@@ -26,7 +27,8 @@ pub use fault::CallFault;
 pub use filing::{file, settle};
 pub use forgetting::settled_to;
 pub use history_row::{Receipt, Row};
-pub use log::{Attempt, Log, Progress};
+pub use log::{Applied, Attempt, Log, Progress};
 pub use naming::Naming;
 pub use seat::Seat;
 pub use shared::Shared;
+pub use waiting::take;

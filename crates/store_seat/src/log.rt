@@ -3,7 +3,7 @@
 ghost use Rattle.std.specs.Prelude.{◌≡◌, ◌≤◌, IfErr, MatchBool};
 ghost use Rattle.store_seat.specs.Claims.{ClaimsSeat};
 ghost use Rattle.store_seat.specs.Seats.{answered};
-ghost use Rattle.store_seat.specs.Shared.{AttemptsSeat, ProceedsSeat};
+ghost use Rattle.store_seat.specs.Shared.{AdvancesSeat, AttemptsSeat, TriesSeat};
 ghost use Rattle.store_seat.specs.Stops.{StopsPush};
 
 use crate::fault::CallFault;
@@ -13,16 +13,27 @@ use history_row::Receipt;
 use master_core::Refusal;
 use versioned_map::{Command, Reply};
 
+/// A command that was applied.
+#[derive(Drop)]
+pub struct Applied {
+    /// The place of its record.
+    pub place: u64,
+    pub reply: Reply,
+    /// Whether the record was durable at once, so that the seat was answered up to it.
+    pub is_answered: bool,
+}
+
 /// What became of a command.
 #[derive(Drop)]
 pub enum Attempt {
     /// The command was applied or refused.
-    Done(Result<(u64, Reply), CallFault>),
+    Done(Result<Applied, CallFault>),
     /// A roll has to come before the command. The roll was begun, or its begin was refused for this reason.
-    Waits(Command, Option<Refusal>),
+    Waits(Option<Refusal>),
 }
 
 /// Whether the seat was answered up to the place of its record.
+#[derive(Clone, Copy)]
 pub enum Progress {
     /// The record is durable, and the seat was answered up to it.
     Answered,
@@ -32,18 +43,24 @@ pub enum Progress {
     Unknown,
 }
 
-/// The log under the lock. Each call holds the lock once. The log itself says what a call does to it.
+/// The log under the lock. Each call holds the lock once, and makes at most one step of the log. The log itself says
+/// what a call does to it.
 pub trait Log<B: Naming> {
-    /// Applies one command of this seat. If a roll has to come first, it begins that roll instead, which is one step
-    /// too.
-    fn attempt(&mut self, seat: &mut Seat<B>, command: Command) -> Attempt
-        ensures seat { AttemptsSeat seat.old command result seat.new };
+    /// Applies one command of this seat. If the record is durable at once, the seat is marked as answered up to it. If
+    /// a roll has to come first, the result is `None`, and nothing changes.
+    fn apply(&mut self, seat: &mut Seat<B>, command: &Command) -> Option<Result<Applied, CallFault>>
+        ensures seat { TriesSeat seat.old command.now result seat.new };
 
-    /// Marks the seat as answered up to the place of its record, if that is durable. If the book's numbers of the seat
-    /// aren't the seat's own, all later calls are refused.
-    fn proceed(&mut self, seat: &mut Seat<B>, place: u64) -> Progress
+    /// Does the same, but if a roll has to come first, it begins that roll, which is one step too.
+    fn attempt(&mut self, seat: &mut Seat<B>, command: &Command) -> Attempt
+        ensures seat { AttemptsSeat seat.old command.now result seat.new };
+
+    /// Marks the seat as answered up to the place of its record, if that is durable. If it isn't, makes one push, and
+    /// marks the seat so if the record is durable then. If the book's numbers of the seat aren't the seat's own, all
+    /// later calls are refused.
+    fn advance(&mut self, seat: &mut Seat<B>, place: u64) -> Result<Progress, Refusal>
         requires { seat.old.first ≤ place }
-        ensures seat { ProceedsSeat seat.old place result seat.new };
+        ensures seat { AdvancesSeat seat.old place result seat.new };
 
     /// Marks the seat as answered up to this place, if that is durable and the book's numbers of the seat are the
     /// seat's own. Answers whether it did. If not, nothing changes.

@@ -1,15 +1,17 @@
 //! The calls of a seat over a log that threads share.
 
-ghost use Rattle.std.specs.Prelude.{◌≡◌, ◌≤◌, max, OnOk, IfErr, IfSome, MatchBool};
-ghost use Rattle.store_seat.specs.Calls.{AppliesSeat, Calls, IsLeft, met};
+ghost use Rattle.std.specs.Prelude.{◌≡◌, ◌≤◌, false, max, OnOk, IfErr, IfSome, MatchBool};
+ghost use Rattle.store_seat.specs.Calls.{Calls, IsLeft, met};
 ghost use Rattle.store_seat.specs.Claims.{SettlesSeat};
 ghost use Rattle.store_seat.specs.Seats.{SeatValue, answered};
+ghost use Rattle.store_seat.specs.Shared.{MakesSeat};
 ghost use Rattle.store_seat.specs.Stops.{RefusesCall, RefusesRoll};
 
 use crate::fault::CallFault;
-use crate::log::{Attempt, Log, Progress};
+use crate::log::{Applied, Attempt, Log, Progress};
 use crate::naming::Naming;
 use crate::seat::Seat;
+use crate::waiting::take;
 use history_row::Receipt;
 use mark_word::{Mark, load, raise};
 use master_core::Refusal;
@@ -71,19 +73,23 @@ impl<L: Log<B>, B: Naming> Shared<L, B> {
     /// Applies one command, and answers once its record is durable. The call rolls and pushes one step at a time, and
     /// frees the lock between the steps. It pushes an open failover to its end, whoever opened it. After Unsure or
     /// CellRefused the command may have been applied.
-    pub fn call<R: Wait>(
+    pub fn ask<R: Wait>(
         &self,
         rt: &R,
         seat: &mut Seat<B>,
-        command: Command,
+        command: &Command,
     ) -> Result<(Reply, Receipt<B>), CallFault>
-        ensures { Calls seat.old command result seat.new }
+        ensures { Calls seat.old command.now result seat.new }
     {
-        let (place, reply) = match self.apply(rt, seat, command) {
+        let Applied {
+            place,
+            reply,
+            is_answered,
+        } = match self.apply(rt, seat, command) {
             Ok(applied) => applied,
             Err(fault) => return Err(fault),
         };
-        match self.finish(rt, seat, place) {
+        match self.conclude(rt, seat, place, is_answered) {
             Ok(()) => {}
             Err(fault) => return Err(fault),
         }
@@ -103,7 +109,7 @@ impl<L: Log<B>, B: Naming> Shared<L, B> {
     ) -> Result<(Reply, Receipt<B>), CallFault>
         ensures { SettlesSeat seat.old place result seat.new }
     {
-        let mut answer = match self.state.lock(rt).claim(seat, place) {
+        let mut answer = match take(rt, &self.state).claim(seat, place) {
             Ok(answer) => answer,
             Err(fault) => return Err(fault),
         };
@@ -119,17 +125,32 @@ impl<L: Log<B>, B: Naming> Shared<L, B> {
         &self,
         rt: &R,
         seat: &mut Seat<B>,
-        command: Command,
-    ) -> Result<(u64, Reply), CallFault>
-        ensures { AppliesSeat seat.old command result seat.new }
+        command: &Command,
+    ) -> Result<Applied, CallFault>
+        ensures { MakesSeat seat.old command.now result seat.new }
     {
-        let mut command = command;
+        // A statement of its own, so that the lock is free again before the roll.
+        let tried = take(rt, &self.state).apply(seat, command);
+        match tried {
+            Some(result) => result,
+            None => self.roll_and_apply(rt, seat, command),
+        }
+    }
+
+    /// Rolls, and then applies the command.
+    fn roll_and_apply<R: Wait>(
+        &self,
+        rt: &R,
+        seat: &mut Seat<B>,
+        command: &Command,
+    ) -> Result<Applied, CallFault>
+        ensures { MakesSeat seat.old command.now result seat.new }
+    {
         for _ in rt.forever() {
-            let (back, refusal) = match self.state.lock(rt).attempt(seat, command) {
+            let refusal = match take(rt, &self.state).attempt(seat, command) {
                 Attempt::Done(result) => return result,
-                Attempt::Waits(back, refusal) => (back, refusal),
+                Attempt::Waits(refusal) => refusal,
             };
-            command = back;
             if let Err(refusal) = self.roll(rt, refusal) {
                 return Err(CallFault::Refused(refusal));
             }
@@ -144,9 +165,27 @@ impl<L: Log<B>, B: Naming> Shared<L, B> {
     {
         match refusal {
             None => Ok(()),
-            Some(Refusal::Rolling) => self.state.lock(rt).push(),
+            Some(Refusal::Rolling) => take(rt, &self.state).push(),
             Some(refusal) => Err(refusal),
         }
+    }
+
+    /// Does the same as `finish`, unless the seat was answered already.
+    fn conclude<R: Wait>(
+        &self,
+        rt: &R,
+        seat: &mut Seat<B>,
+        at: u64,
+        is_answered: bool,
+    ) -> Result<(), CallFault>
+        requires { is_answered ≡ false → seat.old.first ≤ at }
+        ensures ok { OnOk result (MatchBool is_answered (seat.new ≡ seat.old) (seat.new ≡ answered seat.old at)) }
+        ensures err { IfErr result (λ e. (is_answered ≡ false) × (seat.new ≡ seat.old) × IsLeft at e) }
+    {
+        if is_answered {
+            return Ok(());
+        }
+        self.finish(rt, seat, at)
     }
 
     /// Pushes until the record at this place is durable, and the seat was answered up to it.
@@ -156,13 +195,11 @@ impl<L: Log<B>, B: Naming> Shared<L, B> {
         ensures err { IfErr result (λ e. (seat.new ≡ seat.old) × IsLeft place e) }
     {
         for _ in rt.forever() {
-            match self.state.lock(rt).proceed(seat, place) {
-                Progress::Answered => return Ok(()),
-                Progress::Unknown => return Err(CallFault::CellRefused),
-                Progress::Waits => {}
-            }
-            if let Err(refusal) = self.state.lock(rt).push() {
-                return Err(CallFault::Unsure(place, refusal));
+            match take(rt, &self.state).advance(seat, place) {
+                Ok(Progress::Answered) => return Ok(()),
+                Ok(Progress::Unknown) => return Err(CallFault::CellRefused),
+                Ok(Progress::Waits) => {}
+                Err(refusal) => return Err(CallFault::Unsure(place, refusal)),
             }
         }
         unreachable!()
@@ -178,6 +215,6 @@ impl<L: Log<B>, B: Naming> Shared<L, B> {
         if place < seat.first {
             return true;
         }
-        self.state.lock(rt).settle(seat, place)
+        take(rt, &self.state).settle(seat, place)
     }
 }

@@ -1,6 +1,7 @@
 //! One step of a master: a seat's command, or a turn of the cleaner.
 
 ghost use Rattle.std.specs.Prelude.{◌≡◌, None, IfOk, OnErr};
+ghost use Rattle.history.specs.View.{shown_command};
 ghost use Rattle.master.specs.Keeps.{Keeps};
 ghost use Rattle.master.specs.Valid.{IsValid};
 ghost use Rattle.master.specs.World.{world};
@@ -9,23 +10,24 @@ ghost use Rattle.store_step.specs.Turns.{step_of, MakesTurn, MakesCommand};
 
 use crate::turn::CleanTurn;
 use entry::NoMemory;
-use master::{Command, Master, Refusal, Reply, Step, StepAnswer};
+use master::{CommandRef, Master, Refusal, Reply, Step, StepAnswer};
 use replica::Fleet;
 
-/// Applies one command of this seat. The result is the place of its record, and the reply.
+/// Applies one command of this seat, whose bytes may lie anywhere. The result is the place of its record, and the
+/// reply.
 pub fn apply_command<F: Fleet>(
     master: &mut Master<F>,
     seat: u64,
-    command: Command,
+    command: &CommandRef<'_>,
 ) -> Result<(u64, Reply), Refusal>
-    ensures gives { MakesCommand (world F.state master.old) seat command result (world F.state master.new) }
+    ensures gives { MakesCommand (world F.state master.old) seat (shown_command command.now) result
+        (world F.state master.new) }
     ensures keeps { Keeps 1 (world F.state master.old) (world F.state master.new) }
     ensures remembers { master.new.knows.forgotten ≡ master.old.knows.forgotten }
     ensures valid { IsValid master.new.knows (F.state master.new.fleet) }
 {
-    match master.step(Step::Apply(seat, command)) {
-        Ok(StepAnswer::Applied(place, reply)) => Ok((place, reply)),
-        Ok(_) => unreachable!(),
+    match master.answer(seat, command) {
+        Ok(answer) => Ok(answer),
         Err(refusal) => Err(refusal),
     }
 }

@@ -9,7 +9,9 @@ use std::alloc::Global;
 use std::sync::Wait;
 use std::thread;
 use std::thread::Threads;
-use store_clients::locked_log::{CallFault, CleanTurn, Naming, Receipt, Seat, Store};
+use store_clients::locked_log::{
+    CallFault, CleanTurn, Naming, Notes, Policy, Receipt, Seat, Store,
+};
 use store_clients::master::{Command, If, Look, Refusal, Reply, Shown, StepAnswer};
 
 /// A command of the tests. A put has a key and a value.
@@ -34,6 +36,8 @@ pub enum Act {
     Repeats(Do, u64),
     /// So many records are forgotten after a forgetting.
     Forgets(u64),
+    /// So many calls, and whether a cleaner that tends the log behind each makes a step.
+    Tends(Do, u64, bool),
     /// A call that makes so many takes at least, while another thread gets in between two of them.
     LetsIn(Do, u64, Told, u64),
     /// It settles the record at this place: the reply, or `None` for NotYours.
@@ -271,6 +275,55 @@ fn turns<F: Fleet, B: Naming, R: Wait>(
     kind == want
 }
 
+/// The policy of a cleaner for a small master.
+const POLICY: Policy = Policy {
+    segment: 512,
+    seglet: 64,
+    spare: 4,
+    stored: 105,
+};
+
+/// Has a cleaner tend the log until it rests, or has made 16 steps. How many it made, or `None` after a refusal.
+fn tend<F: Fleet, B: Naming, R: Wait>(
+    rt: &R,
+    store: &Store<F, B>,
+    notes: &mut Notes,
+) -> Option<u64> {
+    for made in 0..16 {
+        match store.tend(rt, &POLICY, notes) {
+            Ok(Some(_)) => {}
+            Ok(None) => return Some(made),
+            Err(_) => return None,
+        }
+    }
+    Some(16)
+}
+
+/// Makes the call so many times, and has a cleaner tend the log behind each. Whether each was answered, and the cleaner
+/// made a step, or none, as wanted.
+fn is_tended<F: Fleet, B: Naming, R: Wait>(
+    rt: &R,
+    alloc: Global,
+    store: &Store<F, B>,
+    seat: &mut Seat<B>,
+    what: &Do,
+    times: u64,
+    want: bool,
+) -> bool {
+    let mut notes = Notes::new(alloc);
+    let mut steps: u64 = 0;
+    for _ in 0..times {
+        if !is_made(rt, store, seat, command_of(alloc, what)) {
+            return false;
+        }
+        match tend(rt, store, &mut notes) {
+            Some(made) => steps = steps.saturating_add(made),
+            None => return false,
+        }
+    }
+    (steps > 0) == want
+}
+
 fn limits<F: Bench, B: Naming, R: Wait>(rt: &R, store: &Store<F, B>, takes: u64) -> bool {
     store.limit(rt, takes);
     true
@@ -386,6 +439,9 @@ fn is_told<F: Bench + Send, B: Naming + Send + Sync, R: Threads + Wait + Sync>(
             Some(command) => finds_no_cell(rt, store, seat, command, *why),
             None => false,
         },
+        Act::Tends(what, times, works) => {
+            is_tended(rt, alloc, store, seat, what, *times, *works)
+        }
         Act::Repeats(what, times) => repeats(rt, alloc, store, seat, what, *times),
         Act::Settles(place, reply) => settles(rt, store, seat, receipts, *place, *reply),
         Act::Stays(place, why) => stays(rt, store, seat, *place, *why),

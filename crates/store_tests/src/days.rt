@@ -325,6 +325,10 @@ const FORGOTTEN: &[(usize, Act)] = &[
     (2, Act::Counts(0, 0)),
 ];
 
+/// One key is put again and again. Without a cleaner the log would be full after some twenty puts. One that tends it
+/// rests while memory isn't short, and then keeps room for all.
+const TENDED: &[(usize, Act)] = &[(0, Act::Tends(X, 8, false)), (0, Act::Tends(X, 90, true))];
+
 /// The size of a store, the shape of its master and what they ask; then the place behind the last receipt that the row
 /// told at its close, and how many seglets the master used.
 type Day = (Size, Shape, &'static [(usize, Act)], usize, u64);
@@ -349,6 +353,7 @@ const DAYS: &[Day] = &[
     (ONE, HALTING, LOOKED, 4, 15),
     ((1, 2, RECORDS, 3), HALTING, SHARED, 6, 8),
     ((3, 2_000, 1_500, 0), HALTING, FORGOTTEN, 1_501, 8),
+    ((1, 100, 100, 0), LASTING, TENDED, 0, 32),
 ];
 
 /// How a day ended.

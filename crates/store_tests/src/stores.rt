@@ -25,7 +25,7 @@ pub type Size = (u64, u64, u64, u64);
 pub type Evening = (usize, usize, u64);
 
 /// How many are answered as wanted, up to the first that is not.
-fn answered<F: Bench + Send, B: Naming + Send + Sync, R: Threads + Wait + Sync>(
+pub fn answered<F: Bench + Send, B: Naming + Send + Sync, R: Threads + Wait + Sync>(
     rt: &R,
     alloc: Global,
     store: &Store<F, B>,

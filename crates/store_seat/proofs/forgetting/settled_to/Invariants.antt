@@ -1,4 +1,3 @@
-use Rattle.std.proofs.Common.{◌≤◌}
 use Rattle.store_seat.specs.Accounts.{IsSettled}
 use Rattle.store_seat.proofs.forgetting.settled_to.Given as goal
 

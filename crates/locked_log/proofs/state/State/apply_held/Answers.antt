@@ -13,7 +13,7 @@ returns-then-not-has_cell-clause-lasts g c = lasts_same 1 (held g.F.Fleet.state 
 
 pub returns-then-not-reserve-clause-applies : goal.returns-then-not-reserve-clause-applies
 returns-then-not-reserve-clause-applies g c =
-    subst (λ (y : StateValue _). AppliesHeld (held g.F.Fleet.state y) c.args.seat.now c.args.command
+    subst (λ (y : StateValue _). AppliesHeld (held g.F.Fleet.state y) c.args.seat.now c.args.command.now
     (Err c.want.result) (held g.F.Fleet.state c.reserve.new.self) c.args.seat.now) c.reserve.ensures.same c.want.ensures
 
 pub returns-then-not-reserve-clause-lasts : goal.returns-then-not-reserve-clause-lasts
@@ -23,7 +23,7 @@ returns-then-not-reserve-clause-lasts g c =
 
 pub returns-clause-applies : goal.returns-clause-applies
 returns-clause-applies g c =
-    subst (λ (y : StateValue _). AppliesHeld (held g.F.Fleet.state y) c.args.seat.now c.args.command
+    subst (λ (y : StateValue _). AppliesHeld (held g.F.Fleet.state y) c.args.seat.now c.args.command.now
     c.apply_reserved.result (held g.F.Fleet.state c.apply_reserved.new.self) c.apply_reserved.new.seat)
     c.reserve.ensures.same c.apply_reserved.ensures.applies
 

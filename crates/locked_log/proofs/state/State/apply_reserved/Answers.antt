@@ -1,28 +1,30 @@
-use Rattle.std.proofs.Common.{◌≡◌, rules, refl, ap, sym, ◌∙◌, Ok, Err, List, [], ◌∷◌, length, length-append}
-use Rattle.std.proofs.Common.{subst, inl, arith, ◌<◌, ◌+◌}
-use Rattle.std.specs.Prelude.{slice_get}
-use Rattle.versioned_map.specs.declared.command.Record.{Record}
+use Rattle.std.proofs.Common.{◌≡◌, rules, refl, ap, sym, ◌∙◌, Ok, Err, length, subst, inl, arith, ◌<◌, ◌+◌}
+use Rattle.versioned_map.specs.declared.command.Command.{Command}
+use Rattle.versioned_map.specs.declared.command.Reply.{Reply}
 use Rattle.store_step.specs.master.World.{World, world}
 use Rattle.store_seat.specs.declared.fault.CallFault.TheVariants.{CellRefused}
 use Rattle.locked_log.specs.Held.{StateValue, Held, held}
 use Rattle.store_seat.specs.Accounts.{Knows}
 use Rattle.locked_log.specs.States.{IsState, Lasts}
 use Rattle.store_seat.specs.Seats.{record_by}
-use Rattle.locked_log.proofs.Adding.{place_is, history_is}
+use Rattle.locked_log.proofs.Adding.{place_is}
 use Rattle.locked_log.proofs.Applied.{Done, declines_at, has_room, took, missed}
 use Rattle.locked_log.proofs.Few.{small}
 use Rattle.locked_log.proofs.Lasting.{lasts_same}
 use Rattle.locked_log.proofs.state.State.apply_reserved.Given.{Over}
-use Rattle.history.specs.View.{shown_record}
-use Rattle.store_seat.proofs.Owning.{got, kept_is}
-use Rattle.std.proofs.lemmas.Option.{get_or_from_slice_get, slice_get-get_or}
+use Rattle.history.specs.View.{shown_command}
+use Rattle.store_step.specs.master.master_state.declared.step.Step.TheVariants.{Apply}
+use Rattle.store_step.specs.master.Steps.{Declines}
 use Rattle.locked_log.proofs.state.State.apply_reserved.Goals as goal
 
 pub returns-in-Err-clause-applies : goal.returns-in-Err-clause-applies
 returns-in-Err-clause-applies g c =
     let known : Knows c.args.self.now.book c.args.seat.now = c.knows.ensures.0 (search rules) in
-    let d = declines_at g.F.Fleet.state _ c.args.self.now c.self.view_is c.args.seat.now c.number.result
-    c.number.ensures c.args.command c.in-Err.refusal _ c.in-Err.ensures.gives in
+    let d = subst (λ (k : Command). Declines (world g.F.Fleet.state c.args.self.now.master)
+    (Apply c.args.seat.now.number k) c.in-Err.refusal (world g.F.Fleet.state c.apply_command.new.master))
+    c.view_command-view.ensures (declines_at g.F.Fleet.state _ c.args.self.now c.self.view_is c.args.seat.now
+    c.number-number.result c.number-number.ensures (shown_command c.view_command-view.result) c.in-Err.refusal _
+    c.in-Err.ensures.gives) in
     let off = ap (λ (y : StateValue _). y.is_refused) (sym c.self.view_is) ∙ c.if-self.false in
     let same : world g.F.Fleet.state c.apply_command.new.master ≡ world g.F.Fleet.state c.self.inside.master =
     c.in-Err.ensures.gives.0 in (
@@ -93,7 +95,7 @@ file-requires-clause-room g c =
     c.self.invariant) known
 
 done-missed : (g : Over) (c : goal.Joined-reply g)
-    → Done (held g.F.Fleet.state c.args.self.now) c.args.seat.now c.args.command (Err CellRefused)
+    → Done (held g.F.Fleet.state c.args.self.now) c.args.seat.now c.args.command.now (Err CellRefused)
     (record {
       world = world g.F.Fleet.state c.apply_command.new.master;
       book = c.file.new.book.items;
@@ -105,18 +107,26 @@ done-missed : (g : Over) (c : goal.Joined-reply g)
     c.file.new.seat g.B.Naming.made
 done-missed g c =
     let known : Knows c.args.self.now.book c.args.seat.now = c.knows.ensures.0 (search rules) in
-    let what = shown_record c.in-Some.what in
-    missed g.F.Fleet.state _ c.args.self.now c.self.view_is c.args.seat.now c.number.result c.number.ensures
-    c.args.command c.in-Ok.applied.0 c.in-Ok.applied.1 _ g.B.Naming.made what
+    let asked = shown_command c.view_command-view.result in
+    subst (λ (k : Command). Done (held g.F.Fleet.state c.args.self.now) c.args.seat.now k (Err CellRefused)
+    (record {
+      world = world g.F.Fleet.state c.apply_command.new.master;
+      book = c.file.new.book.items;
+      total = c.file.new.total.total;
+      start = g.B.Labels.start;
+      row = c.file.new.row;
+      is_refused = c.file.new.is_refused;
+    })
+    c.file.new.seat g.B.Naming.made) c.view_command-view.ensures
+    (missed g.F.Fleet.state _ c.args.self.now c.self.view_is c.args.seat.now c.number-number.result
+    c.number-number.ensures asked c.in-Ok.applied.0 c.in-Ok.applied.1 _ g.B.Naming.made _
     c.self.invariant c.show_kept.ensures known c.if-self.false c.in-Ok.ensures.gives c.apply_command.ensures.keeps
-    c.apply_command.ensures.remembers c.apply_command.ensures.valid refl (has_room g.F.Fleet.state _ c.args.self.now c.self.view_is
-    c.in-Ok.applied.0 (place_is _ _ c.number.result c.args.command c.in-Ok.applied.0 c.in-Ok.applied.1
+    c.apply_command.ensures.remembers c.apply_command.ensures.valid refl (has_room g.F.Fleet.state _ c.args.self.now
+    c.self.view_is c.in-Ok.applied.0 (place_is _ _ c.number-number.result asked c.in-Ok.applied.0 c.in-Ok.applied.1
     c.in-Ok.ensures.gives) c.requires)
-    (sym (get_or_from_slice_get _ c.in-Ok.applied.0 what what (sym ((got c.history.result.now c.in-Ok.applied.0 what
-    c.in-Some.ensures).1
-    ∙ ap (λ (h : List Record). slice_get h c.in-Ok.applied.0) c.history.ensures.records))))
+    (ap (λ (r : Reply). record_by c.number-number.result asked r) c.view_reply.ensures)
     c.file.ensures.book c.file.ensures.total c.file.new.seat c.if-not-file.ensures.row c.if-not-file.ensures.refused
-    c.if-not-file.ensures.seat
+    c.if-not-file.ensures.seat)
 
 pub invariant_of-self-then-not-file : goal.invariant_of-self-then-not-file
 invariant_of-self-then-not-file g c = (done-missed g c).valid
@@ -131,7 +141,7 @@ pub returns-then-not-file-clause-valid : goal.returns-then-not-file-clause-valid
 returns-then-not-file-clause-valid g c = (done-missed g c).valid
 
 done-took : (g : Over) (c : goal.Else-not-file g)
-    → Done (held g.F.Fleet.state c.args.self.now) c.args.seat.now c.args.command
+    → Done (held g.F.Fleet.state c.args.self.now) c.args.seat.now c.args.command.now
     (Ok (c.in-Ok.applied.0, c.in-Ok.applied.1))
     (record {
       world = world g.F.Fleet.state c.apply_command.new.master;
@@ -144,18 +154,26 @@ done-took : (g : Over) (c : goal.Else-not-file g)
     c.file.new.seat g.B.Naming.made
 done-took g c =
     let known : Knows c.args.self.now.book c.args.seat.now = c.knows.ensures.0 (search rules) in
-    let what = shown_record c.in-Some.what in
-    took g.F.Fleet.state _ c.args.self.now c.self.view_is c.args.seat.now c.number.result c.number.ensures
-    c.args.command c.in-Ok.applied.0 c.in-Ok.applied.1 _ g.B.Naming.made what
+    let asked = shown_command c.view_command-view.result in
+    subst (λ (k : Command). Done (held g.F.Fleet.state c.args.self.now) c.args.seat.now k (Ok (c.in-Ok.applied.0, c.in-Ok.applied.1))
+    (record {
+      world = world g.F.Fleet.state c.apply_command.new.master;
+      book = c.file.new.book.items;
+      total = c.file.new.total.total;
+      start = g.B.Labels.start;
+      row = c.file.new.row;
+      is_refused = c.file.new.is_refused;
+    })
+    c.file.new.seat g.B.Naming.made) c.view_command-view.ensures
+    (took g.F.Fleet.state _ c.args.self.now c.self.view_is c.args.seat.now c.number-number.result
+    c.number-number.ensures asked c.in-Ok.applied.0 c.in-Ok.applied.1 _ g.B.Naming.made _
     c.self.invariant c.show_kept.ensures known c.if-self.false c.in-Ok.ensures.gives c.apply_command.ensures.keeps
-    c.apply_command.ensures.remembers c.apply_command.ensures.valid refl (has_room g.F.Fleet.state _ c.args.self.now c.self.view_is
-    c.in-Ok.applied.0 (place_is _ _ c.number.result c.args.command c.in-Ok.applied.0 c.in-Ok.applied.1
+    c.apply_command.ensures.remembers c.apply_command.ensures.valid refl (has_room g.F.Fleet.state _ c.args.self.now
+    c.self.view_is c.in-Ok.applied.0 (place_is _ _ c.number-number.result asked c.in-Ok.applied.0 c.in-Ok.applied.1
     c.in-Ok.ensures.gives) c.requires)
-    (sym (get_or_from_slice_get _ c.in-Ok.applied.0 what what (sym ((got c.history.result.now c.in-Ok.applied.0 what
-    c.in-Some.ensures).1
-    ∙ ap (λ (h : List Record). slice_get h c.in-Ok.applied.0) c.history.ensures.records))))
+    (ap (λ (r : Reply). record_by c.number-number.result asked r) c.view_reply.ensures)
     c.file.ensures.book c.file.ensures.total c.file.new.seat c.if-not-file.ensures.row c.if-not-file.ensures.refused
-    c.if-not-file.ensures.seat
+    c.if-not-file.ensures.seat)
 
 pub invariant_of-self-2 : goal.invariant_of-self-2
 invariant_of-self-2 g c = (done-took g c).valid
@@ -203,37 +221,15 @@ pub returns-then-not-knows-clause-valid : goal.returns-then-not-knows-clause-val
 returns-then-not-knows-clause-valid g c =
     subst (λ (y : StateValue _). IsState (held g.F.Fleet.state y) g.B.Naming.made) c.self.view_is c.self.invariant
 
--- ---- the place of the record
-
-pub unreachable-requires : goal.unreachable-requires
-unreachable-requires g c =
-    let old = world g.F.Fleet.state c.self.inside.master in
-    let new = world g.F.Fleet.state c.apply_command.new.master in
-    let accepted = c.in-Ok.ensures.gives in
-    let at_end = place_is old new c.number.result c.args.command c.in-Ok.applied.0 c.in-Ok.applied.1 accepted in
-    let more = history_is old new c.number.result c.args.command c.in-Ok.applied.0 c.in-Ok.applied.1 accepted in
-    let mine = record_by c.number.result c.args.command c.in-Ok.applied.1 in
-    let one = length-append old.knows.history (mine ∷ []) in
-    let below : c.in-Ok.applied.0 < length new.knows.history = omega (arith, at_end, ap length more, one) in
-    let some = slice_get-get_or new.knows.history c.in-Ok.applied.0 mine below in
-    let kept = kept_is c.history.result.now c.in-Ok.applied.0 (omega (
-      arith,
-      at_end,
-      c.history.ensures.forgotten,
-      c.apply_command.ensures.remembers,
-      c.self.invariant.valid.history.within,
-    )) in
-    let none = c.in_default.ensures ∙ kept
-    ∙ ap (λ (h : List Record). slice_get h c.in-Ok.applied.0) c.history.ensures.records in
-    let never = none ∙ some in
-    cc
+-- ---- the cell of the record
 
 pub file-requires-clause-cell : goal.file-requires-clause-cell
 file-requires-clause-cell g c =
     let old = world g.F.Fleet.state c.self.inside.master in
     let new = world g.F.Fleet.state c.apply_command.new.master in
     let accepted = c.in-Ok.ensures.gives in
-    let at_end = place_is old new c.number.result c.args.command c.in-Ok.applied.0 c.in-Ok.applied.1 accepted in
+    let at_end = place_is old new c.number-number.result (shown_command c.view_command-view.result)
+    c.in-Ok.applied.0 c.in-Ok.applied.1 accepted in
     let room = subst (λ (y : StateValue _). length y.master.knows.history < y.start + length y.row)
     (sym c.self.view_is) c.requires in
     (omega (arith, at_end, c.self.invariant.start), omega (arith, at_end, room))

@@ -3,8 +3,8 @@ use Rattle.store_seat.specs.Stops.{StopsPush}
 use Rattle.locked_log.specs.Held.{held}
 use Rattle.locked_log.specs.Steps.{PushesHeld}
 use Rattle.locked_log.proofs.Stopping.{refused_push, made_push, idle_push, lost_push}
-use Rattle.locked_log.proofs.locking.StateLog.push.Goals.{in-Ok, in-Err+in-Nothing, in-Err+in-Lost, in-Err+in_default}
-use Rattle.locked_log.proofs.locking.StateLog.push.Goals as goal
+use Rattle.locked_log.proofs.state.State.push_held.Goals.{in-Ok, in-Err+in-Nothing, in-Err+in-Lost, in-Err+in_default}
+use Rattle.locked_log.proofs.state.State.push_held.Goals as goal
 
 pub returns-clause-stops : goal.returns-clause-stops
 returns-clause-stops g c =

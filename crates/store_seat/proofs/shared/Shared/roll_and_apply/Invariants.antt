@@ -1,7 +1,6 @@
 use Rattle.std.proofs.Common.{◌≡◌}
-use Rattle.store_seat.proofs.shared.Shared.apply.Given as goal
+use Rattle.store_seat.proofs.shared.Shared.roll_and_apply.Given as goal
 
 abbrev pub invariant-loop : goal.invariant-loop
 invariant-loop g l =
     (goal.iterator-loop g).can_next l.iterator' × (goal.iterator-loop g).is_finite l.iterator' × (l.seat ≡ l.fn.seat)
-    × (l.command ≡ l.fn.command)
