@@ -1,8 +1,12 @@
 -- How a file is begun and opened, and what a crash amid that leaves.
-use Rattle.std.proofs.Common.{◌≡◌, ◌⊎◌, inl, inr, ℕ, Bool, List, [], ◌++◌, Some, refl, sym, ◌∙◌, ap, subst, arith}
+use Rattle.std.proofs.Common.{◌≡◌, ◌⊎◌, inl, inr, ℕ, Bool, List, [], ◌++◌, length, Some, Vec, refl, sym, ◌∙◌, ap}
+use Rattle.std.proofs.Common.{subst}
+use Rattle.std.proofs.Common.{arith}
+use Rattle.std.proofs.lemmas.List.{length-map}
+use Rattle.std.specs.declared.alloc.Global.{Global}
 use Rattle.take_journal.specs.Crash.{HasVersion, IsBeforeOrAfter, LeftByAppend, LeftByMending, MayBeLeft, TellsDamage}
 use Rattle.take_journal.specs.Device.{AnyMoment, LeavesJust}
-use Rattle.take_journal.specs.Frames.{recovered}
+use Rattle.take_journal.specs.Frames.{recovered, texts_of}
 use Rattle.take_journal.specs.Journal.{StandsFor}
 use Rattle.take_journal.specs.declared.fault.OpenFault.{OpenFault}
 use Rattle.take_journal.specs.declared.fault.OpenFault.TheVariants as open_fault
@@ -75,6 +79,14 @@ made_by_append p before texts file none shows has left =
     either (inl same) = inl (same ∙ none)
     either (inr are) =
         inr (ap (λ (l : List (List ℕ)). shown l) (are ∙ ap (λ (l : List (List ℕ)). l ++ texts) none) ∙ shows)
+
+-- a file that had no texts has as many as were appended
+pub counted_texts : (texts same : List (Vec ℕ Global)) → same ≡ texts → (before after : List (List ℕ)) → before ≡ []
+    → after ≡ before ++ texts_of same → length texts ≡ length after
+counted_texts texts same is before after none all =
+    sym (length-map texts (λ (text : Vec ℕ Global). text.items))
+    ∙ ap (λ (ts : List (Vec ℕ Global)). length (texts_of ts)) (sym is)
+    ∙ ap (λ (l : List (List ℕ)). length (l ++ texts_of same)) (sym none) ∙ ap length (sym all)
 
 module _ {D : Type 0} (clock : D → ℕ) (left_since : D → ℕ → List ℕ → Type 0) (p : Replicas) where
   -- no call of a device

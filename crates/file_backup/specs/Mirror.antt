@@ -1,6 +1,7 @@
 -- A backup in memory, and the file of its journal.
 use Rattle.std.specs.Prelude.{◌≡◌, ◌⊎◌, ℕ, Bool, true, false, List, [], Some, length, take, ⊤}
 use Rattle.replica.specs.Op.{OpValue}
+use Rattle.backup.specs.declared.memory.MemoryBackup.{MemoryBackup}
 use Rattle.take_journal.specs.Crash.{HasVersion, MayBeLeft}
 use Rattle.take_journal.specs.Frames.{frames, recovered}
 use Rattle.take_journal.specs.Journal.{IsSettled, device_of, end_at, takes_more}
@@ -15,6 +16,9 @@ use Rattle.file_backup.specs.declared.mirror.FileBackup.{FileBackup}
 -- the file's texts show these replicas
 abbrev pub Shows : Replicas → List ℕ → Type 0
 Shows p file = shown (recovered file) ≡ Some p
+
+abbrev pub memory_of : {D : Type 0} → FileBackup D → MemoryBackup
+memory_of f = f.memory
 
 -- what the backup holds
 abbrev pub replicas_of : {D : Type 0} → FileBackup D → Replicas

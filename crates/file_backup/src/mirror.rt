@@ -12,7 +12,7 @@ ghost use Rattle.take_journal.specs.Frames.{IsShort, recovered};
 ghost use Rattle.take_journal.specs.Journal.{IsSettled, StandsFor, device_of, end_at, takes_more};
 ghost use Rattle.file_backup.specs.Replay.{after_op, held_in, shown};
 ghost use Rattle.file_backup.specs.Mirror.{IsBacked, IsJournalOf, LeftByMaking, LeftByTake, Shows};
-ghost use Rattle.file_backup.specs.Mirror.{TellsFirst, TellsWhy, is_out, journal_of, replicas_of, told};
+ghost use Rattle.file_backup.specs.Mirror.{TellsFirst, TellsWhy, is_out, journal_of, memory_of, replicas_of, told};
 
 use crate::BackupFault;
 use crate::reading::{first_texts, replay};
@@ -70,14 +70,14 @@ impl<D: Device> FileBackup<D> {
 
     /// What the backup holds.
     pub fn memory(&self) -> &MemoryBackup
-        ensures { held_in result.now ≡ replicas_of self.now }
+        ensures { result.now ≡ memory_of self.now }
     {
         &self.memory
     }
 
     /// Begins the backup's file, which is empty. Its texts are `first`, and an op for each replica that the backup
-    /// holds. After an `Err` the backup is out.
-    pub fn begin(&mut self, alloc: Global, first: &[u8]) -> Result<(), BackupFault>
+    /// holds. The answer is how many texts it has. After an `Err` the backup is out.
+    pub fn begin(&mut self, alloc: Global, first: &[u8]) -> Result<u64, BackupFault>
         requires closed { takes_more (journal_of self.old) ≡ false }
         requires empty { D.contents (device_of (journal_of self.old)) ≡ [] }
         requires durable { LeavesJust [] (D.may_leave (device_of (journal_of self.old))) }
@@ -87,18 +87,20 @@ impl<D: Device> FileBackup<D> {
 
         ensures backed { IsBacked D.contents D.may_leave D.has_failed self.new }
         ensures begun { OnOk result (is_out self.new ≡ false) }
+        ensures counted { IfOk result (λ count.
+            count ≡ length (recovered (D.contents (device_of (journal_of self.new))))) }
         ensures same { replicas_of self.new ≡ replicas_of self.old }
         ensures any_moment { AnyMoment D.clock D.left_since (LeftByMaking (replicas_of self.old))
             (device_of (journal_of self.old)) (device_of (journal_of self.new)) }
     {
         self.is_out = true;
-        write_whole(alloc, first, &self.memory, &mut self.journal)?;
+        let count = write_whole(alloc, first, &self.memory, &mut self.journal)?;
         self.is_out = false;
-        Ok(())
+        Ok(count)
     }
 
-    /// Opens the backup's file, which has just these bytes, and takes over what it shows. What a crash left torn at its
-    /// end is cut off. After an `Err` the backup is out.
+    /// Opens the backup's file, which has just these bytes, and takes over what it shows. What a crash left torn at
+    /// its end is cut off. After an `Err` the backup is out.
     pub fn open(&mut self, alloc: Global, bytes: &[u8]) -> Result<(), BackupFault>
         requires closed { takes_more (journal_of self.old) ≡ false }
         requires bytes { bytes.now ≡ D.contents (device_of (journal_of self.old)) }
@@ -151,7 +153,8 @@ impl<D: Device> FileBackup<D> {
     }
 
     /// Takes over what the first texts of the backup's file show, so many or all that there are. The file has just
-    /// these bytes, and what a crash left torn at its end is cut off. The backup is out: it goes on in another journal.
+    /// these bytes, and what a crash left torn at its end is cut off. The backup is out: it goes on in another
+    /// journal.
     pub fn show_first(&mut self, alloc: Global, bytes: &[u8], count: u64) -> Result<(), BackupFault>
         requires closed { takes_more (journal_of self.old) ≡ false }
         requires bytes { bytes.now ≡ D.contents (device_of (journal_of self.old)) }
@@ -179,13 +182,13 @@ impl<D: Device> FileBackup<D> {
     }
 
     /// Writes all that the backup holds to a new file. Its texts are `first`, and an Open or a Seal for each replica,
-    /// and one gate opens them all. The backup goes on with its own journal.
+    /// and one gate opens them all. The answer is how many texts it has. The backup goes on with its own journal.
     pub fn copy_to(
         &self,
         alloc: Global,
         first: &[u8],
         journal: &mut Journal<D>,
-    ) -> Result<(), BackupFault>
+    ) -> Result<u64, BackupFault>
         requires closed { takes_more journal.old ≡ false }
         requires empty { D.contents (device_of journal.old) ≡ [] }
         requires durable { LeavesJust [] (D.may_leave (device_of journal.old)) }
@@ -195,6 +198,7 @@ impl<D: Device> FileBackup<D> {
 
         ensures copied { OnOk result
             (IsJournalOf D.contents D.may_leave D.has_failed (replicas_of self.now) journal.new) }
+        ensures counted { IfOk result (λ count. count ≡ length (recovered (D.contents (device_of journal.new)))) }
 
         // Until the call is done, the new file has no texts, or it shows what the backup holds.
         ensures any_moment { AnyMoment D.clock D.left_since (LeftByMaking (replicas_of self.now))
@@ -293,13 +297,14 @@ fn spell(text: &mut Vec<u8>, op: &Op<'_>) -> bool
     write_op(text, op).is_ok() && text.len() <= MAX_TEXT_LEN
 }
 
-/// Makes the file of a journal: its first text, and an op for each replica of a backup, all behind one gate.
+/// Makes the file of a journal: its first text, and an op for each replica of a backup, all behind one gate. The
+/// answer is how many texts it has.
 fn write_whole<D: Device>(
     alloc: Global,
     first: &[u8],
     memory: &MemoryBackup,
     journal: &mut Journal<D>,
-) -> Result<(), BackupFault>
+) -> Result<u64, BackupFault>
     requires closed { takes_more journal.old ≡ false }
     requires empty { D.contents (device_of journal.old) ≡ [] }
     requires durable { LeavesJust [] (D.may_leave (device_of journal.old)) }
@@ -308,6 +313,7 @@ fn write_whole<D: Device>(
     requires version { HasVersion (first.now ∷ []) }
 
     ensures whole { OnOk result (IsJournalOf D.contents D.may_leave D.has_failed (held_in memory.now) journal.new) }
+    ensures counted { IfOk result (λ count. count ≡ length (recovered (D.contents (device_of journal.new)))) }
     ensures any_moment { AnyMoment D.clock D.left_since (LeftByMaking (held_in memory.now))
         (device_of journal.old) (device_of journal.new) }
 {
@@ -318,7 +324,7 @@ fn write_whole<D: Device>(
         return Err(told(fault));
     }
     match journal.append_all(alloc, &texts) {
-        Ok(()) => Ok(()),
+        Ok(()) => Ok(texts.len() as u64),
         Err(fault) => Err(not_written(fault)),
     }
 }

@@ -27,7 +27,7 @@ fn goes_on(alloc: Global, backup: &mut FileBackup<MemoryDevice>) -> bool {
         Ok(device) => {
             let mut journal = Journal::new(device);
             match backup.copy_to(alloc, FIRST, &mut journal) {
-                Ok(()) => {
+                Ok(_) => {
                     let own = backup.go_on_with(journal);
                     let disk = backup.journal().device().disk();
                     disk.len() < own.device().disk().len() && shows(alloc, disk, backup.memory())

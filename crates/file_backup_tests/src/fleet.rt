@@ -1,16 +1,16 @@
 //! A fleet of three backups, one of whose devices stops, or its registry's, and what the next start finds.
 
-ghost use Rattle.std.specs.Prelude.{IfSome};
+ghost use Rattle.std.specs.Prelude.{◌≡◌, IfSome};
 ghost use Rattle.take_journal.specs.Memory.{memory_bytes, memory_has_failed, memory_leaves};
-ghost use Rattle.file_fleet.specs.Members.{AreSafe};
+ghost use Rattle.file_fleet.specs.Members.{AreSafe, IsFresh};
 ghost use Rattle.file_fleet.specs.Noting.{IsSound, noted_by};
 
 use crate::memories::{is_after, op_of};
-use crate::stopped::WHOLE;
+use crate::stopped::{FIRST, WHOLE};
 use file_fleet::{FileFleet, FleetRegistry, Member, Members};
 use registry_file::RegistryFile;
 use registry_text::{ALL_FRAMES, Record};
-use replica::{Fleet, TakeFault};
+use replica::{Bench, Fleet, TakeFault};
 use std::alloc::Global;
 use take_journal::MemoryDevice;
 
@@ -75,8 +75,9 @@ fn add_member(
 {
     match MemoryDevice::new(alloc, disk, stops_at, WHOLE) {
         Ok(device) => {
-            let mut member = Member::new(alloc, device);
-            let span = members.registry().span(members.backups());
+            let backup = members.backups();
+            let mut member = Member::new(alloc, members.registry().file(backup), device);
+            let span = members.registry().span(backup);
             match member.open(alloc, span, disk) {
                 Ok(()) => members.add(member).is_ok(),
                 Err(_) => false,
@@ -136,6 +137,10 @@ fn is_found(
     let mut members = Members::new(alloc, registry);
     let list = old.list();
     for i in 0..list.len() {
+        // The registry has to name the file that the backup goes on in.
+        if members.registry().file(i as u64) != list[i].id() {
+            return false;
+        }
         if !add_member(
             alloc,
             &mut members,
@@ -196,6 +201,110 @@ fn survives(alloc: Global, row: &Row) -> bool {
     counts == row.counts
         && hold_counts(alloc, fleet.members().list(), counts, false)
         && is_found(alloc, fleet.members(), counts, row.registry != NEVER)
+}
+
+// ---- what is asked of a fleet
+
+fn is_fault(answer: Result<(), TakeFault>) -> bool {
+    match answer {
+        Err(TakeFault::Fault) => true,
+        _ => false,
+    }
+}
+
+/// Whether two faults come when they are asked for. Backup 0 takes four ops.
+fn meets_faults(fleet: &mut FileFleet<MemoryDevice, RegistryFile<MemoryDevice>>) -> bool {
+    fleet.fault_at(2, false);
+    let one = fleet.take(0, &op_of(0)).is_ok();
+    let is_lost = is_fault(fleet.take(0, &op_of(1)));
+    let two = fleet.take(0, &op_of(1)).is_ok();
+    fleet.fault_at(1, true);
+    let is_taken = is_fault(fleet.take(0, &op_of(2)));
+    let four = fleet.take(0, &op_of(3)).is_ok();
+    one && is_lost && two && is_taken && four && fleet.faults() == 2
+}
+
+/// Whether a limit stops the fleet, and a retirement frees the two replicas that are left: they are another master's.
+fn meets_limit(fleet: &mut FileFleet<MemoryDevice, RegistryFile<MemoryDevice>>) -> bool {
+    fleet.limit(1);
+    let is_taken = fleet.take(0, &op_of(1)).is_ok();
+    let is_spent = match fleet.take(1, &op_of(1)) {
+        Err(TakeFault::Spent) => true,
+        _ => false,
+    };
+    fleet.limit(u64::MAX);
+    is_taken && is_spent && fleet.retire(1).is_ok() && fleet.takes() == 9
+}
+
+/// A backup that holds nothing, with a file of its own.
+fn begun_member(alloc: Global, id: u64) -> Option<Member<MemoryDevice>>
+    requires { id ≡ 0 → ⊥ }
+    ensures { IfSome result (λ m. IsFresh memory_bytes memory_leaves memory_has_failed m) }
+{
+    match MemoryDevice::new(alloc, b"", NEVER, WHOLE) {
+        Ok(device) => {
+            let mut member = Member::new(alloc, id, device);
+            match member.begin(alloc, FIRST) {
+                Ok(()) => Some(member),
+                Err(_) => None,
+            }
+        }
+        Err(_) => None,
+    }
+}
+
+/// The id of the first backup's file.
+fn first_id(list: &[Member<MemoryDevice>]) -> Option<u64> {
+    Some(list.first()?.id())
+}
+
+/// Whether a backup that is lost is empty, and takes ops in its new file.
+fn meets_loss(
+    alloc: Global,
+    fleet: &mut FileFleet<MemoryDevice, RegistryFile<MemoryDevice>>,
+) -> bool {
+    match begun_member(alloc, 9) {
+        Some(next) => {
+            fleet.lose(0, next).is_ok()
+                && first_id(fleet.members().list()) == Some(9)
+                && hold_counts(alloc, fleet.members().list(), [0; 3], false)
+                && fleet.take(0, &op_of(0)).is_ok()
+                && fleet.take(1, &op_of(0)).is_ok()
+        }
+        None => false,
+    }
+}
+
+/// Clients in threads share a fleet under a lock, so it has to go from thread to thread.
+fn may_be_sent<T: Send>(_value: &T) -> bool {
+    true
+}
+
+fn meets_requests(alloc: Global) -> bool {
+    let Some(registry) = begun_registry(alloc, NEVER) else {
+        return false;
+    };
+    let mut members = Members::new(alloc, registry);
+    for i in 0..3 {
+        if !add_member(alloc, &mut members, BEGUN, NEVER) {
+            return false;
+        }
+    }
+    let mut fleet = FileFleet::new(alloc, members);
+    may_be_sent(&fleet)
+        && meets_faults(&mut fleet)
+        && hold_counts(alloc, fleet.members().list(), [4, 0, 0], false)
+        && is_found(alloc, fleet.members(), [4, 0, 0], false)
+        && meets_loss(alloc, &mut fleet)
+        && is_found(alloc, fleet.members(), [1, 1, 0], false)
+        && meets_limit(&mut fleet)
+        && hold_counts(alloc, fleet.members().list(), [0; 3], false)
+        && is_found(alloc, fleet.members(), [0; 3], false)
+}
+
+#[test]
+fn a_fleet_meets_what_is_asked(rt: HostRuntime) {
+    assert!(rt; meets_requests(rt.alloc()));
 }
 
 fn first_loss(alloc: Global) -> Option<usize> {

@@ -1,6 +1,6 @@
 -- What one backup shows is what the picture has of it.
 use Rattle.std.proofs.Common.{◌≡◌, ◌↔◌, ℕ, ◌<◌, List, [], ◌∷◌, length, get_or, map, inl, inr, Bool, true, false, cond}
-use Rattle.std.proofs.Common.{Option, Some, refl, sym, ◌∙◌, ap, subst}
+use Rattle.std.proofs.Common.{Some, refl, sym, ◌∙◌, ap, subst}
 use Rattle.std.specs.BTreeMap.{is_at}
 use Rattle.std.specs.Cmp.{IsEquivalence, IsTotalOrder, nat_cmp_total, on_total, then_total}
 use Rattle.std.specs.List.{All, AllByRecursion, slice_get}
@@ -69,16 +69,16 @@ found_among : (b : ℕ) (es : List ((ℕ × ℕ) × Replica)) (p : ℕ × ℕ) (
 found_among b [] p r e = (cc)
 found_among b (x ∷ xs) p r e = found_at b x xs p r (is_at (place_cmp p) x.0) refl e (found_among b xs p r)
 
-abbrev shown_value : Holding → Replica
+abbrev pub shown_value : Holding → Replica
 shown_value h = record { bytes = h.bytes; is_open = h.is_open }
 
-among_held : (b : ℕ) (memory : MemoryBackup) → IsInOrder memory → (h : Holding) → IsAmong h (holdings_of b memory)
+pub among_held : (b : ℕ) (memory : MemoryBackup) → IsInOrder memory → (h : Holding) → IsAmong h (holdings_of b memory)
     → (h.backup ≡ b) × (replica_at memory h.master h.segment ≡ Some (shown_value h))
 among_held b memory ordered =
     image_has (holding_of b) (λ h. (h.backup ≡ b) × (replica_at memory h.master h.segment ≡ Some (shown_value h)))
     memory.replicas (λ k d l. (refl, all_found memory.replicas ordered k d l))
 
-held_among : (b : ℕ) (memory : MemoryBackup) → (h : Holding) → h.backup ≡ b
+pub held_among : (b : ℕ) (memory : MemoryBackup) → (h : Holding) → h.backup ≡ b
     → replica_at memory h.master h.segment ≡ Some (shown_value h) → IsAmong h (holdings_of b memory)
 held_among b memory h at held =
     subst (λ k. IsAmong (record {
@@ -114,7 +114,7 @@ above_images : (b : ℕ) (x : (ℕ × ℕ) × Replica) (xs : List ((ℕ × ℕ) 
 above_images b x [] all = tt
 above_images b x (y ∷ ys) all = (rw (tied_itself nat_cmp_total b) all.0, above_images b x ys all.1)
 
-rising_images : (b : ℕ) (es : List ((ℕ × ℕ) × Replica)) → IsStrictlySortedBy place_cmp (keys_of es)
+pub rising_images : (b : ℕ) (es : List ((ℕ × ℕ) × Replica)) → IsStrictlySortedBy place_cmp (keys_of es)
     → IsRising (map (holding_of b) es)
 unfolding IsStrictlySortedBy
 rising_images b [] ordered = tt

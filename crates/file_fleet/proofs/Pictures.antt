@@ -1,5 +1,5 @@
 -- What a change of one backup makes of the picture.
-use Rattle.std.proofs.Common.{◌≡◌, ℕ, zero, suc, ◌<◌, List, [], ◌∷◌, length, Bool, true, false, ◌==◌, ◌&&◌, cond}
+use Rattle.std.proofs.Common.{◌≡◌, ℕ, zero, suc, ◌<◌, List, [], ◌∷◌, length, Bool, true, false, ◌==◌, ◌&&◌, cond, not}
 use Rattle.std.proofs.Common.{Option, None, Some, set, refl, sym, ◌∙◌, ap, arith}
 use Rattle.std.proofs.lemmas.Bool.Decides.{nat_tests}
 use mathlib.Core.Path.{fun_ext}
@@ -9,10 +9,10 @@ use Rattle.std.proofs.lemmas.Bool.{eqb-true}
 use Rattle.std.proofs.lemmas.Option.{same_Some, none-some, slice_get_within}
 use Rattle.std.proofs.Math.Dec.{eqb-zero-suc, eqb-suc-zero, eqb-suc-suc}
 use Rattle.replica.specs.Op.{OpValue}
-use Rattle.replica.specs.Picture.{Picture, Replica, with_replica}
+use Rattle.replica.specs.Picture.{Picture, Replica, left_on, with_replica}
 use Rattle.replica.specs.Take.{effect}
 use Rattle.file_backup.specs.Replay.{Replicas, after_op, with_at}
-use Rattle.file_fleet.specs.Members.{MissesOn, TakesOn, picture_of, replica_on, replicas_at}
+use Rattle.file_fleet.specs.Members.{MissesOn, TakesOn, picture_of, replica_on, replicas_at, with_backup}
 use Rattle.file_fleet.specs.declared.member.Member.{Member}
 
 -- what an op that fits makes of replicas
@@ -44,6 +44,23 @@ misses p op is = by_effect (effect op.act (p op.master op.segment)) refl
     by_effect (Some r) some = absurd (none-some (with_at p op.master op.segment r) (sym is
         ∙ ap (λ (o : Option (Option Replica)). option_map (with_at p op.master op.segment) o) some))
 
+-- a backup with what it holds changes nothing
+pub with_itself : (p : Picture) (b : ℕ) → with_backup p b (p b) ≡ p
+with_itself p b = fun_ext (λ c. at c (b == c) refl)
+  where
+    at : (c : ℕ) (t : Bool) → (b == c) ≡ t → cond t (p b) (p c) ≡ p c
+    at c true e = ap p (eqb-true b c e)
+    at c false e = refl
+
+-- a backup that holds nothing in the place of one makes this lose what it holds
+pub lost_picture : (p : Picture) (b : ℕ) (q : Replicas) → ((m s : ℕ) → q m s ≡ None)
+    → with_backup p b q ≡ left_on (λ c. not (b == c)) p
+lost_picture p b q none = fun_ext (λ c. fun_ext (λ m. fun_ext (λ s. at c m s (b == c) refl)))
+  where
+    at : (c m s : ℕ) (t : Bool) → (b == c) ≡ t → (cond t q (p c)) m s ≡ cond (not t) (p c m s) None
+    at c m s true e = none m s
+    at c m s false e = refl
+
 module _ {D : Type 0} where
   -- one backup becomes another
   pub slice_get-set : (members : List (Member D)) (b : ℕ) (new : Member D) (c : ℕ) → b < length members
@@ -56,15 +73,35 @@ module _ {D : Type 0} where
       rw (eqb-suc-suc b c) (slice_get-set xs b new c (omega arith))
 
   -- there is a backup of each number that is below their count
-  pub there : (members : List (Member D)) (b : ℕ) → b < length members → (h : Member D) × (slice_get members b ≡ Some h)
+  pub there : (members : List (Member D)) (b : ℕ) → b < length members → (h : Member D)
+      × (slice_get members b ≡ Some h)
   there [] b within = absurd (omega arith)
   there (x ∷ xs) zero within = (x, refl)
   there (x ∷ xs) (suc b) within = there xs b (omega arith)
+
+  -- a backup in its own place
+  pub set_there : (members : List (Member D)) (b : ℕ) (h : Member D) → slice_get members b ≡ Some h
+      → set members b h ≡ members
+  set_there [] b h at = absurd (none-some h at)
+  set_there (x ∷ xs) zero h at = ap (λ (y : Member D). y ∷ xs) (sym (same_Some x h at))
+  set_there (x ∷ xs) (suc b) h at = ap (λ (ys : List (Member D)). x ∷ ys) (set_there xs b h at)
 
   -- what the picture has of a backup is what the backup holds
   pub seen : (members : List (Member D)) (b : ℕ) (h : Member D) → slice_get members b ≡ Some h
       → picture_of members b ≡ replicas_at h
   seen members b h at = ap (λ (o : Option (Member D)). let r : Replicas = λ m s. replica_on o m s in r) at
+
+  -- another backup in the place of one
+  pub put_picture : (members : List (Member D)) (b : ℕ) (i : Member D) → b < length members
+      → picture_of (set members b i) ≡ with_backup (picture_of members) b (replicas_at i)
+  put_picture members b i within = fun_ext (λ c. fun_ext (λ n. fun_ext (λ t.
+      rw (slice_get-set members b i c within) (at c n t (b == c) refl))))
+    where
+      at : (c n t : ℕ) (x : Bool) → (b == c) ≡ x
+          → replica_on (cond x (Some i) (slice_get members c)) n t
+          ≡ (cond x (replicas_at i) (picture_of members c)) n t
+      at c n t false e = refl
+      at c n t true e = refl
 
   module _ (members : List (Member D)) (b : ℕ) (h i : Member D) (at : slice_get members b ≡ Some h) where
     same_at : replicas_at i ≡ replicas_at h → (c n t : ℕ) (x : Bool) → (b == c) ≡ x
@@ -114,7 +151,13 @@ module _ {D : Type 0} where
         let does = made (replicas_at h) q op taken in
         let p : Picture = with_replica (picture_of members) b op.master op.segment does.replica in (
           p,
-          record { within = slice_get_within members b h at; replica = does.replica; does = rw at does.does; makes = refl },
+          record {
+            within = slice_get_within members b h at;
+            replica = does.replica;
+            does = rw at does.does;
+            makes =
+                refl;
+          },
           fun_ext (λ n. fun_ext (λ t. here n t)) ∙ sym does.makes,
           λ c other. fun_ext (λ n. fun_ext (λ t. rw other refl)),
         )

@@ -1,6 +1,6 @@
 -- What the records of a registry note for a fleet.
-use Rattle.std.proofs.Common.{◌≡◌, inl, inr, ℕ, ◌+◌, ◌<◌, ◌==◌, List, Bool, true, false, cond}
-use Rattle.std.proofs.Common.{Some, refl, ◌∙◌, ap, arith}
+use Rattle.std.proofs.Common.{◌≡◌, inl, inr, ℕ, ◌<◌, ◌==◌, List, Bool, true, false, cond}
+use Rattle.std.proofs.Common.{Some, refl, sym, ◌∙◌, ap, arith}
 use mathlib.Core.Path.{fun_ext}
 use Rattle.std.proofs.lemmas.Bool.{eqb-true, false_from_ne_true}
 use Rattle.replica.specs.Take.{no_limit}
@@ -10,17 +10,24 @@ use Rattle.registry_text.specs.declared.record.Record.TheVariants as says
 use Rattle.registry_file.specs.File.{LeftByPut, kept_by}
 use Rattle.registry_file.specs.Kept.{Kept, after}
 use Rattle.registry_file.specs.declared.file.RegistryFile.{RegistryFile}
-use Rattle.file_fleet.specs.Files.{Noted, with_span}
+use Rattle.file_fleet.specs.Files.{Noted, with_file, with_span}
 use Rattle.file_fleet.specs.Moments.{LeavesEither}
-use Rattle.file_fleet.specs.Noting.{IsIn, file_of, noted_by, noted_in, span_of}
+use Rattle.file_fleet.specs.Noting.{IsIn, file_of, id_of, noted_by, noted_in, span_of}
 use Rattle.file_fleet.specs.declared.registry.Span.{Span}
-use Rattle.file_fleet.specs.declared.registry.Span.TheVariants.{First}
+use Rattle.file_fleet.specs.declared.registry.Span.TheVariants.{First, Whole}
 
--- a record of a journal, of which so many frames count
-pub ended_noted : (k : Kept) (b id n : ℕ) → (id ≡ 0 → ⊥) → n < no_limit
+-- what is noted of the journals, by what the registry says of each
+abbrev noted_as : (ℕ → ℕ) → (ℕ → Span) → (ℕ → ℕ) → Noted
+noted_as least span file = record { least = least; span = span; file = file }
+
+-- a record of a journal, of which so many frames count, and which is the same file as before
+pub ended_noted : (k : Kept) (b id n : ℕ) → (id ≡ 0 → ⊥) → n < no_limit → id_of (k.journal b) ≡ id
     → noted_in (after k (says.Journal b id n)) ≡ with_span (noted_in k) b (First n)
-ended_noted k b id n live limit =
-    ap (λ (s : ℕ → Span). let m : Noted = record { least = k.least; span = s } in m) (fun_ext (λ c. at c (b == c) refl))
+ended_noted k b id n live limit same =
+    ap (λ (s : ℕ → Span). noted_as k.least s (noted_in (after k (says.Journal b id n))).file)
+    (fun_ext (λ c. at c (b == c) refl))
+    ∙ ap (λ (f : ℕ → ℕ). noted_as k.least (with_span (noted_in k) b (First n)).span f)
+    (fun_ext (λ c. file_at c (b == c) refl))
   where
     at : (c : ℕ) (t : Bool) → (b == c) ≡ t
         → span_of (cond t (Some (record { id = id; count = n })) (k.journal c))
@@ -32,6 +39,33 @@ ended_noted k b id n live limit =
         false_from_ne_true (n == no_limit) (λ t. let is : n ≡ no_limit = eqb-true n no_limit t in
         omega (arith, is, limit)) in
         rw (lives, few) refl
+
+    file_at : (c : ℕ) (t : Bool) → (b == c) ≡ t
+        → id_of (cond t (Some (record { id = id; count = n })) (k.journal c)) ≡ id_of (k.journal c)
+    file_at c false e = refl
+    file_at c true e = sym same ∙ ap (λ d. id_of (k.journal d)) (eqb-true b c e)
+
+-- a record of a journal, all of which counts
+pub named_noted : (k : Kept) (b id : ℕ) → (id ≡ 0 → ⊥)
+    → noted_in (after k (says.Journal b id no_limit)) ≡ with_file (noted_in k) b id
+named_noted k b id live =
+    ap (λ (s : ℕ → Span). noted_as k.least s (noted_in (after k (says.Journal b id no_limit))).file)
+    (fun_ext (λ c. at c (b == c) refl))
+    ∙ ap (λ (f : ℕ → ℕ). noted_as k.least (with_file (noted_in k) b id).span f)
+    (fun_ext (λ c. file_at c (b == c) refl))
+  where
+    at : (c : ℕ) (t : Bool) → (b == c) ≡ t
+        → span_of (cond t (Some (record { id = id; count = no_limit })) (k.journal c))
+        ≡ cond t Whole (span_of (k.journal c))
+    at c false e = refl
+    at c true e =
+        let lives : (id == 0) ≡ false = false_from_ne_true (id == 0) (λ t. live (eqb-true id 0 t)) in
+        rw lives refl
+
+    file_at : (c : ℕ) (t : Bool) → (b == c) ≡ t
+        → id_of (cond t (Some (record { id = id; count = no_limit })) (k.journal c)) ≡ cond t id (id_of (k.journal c))
+    file_at c false e = refl
+    file_at c true e = refl
 
 -- what a crash leaves of a put is noted before it or after it
 pub put_leaves : {D : Type 0} (clock : D → ℕ) (left_since : D → ℕ → List ℕ → Type 0) (old new : RegistryFile D)

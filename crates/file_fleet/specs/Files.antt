@@ -8,24 +8,39 @@ use Rattle.file_backup.specs.Replay.{Replicas, no_replicas, shown}
 use Rattle.file_fleet.specs.declared.registry.Span.{Span}
 use Rattle.file_fleet.specs.declared.registry.Span.TheVariants.{First, Nothing, Whole}
 
--- What a registry keeps: of each master the least id of a head that a recovery may use, and of each backup how much
--- of its journal counts.
+-- What a registry keeps: of each master the least id of a head that a recovery may use, and of each backup the id of
+-- the file that is its journal, and how much of it counts.
 pub record Noted : Type 0 where
   pub least : ℕ → ℕ
   pub span : ℕ → Span
+  pub file : ℕ → ℕ
 
 -- the least head of this master becomes the greater of its old one and this id
 abbrev pub with_head : Noted → ℕ → ℕ → Noted
-with_head k master id = record { least = with_least k.least master id; span = k.span }
+with_head k master id = record { least = with_least k.least master id; span = k.span; file = k.file }
 
 -- so much counts of this backup's journal
 abbrev pub with_span : Noted → ℕ → Span → Noted
-with_span k b span = record { least = k.least; span = λ c. if b == c then span else k.span c }
+with_span k b span =
+    record { least = k.least; span = λ c. if b == c then span else k.span c; file = k.file }
 
--- The files of a fleet: the journal of each backup, and what the registry's file keeps.
+-- this backup's journal is the file with this id, and all of it counts
+abbrev pub with_file : Noted → ℕ → ℕ → Noted
+with_file k b id = record {
+  least = k.least;
+  span = λ c. if b == c then Whole else k.span c;
+  file = λ c. if b == c then id else k.file c;
+}
+
+-- The files of a fleet: of each backup those that were its journal or may become it, by id, and what the registry's
+-- file keeps.
 pub record Files : Type 0 where
-  pub journal : ℕ → List ℕ
+  pub journal : ℕ → ℕ → List ℕ
   pub registry : Noted
+
+-- the file that is a backup's journal
+abbrev pub named : Files → ℕ → List ℕ
+named files b = files.journal b (files.registry.file b)
 
 -- a journal shows these replicas if so much of it counts
 abbrev pub ShowsUnder : Span → Replicas → List ℕ → Type 0
@@ -36,4 +51,4 @@ ShowsUnder (First n) p file = shown (take n (recovered file)) ≡ Some p
 -- The files of a fleet of so many backups show this picture and these least heads.
 pub record ShowsFleet (backups : ℕ) (picture : Picture) (least : ℕ → ℕ) (files : Files) : Type 0 where
   pub heads : files.registry.least ≡ least
-  pub each : (b : ℕ) → b < backups → ShowsUnder (files.registry.span b) (picture b) (files.journal b)
+  pub each : (b : ℕ) → b < backups → ShowsUnder (files.registry.span b) (picture b) (named files b)

@@ -1,5 +1,6 @@
 -- The backups of a fleet, each with its file.
-use Rattle.std.specs.Prelude.{◌≡◌, ◌⊎◌, ℕ, ◌<◌, Bool, true, false, List, length, Option, Some, None}
+use Rattle.std.specs.Prelude.{◌≡◌, ◌⊎◌, ℕ, ◌<◌, ◌==◌, Bool, true, false, List, length, Option, Some, None}
+use Rattle.std.specs.Prelude.{if◌then◌else◌}
 use Rattle.std.specs.List.{slice_get}
 use Rattle.replica.specs.Op.{OpValue}
 use Rattle.replica.specs.Picture.{Picture, Replica, with_replica}
@@ -31,6 +32,10 @@ replica_on (Some h) m s = replicas_at h m s
 abbrev pub picture_of : {D : Type 0} → List (Member D) → Picture
 picture_of members = λ b m s. replica_on (slice_get members b) m s
 
+-- the picture in which this backup holds these replicas
+abbrev pub with_backup : Picture → ℕ → Replicas → Picture
+with_backup p b q = λ c. if b == c then q else p c
+
 -- The backup of this number takes the op, and no other one changes.
 pub record TakesOn (backups : ℕ) (old : Picture) (b : ℕ) (op : OpValue) (new : Picture) : Type 0 where
   pub within : b < backups
@@ -51,18 +56,27 @@ pub record IsMember {D : Type 0} (contents : D → List ℕ) (may_leave : D → 
   pub counted : is_out h.backup ≡ false → h.frames ≡ length (recovered (contents (device_at h)))
   pub limit : h.frames < no_limit
 
+-- The backup holds nothing, and goes on in a file of its own.
+pub record IsFresh {D : Type 0} (contents : D → List ℕ) (may_leave : D → List ℕ → Type 0) (has_failed : D → Bool)
+    (h : Member D) : Type 0 where
+  pub member : IsMember contents may_leave has_failed h
+  pub goes_on : is_out h.backup ≡ false
+  pub live : h.id ≡ 0 → ⊥
+  pub nothing : (m s : ℕ) → replicas_at h m s ≡ None
+
 -- Whatever a crash leaves of the backup's file now, it shows what the backup holds if so much of it counts. All of it
 -- counts while the backup isn't out.
 pub record IsUnder {D : Type 0} (may_leave : D → List ℕ → Type 0) (span : Span) (h : Member D) : Type 0 where
   pub whole : is_out h.backup ≡ false → span ≡ Whole
   pub shows : (file : List ℕ) → may_leave (device_at h) file → ShowsUnder span (replicas_at h) file
 
--- The files show what the backups hold, and the registry's file is on the disk.
+-- The files show what the backups hold, the registry has the id of each file, and its own file is on the disk.
 pub record AreKept {D R : Type 0} (contents : D → List ℕ) (may_leave : D → List ℕ → Type 0) (has_failed : D → Bool)
     (noted : R → Noted) (is_sound : R → Type 0) (members : List (Member D)) (registry : R) : Type 0 where
   pub registry_is : is_sound registry
   pub each : (b : ℕ) (h : Member D) → slice_get members b ≡ Some h
       → IsMember contents may_leave has_failed h × IsUnder may_leave ((noted registry).span b) h
+  pub named : (b : ℕ) (h : Member D) → slice_get members b ≡ Some h → (noted registry).file b ≡ h.id
 
 -- the files show what the backups hold, unless the fleet is halted
 abbrev pub AreSafe : {D R : Type 0} → (D → List ℕ) → (D → List ℕ → Type 0) → (D → Bool) → (R → Noted) → (R → Type 0)

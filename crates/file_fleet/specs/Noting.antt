@@ -16,8 +16,13 @@ span_of None = Nothing
 span_of (Some file) =
     if file.id == 0 then Nothing else (if file.count == no_limit then Whole else First file.count)
 
+-- the id of a backup's file: 0 without a record
+abbrev pub id_of : Option JournalFile → ℕ
+id_of None = 0
+id_of (Some file) = file.id
+
 abbrev pub noted_in : Kept → Noted
-noted_in k = record { least = k.least; span = λ b. span_of (k.journal b) }
+noted_in k = record { least = k.least; span = λ b. span_of (k.journal b); file = λ b. id_of (k.journal b) }
 
 abbrev pub noted_by : {D : Type 0} → RegistryFile D → Noted
 noted_by r = noted_in (kept_by r)

@@ -4,13 +4,15 @@ ghost use Rattle.std.specs.Prelude.{◌≡◌, ◌⊎◌, ◌+◌, ◌<◌};
 ghost use Rattle.replica.specs.Take.{no_limit};
 
 use crate::acks::{Acks, Handed};
+use crate::asked::{Asked, Lost};
+use crate::member::Member;
 use crate::members::Members;
-use crate::registry::FleetRegistry;
+use crate::registry::{FleetRegistry, NoteFault};
 use entry::NoMemory;
-use replica::{Fleet, Holding, Op, TakeFault};
+use replica::{Act, Bench, Fleet, Holding, Op, Spot, TakeFault};
 use std::alloc::Global;
 use std::marker::Model;
-use take_journal::Device;
+use take_journal::{Device, Journal};
 
 /// Backups with files, numbered from 0, and their registry.
 ///
@@ -22,6 +24,7 @@ pub struct FileFleet<D: Device, R: FleetRegistry> {
     takes: u64,
     end: u64,
     faults: u64,
+    asked: Asked,
     acks: Acks,
 }
 
@@ -56,14 +59,40 @@ fn count_fault(faults: &mut u64) -> TakeFault
     TakeFault::Fault
 }
 
+/// Whether the fault that is asked for comes in this take and loses its op. It takes memory only then.
+fn loses<D: Device, R: FleetRegistry>(
+    asked: &Asked,
+    faults: u64,
+    members: &Members<D, R>,
+    alloc: Global,
+    backup: u64,
+    op: &Op<'_>,
+) -> Lost
+    ensures { result ≡ Lost.Yes → faults < no_limit }
+{
+    if !asked.loses_next(faults) {
+        return Lost::No;
+    }
+    match members.has_place_for(alloc, backup, op) {
+        Ok(true) => Lost::Yes,
+        Ok(false) => Lost::No,
+        Err(_) => Lost::Unknown,
+    }
+}
+
 impl<D: Device, R: FleetRegistry> FileFleet<D, R> {
-    ghost use Rattle.std.specs.Prelude.{◌≡◌, [], false};
+    ghost use Rattle.std.specs.Prelude.{◌≡◌, ◌⊎◌, ◌<◌, [], IfErr, IfOk, OnOk, length, false};
+    ghost use Rattle.file_backup.specs.Mirror.{IsJournalOf};
+    ghost use Rattle.take_journal.specs.Frames.{recovered};
+    ghost use Rattle.take_journal.specs.Journal.{device_of};
+    ghost use Rattle.replica.specs.Retire.{AreOthers};
     ghost use Rattle.file_fleet.specs.Files.{Files};
     ghost use Rattle.file_fleet.specs.Fleet.{ShowsState, fleet_state};
-    ghost use Rattle.file_fleet.specs.Members.{AreSafe};
-    ghost use Rattle.file_fleet.specs.Moments.{AreLeftNow};
+    ghost use Rattle.backup.specs.State.{lost};
+    ghost use Rattle.file_fleet.specs.Members.{AreSafe, IsFresh, device_at};
+    ghost use Rattle.file_fleet.specs.Moments.{AreLeftByPut, AreLeftNow};
 
-    /// A fleet of these backups. It isn't limited, and nothing was answered yet.
+    /// A fleet of these backups. It isn't limited, no fault is asked for, and nothing was answered yet.
     pub fn new(alloc: Global, members: Members<D, R>) -> Self
         requires safe { AreSafe D.contents D.may_leave D.has_failed R.noted R.is_sound members }
         ensures { result ≡ record { members = members; takes = 0; end = no_limit; faults = 0; acks = [] } }
@@ -74,6 +103,7 @@ impl<D: Device, R: FleetRegistry> FileFleet<D, R> {
             takes: 0,
             end: u64::MAX,
             faults: 0,
+            asked: Asked::nothing(),
             acks: Acks::none(),
         }
     }
@@ -85,11 +115,73 @@ impl<D: Device, R: FleetRegistry> FileFleet<D, R> {
         &self.members
     }
 
+    /// Makes a backup lose all that it holds: this one with a begun file of its own, which holds nothing, takes its
+    /// place. The old one is handed back, and its file never counts again. If the registry isn't written, the new one
+    /// is handed back, and nothing is lost; if it failed, the fleet is halted. The fault is NoMemory also if no backup
+    /// has this number.
+    pub fn lose(
+        &mut self,
+        backup: u64,
+        next: Member<D>,
+    ) -> Result<Member<D>, (NoteFault, Member<D>)>
+        requires fresh { IsFresh D.contents D.may_leave D.has_failed next }
+
+        ensures lost { OnOk result
+            (fleet_state R.noted self.new ≡ lost (fleet_state R.noted self.old) backup) }
+        ensures refused { IfErr result (λ back. (back.1 ≡ next)
+            × (fleet_state R.noted self.new ≡ fleet_state R.noted self.old)) }
+
+        // A crash at any moment of the call leaves files that show the fleet as it was, or without what was lost.
+        ensures any_moment { self.old.members.is_halted ≡ false → (files : Files)
+            → AreLeftByPut D.may_leave R.time R.left_of self.old.members backup (device_at next) next.id
+            self.new.members.registry files
+            → ShowsState (fleet_state R.noted self.old) files
+            ⊎ ShowsState (lost (fleet_state R.noted self.old) backup) files }
+    {
+        self.members.put(self.alloc, backup, next)
+    }
+
+    /// Makes a backup go on in another journal, which shows what it holds, and hands back its own. The old file never
+    /// counts again, and a backup that was out is back. If the registry isn't written, the new journal is handed back;
+    /// if it failed, the fleet is halted. The fault is NoMemory also if no backup has this number.
+    pub fn switch(
+        &mut self,
+        backup: u64,
+        id: u64,
+        journal: Journal<D>,
+        frames: u64,
+    ) -> Result<Journal<D>, (NoteFault, Journal<D>)>
+        requires copied { IsJournalOf D.contents D.may_leave D.has_failed
+            ((fleet_state R.noted self.old).picture backup) journal }
+        requires counted { frames ≡ length (recovered (D.contents (device_of journal))) }
+        requires limit { frames < no_limit }
+        requires live { id ≡ 0 → ⊥ }
+
+        ensures same { fleet_state R.noted self.new ≡ fleet_state R.noted self.old }
+        ensures refused { IfErr result (λ back. back.1 ≡ journal) }
+
+        // A crash at any moment of the call leaves files that show the fleet.
+        ensures any_moment { self.old.members.is_halted ≡ false → (files : Files)
+            → AreLeftByPut D.may_leave R.time R.left_of self.old.members backup (device_of journal) id
+            self.new.members.registry files
+            → ShowsState (fleet_state R.noted self.old) files }
+    {
+        self.members.switch(self.alloc, backup, id, journal, frames)
+    }
+
+    /// Where the replicas of other masters than `keep` are, by backup, then by master, then by segment.
+    fn others(&self, keep: u64) -> Result<Vec<Spot>, NoMemory>
+        ensures { IfOk result (λ spots. AreOthers spots.items (fleet_state R.noted self.now).picture keep) }
+    {
+        self.members.others(self.alloc, keep)
+    }
+
     /// What is true between two calls, unless the fleet is halted: whatever a crash leaves of the files shows what the
     /// fleet shows.
     pub fn show_files(&self)
         ensures { self.now.members.is_halted ≡ false → (files : Files)
-            → AreLeftNow D.may_leave R.leaves self.now.members files → ShowsState (fleet_state R.noted self.now) files }
+            → AreLeftNow D.may_leave R.leaves self.now.members files
+            → ShowsState (fleet_state R.noted self.now) files }
     {
         let _alloc = self.alloc;
     }
@@ -110,7 +202,8 @@ impl<D: Device, R: FleetRegistry> Fleet for FileFleet<D, R> {
     /// Hands an op to a backup, and has it on the disk before the answer is Ok. Spent is answered before all else.
     ///
     /// After Fault the op was not taken: the backup is out, and each later op of it is a Fault. If the registry failed
-    /// too, the fleet is halted, and each later take is a Fault. A Fault beyond `u64::MAX` of them is a NoMemory.
+    /// too, the fleet is halted, and each later take is a Fault. A Fault beyond `u64::MAX` of them is a NoMemory. A
+    /// Fault that `fault_at` asked for puts no backup out, and its op is taken if that was asked for.
     fn take(&mut self, backup: u64, op: &Op<'_>) -> Result<(), TakeFault>
         ensures gives { TakeGives (fleet_state R.noted self.old) backup (shown_op op.now) result
             (fleet_state R.noted self.new) }
@@ -129,9 +222,24 @@ impl<D: Device, R: FleetRegistry> Fleet for FileFleet<D, R> {
         if self.takes == self.end {
             return Err(TakeFault::Spent);
         }
+        match loses(
+            &self.asked,
+            self.faults,
+            &self.members,
+            self.alloc,
+            backup,
+            op,
+        ) {
+            Lost::No => {}
+            Lost::Yes => return Err(self.asked.fail(&mut self.faults)),
+            Lost::Unknown => return Err(TakeFault::NoMemory),
+        }
         match self.members.take(self.alloc, backup, op) {
             Ok(()) => {
                 self.takes += 1;
+                if self.asked.ends_in_fault(&mut self.faults) {
+                    return Err(TakeFault::Fault);
+                }
                 self.acks = Acks::with(&self.acks, &Handed { backup, op: *op });
                 Ok(())
             }
@@ -141,9 +249,10 @@ impl<D: Device, R: FleetRegistry> Fleet for FileFleet<D, R> {
         }
     }
 
-    /// Raises a master's least head, and has it on the disk before the answer is Ok. Spent is answered before all else.
+    /// Raises a master's least head, and has it on the disk before the answer is Ok. Spent is answered before all
+    /// else.
     ///
-    /// After Fault the fleet is halted: each later take is a Fault.
+    /// After Fault the fleet is halted: each later take is a Fault. A Fault that `fault_at` asked for doesn't halt it.
     fn raise(&mut self, master: u64, id: u64) -> Result<(), TakeFault>
         ensures gives { RaiseGives (fleet_state R.noted self.old) master id result (fleet_state R.noted self.new) }
         ensures spent { (result ≡ Err TakeFault.Spent) ↔ (self.old.takes ≡ self.old.end) }
@@ -159,9 +268,15 @@ impl<D: Device, R: FleetRegistry> Fleet for FileFleet<D, R> {
         if self.takes == self.end {
             return Err(TakeFault::Spent);
         }
+        if self.asked.loses_next(self.faults) && !self.members.is_halted() {
+            return Err(self.asked.fail(&mut self.faults));
+        }
         match self.members.raise(self.alloc, master, id) {
             Ok(()) => {
                 self.takes += 1;
+                if self.asked.ends_in_fault(&mut self.faults) {
+                    return Err(TakeFault::Fault);
+                }
                 Ok(())
             }
             Err(TakeFault::Fault) => Err(count_fault(&mut self.faults)),
@@ -193,5 +308,50 @@ impl<D: Device, R: FleetRegistry> Fleet for FileFleet<D, R> {
 
     fn faults(&self) -> u64 {
         self.faults
+    }
+}
+
+impl<D: Device, R: FleetRegistry> Bench for FileFleet<D, R> {
+    ghost use Rattle.std.specs.Prelude.{◌≡◌, ℕ};
+    ghost use Rattle.replica.specs.Retire.{Retires};
+    ghost use Rattle.replica.specs.Take.{limited};
+    ghost use Rattle.file_fleet.specs.Fleet.{fleet_state};
+
+    fn limit(&mut self, n: u64)
+        ensures { fleet_state R.noted self.new ≡ limited (fleet_state R.noted self.old) n }
+    {
+        self.end = self.takes.saturating_add(n);
+    }
+
+    /// Asks for a fault: the `n`-th take from now ends in `Fault`, and `taken` says whether its op is taken. An op
+    /// that is taken is on the disk. For one that isn't, the take wants memory for a list of its backup's replicas.
+    fn fault_at(&mut self, n: u64, taken: bool)
+        ensures { fleet_state R.noted self.new ≡ fleet_state R.noted self.old }
+    {
+        self.asked = Asked::fault(n, taken);
+    }
+
+    /// Frees the replicas of all masters but `keep`: by backup, then by master, then by segment, one Free a take. It
+    /// ends at the first fault, and what was freed before stays freed.
+    fn retire(&mut self, keep: u64) -> Result<(), TakeFault>
+        ensures retires { Retires (fleet_state R.noted self.old) keep result (fleet_state R.noted self.new) }
+        ensures same { (b s : ℕ) → (fleet_state R.noted self.new).picture b keep s
+            ≡ (fleet_state R.noted self.old).picture b keep s }
+    {
+        let Ok(spots) = self.others(keep) else {
+            return Err(TakeFault::NoMemory);
+        };
+        for spot in spots {
+            let op = Op {
+                master: spot.master,
+                segment: spot.segment,
+                act: Act::Free,
+            };
+            match self.take(spot.backup, &op) {
+                Ok(()) => {}
+                Err(fault) => return Err(fault),
+            }
+        }
+        Ok(())
     }
 }

@@ -6,6 +6,7 @@
 #![tactic(auto)]
 
 mod acks;
+mod asked;
 mod fleet;
 mod member;
 mod members;

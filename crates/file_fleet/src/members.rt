@@ -1,17 +1,29 @@
 //! The backups of a fleet, and its registry.
 
-ghost use Rattle.std.specs.Prelude.{◌≡◌, ◌↔◌, ◌++◌, [], ◌∷◌, Err, IfErr, IsTrue, OnErr, OnOk, length, true, false};
+ghost use Rattle.std.specs.Prelude.{◌≡◌, ◌↔◌, ◌++◌, [], ◌∷◌, Err, IfErr, IfOk, IsTrue, OnErr, OnOk, length, true};
+ghost use Rattle.std.specs.Prelude.{◌<◌, IsErr, false, set};
 ghost use Rattle.replica.specs.Op.{shown_op};
 ghost use Rattle.replica.specs.Registry.{with_least};
+ghost use Rattle.replica.specs.Retire.{AreOthers};
 ghost use Rattle.file_fleet.specs.Members.{AreSafe, IsMember, IsOutAt, IsUnder, MissesOn, TakesOn, picture_of};
-ghost use Rattle.file_fleet.specs.Files.{Files};
-ghost use Rattle.file_fleet.specs.Moments.{AreLeftAmid, ShowsRaise, ShowsTake};
+ghost use Rattle.file_fleet.specs.Members.{device_at, replicas_at, with_backup};
+ghost use Rattle.file_backup.specs.Mirror.{IsJournalOf, is_out};
+ghost use Rattle.take_journal.specs.Crash.{HasVersion};
+ghost use Rattle.take_journal.specs.Device.{LeavesJust};
+ghost use Rattle.take_journal.specs.Frames.{IsShort, recovered};
+ghost use Rattle.take_journal.specs.Journal.{device_of, takes_more};
+ghost use Rattle.replica.specs.Take.{no_limit};
+ghost use Rattle.file_fleet.specs.Files.{Files, ShowsFleet};
+ghost use Rattle.file_fleet.specs.Moments.{AreLeftAmid, AreLeftByPut, ShowsPut, ShowsRaise, ShowsTake};
 
 use crate::member::Member;
 use crate::registry::{FleetRegistry, NoteFault};
-use replica::{Op, TakeFault};
+use entry::NoMemory;
+use file_backup::BackupFault;
+use replica::{Op, Spot, TakeFault};
 use std::alloc::Global;
-use take_journal::Device;
+use std::mem::replace;
+use take_journal::{Device, Journal};
 
 /// The backups of a fleet, numbered from 0, and its registry.
 ///
@@ -47,6 +59,13 @@ impl<D: Device, R: FleetRegistry> Members<D, R> {
         &self.registry
     }
 
+    /// Whether the fleet is halted.
+    pub fn is_halted(&self) -> bool
+        ensures { result ≡ self.now.is_halted }
+    {
+        self.is_halted
+    }
+
     /// How many backups there are.
     pub fn backups(&self) -> u64
         ensures { result ≡ length self.now.list.items }
@@ -67,6 +86,7 @@ impl<D: Device, R: FleetRegistry> Members<D, R> {
         requires safe { AreSafe D.contents D.may_leave D.has_failed R.noted R.is_sound self.old }
         requires member { IsMember D.contents D.may_leave D.has_failed member }
         requires under { IsUnder D.may_leave ((R.noted self.old.registry).span (length self.old.list.items)) member }
+        requires named { (R.noted self.old.registry).file (length self.old.list.items) ≡ member.id }
 
         ensures safe { AreSafe D.contents D.may_leave D.has_failed R.noted R.is_sound self.new }
         ensures added { OnOk result (self.new.list.items ≡ self.old.list.items ++ member ∷ []) }
@@ -88,6 +108,37 @@ impl<D: Device, R: FleetRegistry> Members<D, R> {
             Some(member) => member.backup.is_out(),
             None => false,
         }
+    }
+
+    /// Whether an op fits what its backup holds, and neither the fleet is halted nor the backup is out. It takes
+    /// memory for a list of all replicas of the backup.
+    pub(crate) fn has_place_for(
+        &self,
+        alloc: Global,
+        backup: u64,
+        op: &Op<'_>,
+    ) -> Result<bool, NoMemory> {
+        if self.is_halted {
+            return Ok(false);
+        }
+        match self.list.as_slice().get(backup as usize) {
+            Some(member) => member.has_place_for(alloc, op),
+            None => Ok(false),
+        }
+    }
+
+    /// Where the replicas of other masters than `keep` are, by backup, then by master, then by segment.
+    pub(crate) fn others(&self, alloc: Global, keep: u64) -> Result<Vec<Spot>, NoMemory>
+        ensures { IfOk result (λ spots. AreOthers spots.items (picture_of self.now.list.items) keep) }
+    {
+        let mut spots = Vec::new(alloc);
+        for (backup, member) in self.list.iter().enumerate() {
+            member
+                .backup
+                .memory()
+                .list_others(keep, backup as u64, &mut spots)?;
+        }
+        Ok(spots)
     }
 
     /// Hands an op to a backup. The op is on the disk before the answer is Ok. If the backup's device fails, the
@@ -130,6 +181,126 @@ impl<D: Device, R: FleetRegistry> Members<D, R> {
         answer
     }
 
+    /// Puts a backup with a file of its own in the place of one, and hands that back. The registry names the new file
+    /// before the answer is Ok, and the old one doesn't count from then on. If the registry isn't written, the new
+    /// backup is handed back. If it failed, the fleet is halted then. The fault is NoMemory also if no backup has this
+    /// number.
+    pub fn put(
+        &mut self,
+        alloc: Global,
+        backup: u64,
+        next: Member<D>,
+    ) -> Result<Member<D>, (NoteFault, Member<D>)>
+        requires safe { AreSafe D.contents D.may_leave D.has_failed R.noted R.is_sound self.old }
+        requires member { IsMember D.contents D.may_leave D.has_failed next }
+        requires goes_on { is_out next.backup ≡ false }
+        requires live { next.id ≡ 0 → ⊥ }
+
+        ensures safe { AreSafe D.contents D.may_leave D.has_failed R.noted R.is_sound self.new }
+        ensures put { OnOk result (picture_of self.new.list.items
+            ≡ with_backup (picture_of self.old.list.items) backup (replicas_at next)) }
+        ensures refused { IfErr result (λ e. (e.1 ≡ next) × (self.new.list ≡ self.old.list)) }
+        ensures count { length self.new.list.items ≡ length self.old.list.items }
+        ensures least { (R.noted self.new.registry).least ≡ (R.noted self.old.registry).least }
+        ensures halted { self.old.is_halted ≡ true → IsErr result × (self.new ≡ self.old) }
+
+        // A crash at any moment of the call leaves files that show the backups as they were, or the new one in its
+        // place.
+        ensures any_moment { self.old.is_halted ≡ false → (files : Files)
+            → AreLeftByPut D.may_leave R.time R.left_of self.old backup (device_at next) next.id
+            self.new.registry files
+            → ShowsPut (length self.old.list.items) (picture_of self.old.list.items)
+            (R.noted self.old.registry).least backup (replicas_at next) files }
+    {
+        if self.is_halted {
+            return Err((NoteFault::Failed, next));
+        }
+        if backup >= self.backups() {
+            return Err((NoteFault::NoMemory, next));
+        }
+        match self.registry.name_file(alloc, backup, next.id) {
+            Ok(()) => Ok(exchange(&mut self.list, backup as usize, next)),
+            Err(NoteFault::NoMemory) => Err((NoteFault::NoMemory, next)),
+            Err(NoteFault::Failed) => {
+                self.is_halted = true;
+                Err((NoteFault::Failed, next))
+            }
+        }
+    }
+
+    /// Writes all that a backup holds to a new file, and answers how many texts it has. The backup goes on with its
+    /// own journal. If no backup has this number, the answer is NoMemory.
+    pub fn copy(
+        &self,
+        alloc: Global,
+        backup: u64,
+        first: &[u8],
+        journal: &mut Journal<D>,
+    ) -> Result<u64, BackupFault>
+        requires closed { takes_more journal.old ≡ false }
+        requires empty { D.contents (device_of journal.old) ≡ [] }
+        requires durable { LeavesJust [] (D.may_leave (device_of journal.old)) }
+        requires unfailed { D.has_failed (device_of journal.old) ≡ false }
+        requires version { HasVersion (first.now ∷ []) }
+        requires short { IsShort first.now }
+
+        ensures copied { OnOk result (IsJournalOf D.contents D.may_leave D.has_failed
+            (picture_of self.now.list.items backup) journal.new) }
+        ensures counted { IfOk result (λ count. count ≡ length (recovered (D.contents (device_of journal.new)))) }
+    {
+        match self.list.as_slice().get(backup as usize) {
+            Some(member) => member.backup.copy_to(alloc, first, journal),
+            None => Err(BackupFault::NoMemory),
+        }
+    }
+
+    /// Makes a backup go on in another journal, which shows what it holds, and hands back its own. The registry names
+    /// the new file before the answer is Ok, and the old one doesn't count from then on. A backup that was out is
+    /// back. If the registry isn't written, the new journal is handed back. If it failed, the fleet is halted then.
+    /// The fault is NoMemory also if no backup has this number.
+    pub fn switch(
+        &mut self,
+        alloc: Global,
+        backup: u64,
+        id: u64,
+        journal: Journal<D>,
+        frames: u64,
+    ) -> Result<Journal<D>, (NoteFault, Journal<D>)>
+        requires safe { AreSafe D.contents D.may_leave D.has_failed R.noted R.is_sound self.old }
+        requires copied { IsJournalOf D.contents D.may_leave D.has_failed
+            (picture_of self.old.list.items backup) journal }
+        requires counted { frames ≡ length (recovered (D.contents (device_of journal))) }
+        requires limit { frames < no_limit }
+        requires live { id ≡ 0 → ⊥ }
+
+        ensures safe { AreSafe D.contents D.may_leave D.has_failed R.noted R.is_sound self.new }
+        ensures same { picture_of self.new.list.items ≡ picture_of self.old.list.items }
+        ensures refused { IfErr result (λ e. e.1 ≡ journal) }
+        ensures count { length self.new.list.items ≡ length self.old.list.items }
+        ensures least { (R.noted self.new.registry).least ≡ (R.noted self.old.registry).least }
+
+        // A crash at any moment of the call leaves files that show the backups.
+        ensures any_moment { self.old.is_halted ≡ false → (files : Files)
+            → AreLeftByPut D.may_leave R.time R.left_of self.old backup (device_of journal) id self.new.registry files
+            → ShowsFleet (length self.old.list.items) (picture_of self.old.list.items)
+            (R.noted self.old.registry).least files }
+    {
+        if self.is_halted {
+            return Err((NoteFault::Failed, journal));
+        }
+        let Some(member) = self.list.get_mut(backup as usize) else {
+            return Err((NoteFault::NoMemory, journal));
+        };
+        match self.registry.name_file(alloc, backup, id) {
+            Ok(()) => Ok(member.go_on_with(id, journal, frames)),
+            Err(NoteFault::NoMemory) => Err((NoteFault::NoMemory, journal)),
+            Err(NoteFault::Failed) => {
+                self.is_halted = true;
+                Err((NoteFault::Failed, journal))
+            }
+        }
+    }
+
     /// Raises a master's least head. It is on the disk before the answer is Ok. The answer is never Wrong or Spent.
     pub(crate) fn raise(&mut self, alloc: Global, master: u64, id: u64) -> Result<(), TakeFault>
         requires safe { AreSafe D.contents D.may_leave D.has_failed R.noted R.is_sound self.old }
@@ -161,4 +332,12 @@ impl<D: Device, R: FleetRegistry> Members<D, R> {
             }
         }
     }
+}
+
+/// Puts a backup in the place of another, and hands that back.
+fn exchange<D: Device>(list: &mut Vec<Member<D>>, at: usize, next: Member<D>) -> Member<D>
+    requires { at < length list.old.items }
+    ensures { list.new.items ≡ set list.old.items at next }
+{
+    replace(&mut list[at], next)
 }

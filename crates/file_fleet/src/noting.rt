@@ -1,7 +1,7 @@
 //! The file of a registry serves a fleet.
 
 ghost use Rattle.std.specs.Prelude.{◌≡◌};
-ghost use Rattle.file_fleet.specs.Noting.{span_of};
+ghost use Rattle.file_fleet.specs.Noting.{id_of, span_of};
 
 use crate::registry::{FleetRegistry, NoteFault, Span};
 use registry_file::{JournalFile, RegistryFault, RegistryFile};
@@ -24,6 +24,16 @@ fn span_of(journal: Option<JournalFile>) -> Span
                 Span::First(file.count)
             }
         }
+    }
+}
+
+/// The id of a backup's file.
+fn id_of(journal: Option<JournalFile>) -> u64
+    ensures { result ≡ id_of journal }
+{
+    match journal {
+        None => LOST,
+        Some(file) => file.id,
     }
 }
 
@@ -50,6 +60,10 @@ impl<D: Device> FleetRegistry for RegistryFile<D> {
         span_of(self.registry().journal(backup))
     }
 
+    fn file(&self, backup: u64) -> u64 {
+        id_of(self.registry().journal(backup))
+    }
+
     fn raise(&mut self, alloc: Global, master: u64, id: u64) -> Result<(), NoteFault> {
         match self.put(alloc, &Record::Raise { master, head: id }) {
             Ok(()) => Ok(()),
@@ -73,6 +87,19 @@ impl<D: Device> FleetRegistry for RegistryFile<D> {
         match self.put(alloc, &record) {
             Ok(()) => Ok(()),
             Err(_) => Err(NoteFault::Failed),
+        }
+    }
+
+    fn name_file(&mut self, alloc: Global, backup: u64, id: u64) -> Result<(), NoteFault> {
+        let record = Record::Journal {
+            backup,
+            id,
+            count: ALL_FRAMES,
+        };
+        match self.put(alloc, &record) {
+            Ok(()) => Ok(()),
+            Err(RegistryFault::Failed) => Err(NoteFault::Failed),
+            Err(_) => Err(NoteFault::NoMemory),
         }
     }
 

@@ -2,7 +2,7 @@
 
 ghost use Rattle.std.specs.Prelude.{◌≡◌, ◌≤◌, ◌<◌, Err, OnErr, OnOk, ℕ};
 ghost use Rattle.replica.specs.Take.{no_limit};
-ghost use Rattle.file_fleet.specs.Files.{Noted, with_head, with_span};
+ghost use Rattle.file_fleet.specs.Files.{Noted, with_file, with_head, with_span};
 ghost use Rattle.file_fleet.specs.declared.registry.Span.TheVariants.{First};
 ghost use Rattle.file_fleet.specs.Moments.{LeavesEither};
 
@@ -31,7 +31,7 @@ pub enum Span {
     First(u64),
 }
 
-/// A registry in a file: the least heads, and of each backup how much of its journal counts.
+/// A registry in a file: the least heads, and of each backup which file its journal is, and how much of it counts.
 pub trait FleetRegistry {
     /// What it keeps: all that was answered Ok.
     ghost noted: { Self → Noted };
@@ -56,6 +56,10 @@ pub trait FleetRegistry {
     fn span(&self, backup: u64) -> Span
         ensures { result ≡ (noted self.now).span backup };
 
+    /// Returns the id of the file that is a backup's journal, or 0 if there is none. It takes no memory.
+    fn file(&self, backup: u64) -> u64
+        ensures { result ≡ (noted self.now).file backup };
+
     /// Raises the least head of a master to `id`, on the disk. A lower `id` leaves it as it is.
     fn raise(&mut self, alloc: Global, master: u64, id: u64) -> Result<(), NoteFault>
         requires sound { is_sound self.old }
@@ -63,7 +67,8 @@ pub trait FleetRegistry {
         ensures refused { OnErr result (noted self.new ≡ noted self.old) }
         ensures sound { OnOk result (is_sound self.new) }
         ensures memory { result ≡ Err NoteFault.NoMemory → is_sound self.new }
-        ensures any_moment { LeavesEither noted time left_of (with_head (noted self.old) master id) self.old self.new };
+        ensures any_moment { LeavesEither noted time left_of (with_head (noted self.old) master id)
+            self.old self.new };
 
     /// Notes on the disk that only the first frames of a backup's journal count, so many.
     fn end_journal(&mut self, alloc: Global, backup: u64, frames: u64) -> Result<(), NoteFault>
@@ -73,6 +78,17 @@ pub trait FleetRegistry {
         ensures refused { OnErr result (noted self.new ≡ noted self.old) }
         ensures sound { OnOk result (is_sound self.new) }
         ensures any_moment { LeavesEither noted time left_of (with_span (noted self.old) backup (First frames))
+            self.old self.new };
+
+    /// Notes on the disk that a backup's journal is the file with this id, which isn't 0, and that all of it counts.
+    fn name_file(&mut self, alloc: Global, backup: u64, id: u64) -> Result<(), NoteFault>
+        requires sound { is_sound self.old }
+        requires live { id ≡ 0 → ⊥ }
+        ensures named { OnOk result (noted self.new ≡ with_file (noted self.old) backup id) }
+        ensures refused { OnErr result (noted self.new ≡ noted self.old) }
+        ensures sound { OnOk result (is_sound self.new) }
+        ensures memory { result ≡ Err NoteFault.NoMemory → is_sound self.new }
+        ensures any_moment { LeavesEither noted time left_of (with_file (noted self.old) backup id)
             self.old self.new };
 
     /// The present moment is one of those since an earlier one.

@@ -1,10 +1,11 @@
-use Rattle.std.proofs.Common.{◌≡◌, ℕ, List, [], Some, Vec, sym, ◌∙◌, ap, subst}
+use Rattle.std.proofs.Common.{◌≡◌, ℕ, List, [], Some, Vec, sym, ◌∙◌, ap, subst, arith}
 use Rattle.std.specs.declared.alloc.Global.{Global}
 use Rattle.take_journal.specs.Crash.{HasVersion}
 use Rattle.take_journal.specs.Frames.{recovered, texts_of}
 use Rattle.take_journal.specs.Journal.{device_of}
 use Rattle.file_backup.specs.Replay.{Replicas, held_in, shown}
-use Rattle.file_backup.proofs.Makes.{crash_in_making, crash_in_opening, journal_of_texts, none_recovered, untouched}
+use Rattle.file_backup.proofs.Makes.{counted_texts, crash_in_making, crash_in_opening, journal_of_texts}
+use Rattle.file_backup.proofs.Makes.{none_recovered, untouched}
 use Rattle.file_backup.proofs.mirror.write_whole.Goals as goal
 
 pub returns-in_default-clause-any_moment : goal.returns-in_default-clause-any_moment
@@ -62,3 +63,12 @@ returns-clause-any_moment g c =
     crash_in_making g.D.Device.clock g.D.Device.left_since p before (texts_of c.deref.result.now)
     (device_of c.args.journal.now) (device_of mid) (device_of c.append_all.new.self) none shows has
     c.open.ensures.any_moment (c.append_all.ensures.any_moment c.in_default-open.ensures.opened.ready)
+
+pub returns-in-Ok-append_all-clause-counted : goal.returns-in-Ok-append_all-clause-counted
+returns-in-Ok-append_all-clause-counted g c =
+    let before : List (List ℕ) = recovered (g.D.Device.contents (device_of c.open.new.self)) in
+    let none : before ≡ [] = c.in_default-open.ensures.opened.texts_are ∙ none_recovered in
+    let all = counted_texts c.in-Ok.texts.items c.deref.result.now c.deref.ensures.value before
+    (recovered (g.D.Device.contents (device_of c.append_all.new.self))) none
+    c.in-Ok-append_all.ensures.acknowledged.1.texts_are in
+    omega (arith, c.len.ensures, c.in-Ok.texts.ok.0, all)

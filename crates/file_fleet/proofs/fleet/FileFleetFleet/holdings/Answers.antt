@@ -1,7 +1,9 @@
-use Rattle.std.proofs.Common.{◌≡◌, Some, refl}
+use Rattle.std.proofs.Common.{◌≡◌, Some, refl, ap}
 use Rattle.std.specs.List.{slice_get}
 use Rattle.std.proofs.lemmas.Option.{slice_get_read}
 use Rattle.backup.specs.Shelf.{holdings_of}
+use Rattle.backup.specs.declared.memory.MemoryBackup.{MemoryBackup}
+use Rattle.file_backup.specs.Replay.{held_in}
 use Rattle.file_fleet.proofs.Held.{one_shown, shown_once}
 use Rattle.file_fleet.proofs.fleet.FileFleetFleet.holdings.Goals as goal
 
@@ -15,7 +17,8 @@ returns-clause-shown g c =
     let whole : c.show.new.list.items ≡ holdings_of c.args.backup c.memory.result.now =
     rw c.new-list.ensures.items at c.in_ok-show.ensures.shown in
     rw (← c.self.view_is, whole)
-    (one_shown members c.args.backup member c.memory.result.now at c.memory.ensures c.show.ensures.ordered)
+    (one_shown members c.args.backup member c.memory.result.now at
+    (ap (λ (m : MemoryBackup). held_in m) c.memory.ensures) c.show.ensures.ordered)
 
 pub returns-clause-once : goal.returns-clause-once
 returns-clause-once g c =

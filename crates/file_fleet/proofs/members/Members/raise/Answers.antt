@@ -8,6 +8,7 @@ returns-in-Ok-clause-safe g c goes_on =
     kept_with g.D.Device.contents g.D.Device.may_leave g.D.Device.has_failed g.R.FleetRegistry.noted
     g.R.FleetRegistry.is_sound c.args.self.now.list.items c.args.self.now.registry c.raise.new.self
     (c.requires.safe goes_on) c.in-Ok.ensures.sound (λ b. ap (λ (n : Noted). n.span b) c.in-Ok.ensures.raised)
+    (λ b. ap (λ (n : Noted). n.file b) c.in-Ok.ensures.raised)
 
 pub returns-in-Ok-clause-any_moment : goal.returns-in-Ok-clause-any_moment
 returns-in-Ok-clause-any_moment g c goes_on =
@@ -21,6 +22,7 @@ returns-in-Err-NoMemory-clause-safe g c goes_on =
     kept_with g.D.Device.contents g.D.Device.may_leave g.D.Device.has_failed g.R.FleetRegistry.noted
     g.R.FleetRegistry.is_sound c.args.self.now.list.items c.args.self.now.registry c.raise.new.self
     (c.requires.safe goes_on) (search rules) (λ b. ap (λ (n : Noted). n.span b) c.in-Err-NoMemory.ensures.refused)
+    (λ b. ap (λ (n : Noted). n.file b) c.in-Err-NoMemory.ensures.refused)
 
 pub returns-in-Err-NoMemory-clause-any_moment : goal.returns-in-Err-NoMemory-clause-any_moment
 returns-in-Err-NoMemory-clause-any_moment g c goes_on =

@@ -7,7 +7,8 @@ use Rattle.replica.specs.Op.{shown_op}
 use Rattle.file_fleet.specs.Files.{with_span}
 use Rattle.file_fleet.specs.declared.registry.Span.TheVariants.{First}
 use Rattle.file_fleet.specs.Moments.{LeavesEither}
-use Rattle.file_fleet.proofs.Kept.{first_show, for_err, for_ok, kept_after, kept_ended, nothing_leaves, on_fault, on_ok}
+use Rattle.file_fleet.proofs.Kept.{first_show, for_err, for_ok, kept_after, kept_ended, nothing_leaves, on_fault}
+use Rattle.file_fleet.proofs.Kept.{on_ok}
 use Rattle.file_fleet.proofs.Kept.{registry_still, take_leaves, went_on}
 use Rattle.file_fleet.proofs.Pictures.{misses_on, same_picture, takes_on}
 use Rattle.file_fleet.proofs.members.Members.take.Goals as goal
@@ -63,8 +64,9 @@ returns-then-is_out-clause-safe g c noted =
     (first_show g.D.Device.contents g.D.Device.may_leave g.D.Device.has_failed g.R.FleetRegistry.noted
     g.R.FleetRegistry.is_sound g.D.Device.clock g.D.Device.left_since g.met.D.Device.just_now
     g.R.FleetRegistry.time g.R.FleetRegistry.left_of member c.take-answer.new.self c.take-answer.new.self.frames
-    (on_fault c.take-answer.result _ failed c.take-answer.ensures.frames) (on_fault c.take-answer.result _ failed c.take-answer.ensures.refused)
-    c.take-answer.ensures.first g.met.D.Device.counts_now)
+    (on_fault c.take-answer.result _ failed c.take-answer.ensures.frames)
+    (on_fault c.take-answer.result _ failed c.take-answer.ensures.refused)
+    c.take-answer.ensures.first g.met.D.Device.counts_now) c.take-answer.ensures.id
 
 pub returns-then-is_out-clause-refused : goal.returns-then-is_out-clause-refused
 returns-then-is_out-clause-refused g c =
@@ -73,7 +75,8 @@ returns-then-is_out-clause-refused g c =
     let at : slice_get list.items c.args.backup ≡ Some c.in-Some.member.now =
     slice_get_read _ _ c.args.backup _ list.ok.0 (found.variant.0 refl) found.value in
     same_picture list.items c.args.backup c.in-Some.member.now c.take-answer.new.self at
-    (on_fault c.take-answer.result _ (c.take-answer.ensures.out (sym c.is_out.ensures ∙ c.if-is_out.true)) c.take-answer.ensures.refused)
+    (on_fault c.take-answer.result _ (c.take-answer.ensures.out (sym c.is_out.ensures ∙ c.if-is_out.true))
+    c.take-answer.ensures.refused)
 
 pub returns-then-is_out-clause-any_moment : goal.returns-then-is_out-clause-any_moment
 returns-then-is_out-clause-any_moment g c goes_on =
@@ -103,10 +106,11 @@ returns-clause-safe g c goes_on =
     let at : slice_get list.items c.args.backup ≡ Some c.in-Some.member.now =
     slice_get_read _ _ c.args.backup _ list.ok.0 (found.variant.0 refl) found.value in
     kept_after g.D.Device.contents g.D.Device.may_leave g.D.Device.has_failed g.R.FleetRegistry.noted
-    g.R.FleetRegistry.is_sound list.items c.args.self.now.registry c.args.backup c.in-Some.member.now c.take-answer.new.self
+    g.R.FleetRegistry.is_sound list.items c.args.self.now.registry c.args.backup c.in-Some.member.now
+    c.take-answer.new.self
     (c.requires.safe goes_on) at c.take-answer.ensures.member
     (went_on list.items c.args.backup c.in-Some.member.now at (λ out. false≢true (c.if-is_out_at.ensures.1 out)))
-    (sym c.is_out.ensures ∙ c.if-is_out.false)
+    (sym c.is_out.ensures ∙ c.if-is_out.false) c.take-answer.ensures.id
 
 pub returns-clause-taken : goal.returns-clause-taken
 returns-clause-taken g c =
@@ -123,7 +127,8 @@ returns-clause-refused g c =
     let found = c.in-Some.ensures in
     let at : slice_get list.items c.args.backup ≡ Some c.in-Some.member.now =
     slice_get_read _ _ c.args.backup _ list.ok.0 (found.variant.0 refl) found.value in
-    for_err c.take-answer.result _ _ (same_picture list.items c.args.backup c.in-Some.member.now c.take-answer.new.self at)
+    for_err c.take-answer.result _ _ (same_picture list.items c.args.backup c.in-Some.member.now c.take-answer.new.self
+    at)
     c.take-answer.ensures.refused
 
 pub returns-clause-wrong : goal.returns-clause-wrong

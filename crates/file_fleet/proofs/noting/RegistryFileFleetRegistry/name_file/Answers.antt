@@ -1,0 +1,34 @@
+use Rattle.std.proofs.Common.{◌∙◌, ap}
+use Rattle.replica.specs.Take.{no_limit}
+use Rattle.registry_file.specs.File.{kept_by}
+use Rattle.registry_file.specs.Kept.{Kept}
+use Rattle.registry_text.specs.declared.record.Record.TheVariants as says
+use Rattle.file_fleet.specs.Noting.{noted_in}
+use Rattle.file_fleet.proofs.Records.{named_noted, put_leaves}
+use Rattle.file_fleet.proofs.noting.RegistryFileFleetRegistry.name_file.Goals as goal
+
+pub returns-in-Ok-clause-named : goal.returns-in-Ok-clause-named
+returns-in-Ok-clause-named g c =
+    ap (λ (k : Kept). noted_in k) c.in-Ok.ensures.put
+    ∙ named_noted (kept_by c.args.self.now) c.args.backup c.args.id c.requires.live
+
+pub returns-in-Ok-clause-any_moment : goal.returns-in-Ok-clause-any_moment
+returns-in-Ok-clause-any_moment g c =
+    put_leaves g.D.Device.clock g.D.Device.left_since c.args.self.now c.put.new.self
+    (says.Journal c.args.backup c.args.id no_limit) _
+    (named_noted (kept_by c.args.self.now) c.args.backup c.args.id c.requires.live)
+    (c.put.ensures.any_moment c.requires.sound.goes_on)
+
+pub returns-in-Err-Failed-clause-any_moment : goal.returns-in-Err-Failed-clause-any_moment
+returns-in-Err-Failed-clause-any_moment g c =
+    put_leaves g.D.Device.clock g.D.Device.left_since c.args.self.now c.put.new.self
+    (says.Journal c.args.backup c.args.id no_limit) _
+    (named_noted (kept_by c.args.self.now) c.args.backup c.args.id c.requires.live)
+    (c.put.ensures.any_moment c.requires.sound.goes_on)
+
+pub returns-in-Err-clause-any_moment : goal.returns-in-Err-clause-any_moment
+returns-in-Err-clause-any_moment g c =
+    put_leaves g.D.Device.clock g.D.Device.left_since c.args.self.now c.put.new.self
+    (says.Journal c.args.backup c.args.id no_limit) _
+    (named_noted (kept_by c.args.self.now) c.args.backup c.args.id c.requires.live)
+    (c.put.ensures.any_moment c.requires.sound.goes_on)
