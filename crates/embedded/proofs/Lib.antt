@@ -1,0 +1,4 @@
+pub mod Going
+pub mod Living
+pub mod Numbers
+pub mod Surviving
