@@ -10,6 +10,7 @@ use tending::driving::{push_all, roll_all};
 use tending::{Notes, Policy, tend};
 
 /// A command on a key of table 1.
+#[derive(Clone, Copy)]
 pub enum Ask {
     /// A put of 40 bytes.
     Put(&'static [u8]),

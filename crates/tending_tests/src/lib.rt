@@ -7,3 +7,5 @@ mod commands;
 mod counted;
 #[cfg(test)]
 mod masters;
+#[cfg(test)]
+mod rooms;
