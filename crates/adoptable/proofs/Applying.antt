@@ -2,7 +2,7 @@
 use Rattle.std.proofs.Common.{◌≡◌, ◌⊎◌, ◌≤◌, ℕ, Bool, true, false, [], ◌∷◌, ◌++◌, refl, sym, ap}
 use Rattle.std.proofs.Common.{subst, inl, inr}
 use Rattle.std.specs.Prelude.{not, Option, Some, None, nat_lt, is_none, ◌&&◌, ◌||◌, if◌then◌else◌}
-use Rattle.std.proofs.lemmas.Bool.{ltb-false, not-false}
+use Rattle.std.proofs.lemmas.Bool.{and_cases, ltb-false, not-false}
 use Rattle.entry.specs.Tablet.{have_key}
 use Rattle.versioned_map.specs.declared.command.Command.{Command}
 use Rattle.versioned_map.specs.declared.command.Record.{Record}
@@ -41,17 +41,13 @@ module _ (d : MasterData) (command : Command) (passed : command_refusal d comman
       let t = passes (not (have_key d.config.tablets (command_key command))) refusal.NoTablet _ b.1 in
       (not-false (have_key d.config.tablets (command_key command)) t.0, b.0)
 
-  within_or_less : (a b : Bool) → (a && b) ≡ false → (a ≡ false) ⊎ (b ≡ false)
-  within_or_less true b e = inr e
-  within_or_less false b e = inl refl
-
   -- the bytes are within the limit, or no more than there were
   passed_live : (live_now d command ≤ d.config.most_live) ⊎ (live_now d command ≤ d.live)
   passed_live =
       let a = passes (is_spent (state_now d).safe ((state_now d).contents (command_key command)) command)
       refusal.VersionsSpent _ both.1 in
       let b = passes (is_overcommitted d (live_now d command)) refusal.Overcommit _ a.1 in
-      go (within_or_less _ _ b.0)
+      go (and_cases _ _ b.0)
     where
       go : (nat_lt d.config.most_live (live_now d command) ≡ false) ⊎ (nat_lt d.live (live_now d command) ≡ false)
           → (live_now d command ≤ d.config.most_live) ⊎ (live_now d command ≤ d.live)

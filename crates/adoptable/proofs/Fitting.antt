@@ -2,7 +2,7 @@
 use Rattle.std.proofs.Common.{◌≡◌, ◌⊎◌, ◌≤◌, Bool, true, false, List, [], ◌∷◌, length, refl, ap, inl, inr}
 use Rattle.std.proofs.Common.{◌+◌, ◌*◌, ◌/◌, ◌∙◌, arith}
 use Rattle.std.specs.Prelude.{not, ◌==◌, ◌||◌}
-use Rattle.std.proofs.lemmas.Bool.{or_cases, ltb-false, le-ltb, eqb-true, not-false}
+use Rattle.std.proofs.lemmas.Bool.{or_cases, or_parts, ltb-false, le-ltb, eqb-true, not-false}
 use Rattle.entry.specs.declared.entry.Object.{Object}
 use Rattle.entry.specs.declared.tablet.Tablet.{Tablet}
 use Rattle.entry.specs.Tablet.{have_key}
@@ -44,15 +44,9 @@ limit_holds c limit =
 
 -- ---- lengths
 
--- neither of two tests is true if not one of them is
-pub neither_of : (a b : Bool) → (a || b) ≡ false → (a ≡ false) × (b ≡ false)
-neither_of true b e = absurd (cc)
-neither_of false true e = absurd (cc)
-neither_of false false e = (refl, refl)
-
 allowed_length : (c : Config) (o : Object) → IsAllowed c (put_of o) → length_of o ≤ longest (sizes_of c) c.largest
 allowed_length c o allowed =
-    let both = neither_of (is_too_big (put_of o) c.segment) (is_longer (put_of o) c.largest) allowed.1 in
+    let both = or_parts (is_too_big (put_of o) c.segment) (is_longer (put_of o) c.largest) allowed.1 in
     let big = ltb-false (c.segment / 4) (50 + 2 * length o.key.bytes + length o.value) both.0 in
     let long = ltb-false c.largest (23 + length o.key.bytes + length o.value) both.1 in
     let is = length_is o in
@@ -82,7 +76,7 @@ module _ (c e : Config) (tablets : e.tablets ≡ c.tablets) (segment : e.segment
   -- it allows what the first one allows
   one_more : (o : Object) → IsAllowed c (put_of o) → IsAllowed e (put_of o)
   one_more o allowed =
-      let both = neither_of (is_too_big (put_of o) c.segment) (is_longer (put_of o) c.largest) allowed.1 in
+      let both = or_parts (is_too_big (put_of o) c.segment) (is_longer (put_of o) c.largest) allowed.1 in
       let big = ap (is_too_big (put_of o)) segment ∙ both.0 in
       let long = ltb-false c.largest (23 + length o.key.bytes + length o.value) both.1 in
       let longer : is_longer (put_of o) e.largest ≡ false =

@@ -1,6 +1,7 @@
 -- What is recovered fits a limit, and an adoption of it is never refused for the table.
 use Rattle.std.proofs.Common.{◌≡◌, Bool, true, false, List, [], ◌∷◌, ◌++◌, refl, sym, ap, subst, inl, inr}
 use Rattle.std.proofs.Common.{◌∙◌}
+use Rattle.std.proofs.lemmas.Bool.{or_parts}
 use Rattle.std.specs.Prelude.{not, Option, Some, None, unwrap_or, if◌then◌else◌}
 use Rattle.std.proofs.lemmas.Option.{same_Some}
 use Rattle.entry.specs.declared.entry.Entry.TheVariants as entry
@@ -29,7 +30,7 @@ use Rattle.replay.proofs.of_driving.MasterSteps.{push_tested}
 use Rattle.adoptable.specs.Laws.{RecoveredFits, WithinIsAdopted, IsNotForTable}
 use Rattle.adoptable.specs.Limit.{IsAllowed, put_of}
 use Rattle.adoptable.proofs.Faulting.{halts_for_fault, spends_for_fault}
-use Rattle.adoptable.proofs.Fitting.{neither_of, within_fits}
+use Rattle.adoptable.proofs.Fitting.{within_fits}
 use Rattle.adoptable.proofs.Ordered.{ordered_once}
 use Rattle.adoptable.proofs.Sums.{AreAllowed}
 
@@ -93,7 +94,7 @@ load_may : (d e : MasterData) (o : Object) (r : Refusal) → IsAllowed d.config 
 load_may d e o r allowed (same, inl test) final = tested _ _ _ _ small allowed.0 test
   where
     small : is_object_too_big o d.config.segment ≡ false
-    small = (neither_of (is_too_big (put_of o) d.config.segment) (is_longer (put_of o) d.config.largest) allowed.1).0
+    small = (or_parts (is_too_big (put_of o) d.config.segment) (is_longer (put_of o) d.config.largest) allowed.1).0
 
     tested : (big there full room : Bool) → big ≡ false → there ≡ true
         → (if big then Some refusal.TooBig else if not there then Some refusal.NoTablet

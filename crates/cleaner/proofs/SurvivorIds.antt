@@ -3,7 +3,7 @@ use Rattle.std.proofs.Common.{◌≡◌, ℕ, zero, suc, ◌+◌, ◌-◌, ◌<�
 use Rattle.std.proofs.Common.{[], ◌∷◌, ◌++◌, refl, sym, ap, subst, ◌∙◌, arith}
 use Rattle.std.specs.Prelude.{nat_lt}
 use Rattle.std.specs.List.{AllByRecursion, range_with_len}
-use Rattle.std.proofs.lemmas.Bool.{eq-eqb, ne_eqb, lt-ltb, le-ltb, ltb-true, ltb-false}
+use Rattle.std.proofs.lemmas.Bool.{eq-eqb, ne_eqb, lt-ltb, le-ltb, ltb-true, ltb-false, or_left}
 use Rattle.entry.specs.Bag.{IsAmong}
 use Rattle.entry.proofs.ListLemmas.{all_among}
 use Rattle.compactor.specs.Kept.{has_id}
@@ -42,9 +42,6 @@ all_ids P first count i all lt = all_among P (range_with_len first count) (first
 or_false : (a b : Bool) → a ≡ false → (a || b) ≡ b
 or_false a b is = ap (λ (x : Bool). x || b) is
 
-or_true : (a b : Bool) → a ≡ true → (a || b) ≡ true
-or_true a b is = ap (λ (x : Bool). x || b) is
-
 pub has_below : (first count id : ℕ) → id < first → has_id (range_with_len first count) id ≡ false
 has_below first zero id lt = refl
 has_below first (suc count) id lt =
@@ -75,7 +72,7 @@ has_ids first (suc count) id le =
           → (first ≡ id) ⊎ (first < id)
           → has_id (range_with_len first (suc count)) id ≡ nat_lt (id - first) (suc count)
       go later (inl same) =
-          or_true (first == id) (has_id (range_with_len (first + 1) count) id) (eq-eqb first id same)
+          or_left (first == id) (has_id (range_with_len (first + 1) count) id) (eq-eqb first id same)
           ∙ sym (lt-ltb (id - first) (suc count) (omega (arith, same)))
       go later (inr lt) =
           or_false (first == id) (has_id (range_with_len (first + 1) count) id)

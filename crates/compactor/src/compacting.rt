@@ -79,6 +79,25 @@ pub fn compact(
     ensures err { OnErr result (index.new ≡ index.old) }
 {
     let len = kept_len(id, segment, index, log);
+    compact_to_len(alloc, id, segment, index, log, len)
+}
+
+/// Makes a segment of a segment's kept entries as `compact` does, where the caller knows that they have `len` bytes.
+/// The call reads the segment once. On `Err` memory ran out, and nothing changed.
+pub fn compact_to_len(
+    alloc: Global,
+    id: u64,
+    segment: &SegmentRef<'_>,
+    index: &mut Index,
+    log: &LogSet<'_>,
+    len: usize,
+) -> Result<Segment, NoMemory>
+    requires known { len ≡ length (text_of (kept_of (ids_of_log log.now) index.old.held id segment.now)) }
+    ensures compacted { IfOk result (λ s. s ≡ kept_of (ids_of_log log.now) index.old.held id segment.now) }
+    ensures followed { OnOk result (Follows (ids_of_log log.now) id segment.now index.old.held index.new.held) }
+    ensures room { index.new.room ≡ index.old.room }
+    ensures err { OnErr result (index.new ≡ index.old) }
+{
     let mut bytes = Vec::with_capacity(alloc, len)?;
     copy_kept(id, segment, index, log, &mut bytes);
     Ok(Segment::of_text(bytes))

@@ -146,8 +146,8 @@ fn count_any(
     }
 }
 
-/// Returns how many bytes the kept entries of a segment have.
-pub(crate) fn kept_len(id: u64, segment: &SegmentRef<'_>, index: &Index, log: &LogSet<'_>) -> usize
+/// Returns how many bytes the kept entries of a segment have. The call reads the whole segment.
+pub fn kept_len(id: u64, segment: &SegmentRef<'_>, index: &Index, log: &LogSet<'_>) -> usize
     ensures { result ≡ length (text_of (kept_of (ids_of_log log.now) index.now.held id segment.now)) }
 {
     let text = segment.bytes();

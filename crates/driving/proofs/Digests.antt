@@ -2,7 +2,7 @@
 use Rattle.std.proofs.Common.{◌≡◌, ◌≤◌, ◌+◌, ◌⊎◌, ℕ, suc, Bool, true, false, List, [], ◌∷◌, ◌++◌, length, refl, sym}
 use Rattle.std.proofs.Common.{ap, subst, inl, inr, ◌∙◌, append_assoc, arith}
 use Rattle.std.proofs.lemmas.Bool.{le-leb}
-use Rattle.std.proofs.lemmas.List.{length-append, length-set}
+use Rattle.std.proofs.lemmas.List.{length-set, length_push}
 use Rattle.std.proofs.lemmas.Option.{same_Some}
 use Rattle.std.specs.Option.{option_map, option_map_or}
 use Rattle.std.specs.Prelude.{Option, Some, None, IfSome, not, ◌==◌, if◌then◌else◌}
@@ -332,9 +332,6 @@ abbrev pub IsHeaded : Outline → Type 0
 IsHeaded o = (o.head.replicas ≡ o.config.replicas) × (first_of o.failover ≡ false)
     × (IsFull o.head ⊎ ((f : Failover) × (o.failover ≡ Some f) × (f.part ≡ part.Mends)))
 
-one_longer : (ns : List ℕ) (n : ℕ) → length (ns ++ n ∷ []) ≡ length ns + 1
-one_longer ns n = length-append ns (n ∷ [])
-
 closed_replicas : (h : HeadValue) (r : Roll) → (with_closed_replica h r).replicas ≡ h.replicas
 closed_replicas h r = go (suc r.closed == h.replicas)
   where
@@ -368,9 +365,9 @@ closed_full h r full = go (suc r.closed == h.replicas)
     go false = full
 
 head_full : (h : HeadValue) (push : Next) → IsFull h → IsFull (head_after h push)
-head_full h (next.OpenFirst j) full = let more = one_longer h.taken 0 in omega arith
+head_full h (next.OpenFirst j) full = let more = length_push h.taken 0 in omega arith
 head_full h (next.Extend j) full = let same = length-set h.taken j (length h.units) in omega arith
-head_full h (next.OpenWhole j) full = let more = one_longer h.taken (length h.units) in omega arith
+head_full h (next.OpenWhole j) full = let more = length_push h.taken (length h.units) in omega arith
 head_full h (next.OpenNew j) full = go h.roll
   where
     go : (o : Option Roll) → IsFull (option_map_or (with_new_replica h) o h)
@@ -393,7 +390,7 @@ opened_full : (h : HeadValue) → IsFull h → IsFull (opened_head h)
 opened_full h full = go h.roll
   where
     go : (o : Option Roll) → IsFull (option_map_or (with_new_replica h) o (with_opened_replica h))
-    go None = let more = one_longer h.taken 0 in omega arith
+    go None = let more = length_push h.taken 0 in omega arith
     go (Some r) = full
 
 -- in another part than the first, and without a failover, the head is full

@@ -16,6 +16,7 @@
 #![tactic(auto)]
 
 mod cleaning;
+mod commands;
 mod laws;
 mod loading;
 mod master;

@@ -14,7 +14,9 @@ ghost use Rattle.master.specs.World.{world};
 use crate::master::Master;
 use crate::pushing;
 use entry::{Entry, NoMemory, ObjectRef, SafeVersion};
-use master_core::{Config, Core, Loads, Refusal, Step, StepAnswer, begin_roll};
+use master_core::{
+    Config, Core, Refusal, Step, StepAnswer, begin_history, begin_roll, can_finish, load, presize,
+};
 use replica::Fleet;
 use std::alloc::Global;
 use std::marker::Model;
@@ -70,7 +72,7 @@ impl<F: Fleet> Loading<F> {
     pub fn presize(&mut self, objects: usize)
         ensures { self.new ≡ self.old }
     {
-        self.core.presize(objects);
+        presize(&mut self.core, objects);
     }
 
     /// Loads an object with its own version: it is appended to the head, and the history begins with it. The fleet
@@ -102,7 +104,7 @@ impl<F: Fleet> Loading<F> {
             DeclinesLoad self.old.knows (Entry.Object (shown_object object.now)) r self.new.knows) }
         ensures fleet { self.new.fleet ≡ self.old.fleet }
     {
-        self.core.load(object)
+        load(&mut self.core, object)
     }
 
     /// Hands one op to one backup, as a master's push.
@@ -147,7 +149,7 @@ impl<F: Fleet> Loading<F> {
         ensures refused { IfErr result (λ l. l ≡ self) }
         ensures lags { OnErr result (is_done self.knows ≡ false) }
     {
-        if !self.core.can_finish() {
+        if !can_finish(&self.core) {
             return Err(self);
         }
         let Loading {
@@ -155,7 +157,7 @@ impl<F: Fleet> Loading<F> {
             mut core,
             fleet,
         } = self;
-        core.begin_history();
+        begin_history(&mut core);
         let master = Master { alloc, core, fleet };
         master.show_valid();
         Ok(master)

@@ -1,14 +1,9 @@
 //! One master over a fleet of backups.
 
-ghost use Rattle.std.specs.Prelude.{List, ◌⊎◌, ◌≡◌, ◌≤◌, ◌<◌, ℕ, None, Ok, Err, length, IfOk, IfErr, IfSome};
-ghost use Rattle.std.specs.Prelude.{OnOk, OnErr, ◌↔◌, ◌+◌, ◌*◌, ◌^◌};
-ghost use Rattle.std.specs.Result.{result_err};
-ghost use Rattle.history.specs.View.{shown_command};
+ghost use Rattle.std.specs.Prelude.{◌≡◌, ◌≤◌, ◌<◌, ℕ, None, length, IfOk, IfErr, OnErr, ◌↔◌, ◌+◌, ◌*◌, ◌^◌};
 ghost use Rattle.master_core.specs.log_laws.Data.{durable_of};
 ghost use Rattle.master_core.specs.master_failover.Left.{left_now};
 ghost use Rattle.master_core.specs.master_state.Budget.{most_segments};
-ghost use Rattle.master_core.specs.master_state.Causes.{command_refusal};
-ghost use Rattle.master_core.specs.master_state.Steps.{IsFound, reply_now};
 ghost use Rattle.master_core.specs.master_state.Config.{config_fault};
 ghost use Rattle.master_core.specs.master_state.Data.{fresh_data};
 ghost use Rattle.master_core.specs.master_state.Forgetting.{ForgetsTo, may_forget};
@@ -23,14 +18,13 @@ ghost use Rattle.master.specs.World.{world};
 
 use crate::{pushing, retiring};
 use entry::{NoMemory, Tablet};
-use history::{CommandRef, History};
+use history::History;
 use master_core::{
-    Commands, Config, Core, Refusal, Step, StepAnswer, begin_roll, compact_segment, failover_left,
+    Config, Core, Refusal, Step, StepAnswer, begin_roll, compact_segment, failover_left,
 };
 use replica::{Bench, Fleet, TakeFault};
 use std::alloc::Global;
 use std::marker::Model;
-use versioned_map::{Command, Reply};
 
 /// One master of a log-structured store, and the fleet of backups that holds its replicas.
 ///
@@ -189,6 +183,13 @@ impl<F: Fleet> Master<F> {
         self.core.history().forgotten() as u64
     }
 
+    /// How many backups failed. It is 0 under format 1, where a failure halts the master.
+    pub fn failed(&self) -> u64
+        ensures { result ≡ length self.now.knows.failed }
+    {
+        self.core.failed.count() as u64
+    }
+
     /// How many pushes the open failover still needs, at most: 0 just if none is open. Each of its pushes lowers it.
     pub fn failover_left(&self) -> u64
         ensures left { result ≡ left_now self.now.knows }
@@ -196,22 +197,6 @@ impl<F: Fleet> Master<F> {
         ensures few { result ≤ self.now.knows.config.replicas * (most_segments self.now.knows.config + 2) + 1 }
     {
         failover_left(&self.core)
-    }
-
-    /// Which test would refuse a step with this command, if any. It does not look at memory.
-    pub fn would(&self, _seat: u64, command: &Command) -> Result<(), Refusal>
-        ensures { result_err result ≡ command_refusal self.now.knows command.now }
-    {
-        self.core.would(command)
-    }
-
-    /// The reply that a step with this command would get, if no test refuses it. Nothing changes.
-    pub fn answer_to(&self, command: &Command) -> Result<Reply, NoMemory>
-        requires { command_refusal self.now.knows command.now ≡ None }
-        ensures reply { IfOk result (λ reply. reply ≡ reply_now self.now.knows command.now) }
-        ensures refused { OnErr result (IsFound (reply_now self.now.knows command.now)) }
-    {
-        self.core.answer_to(command)
     }
 
     // ---- steps
@@ -240,89 +225,6 @@ impl<F: Fleet> Master<F> {
         };
         self.show_valid();
         outcome
-    }
-
-    /// Makes the step Apply with a command that may lie anywhere, for whoever reads the reply from the history. Beside
-    /// the command's unit and its record, which has the reply, nothing is copied. The answer is the place of the
-    /// record.
-    #[inline(always)]
-    pub fn accept(&mut self, seat: u64, command: &CommandRef<'_>) -> Result<u64, Refusal>
-        ensures was_valid { IsValid self.old.knows (F.state self.old.fleet) }
-        ensures applied { IfOk result (λ place.
-            Steps (world F.state self.old) (Step.Apply seat (shown_command command.now))
-            (Ok (StepAnswer.Applied place (reply_now self.old.knows (shown_command command.now))))
-            (world F.state self.new)) }
-        ensures refused { IfErr result (λ r.
-            Steps (world F.state self.old) (Step.Apply seat (shown_command command.now)) (Err r)
-            (world F.state self.new)) }
-        ensures keeps { Keeps 1 (world F.state self.old) (world F.state self.new) }
-        ensures remembers { self.new.knows.forgotten ≡ self.old.knows.forgotten }
-        ensures valid { IsValid self.new.knows (F.state self.new.fleet) }
-    {
-        self.show_valid();
-        self.show_kept();
-        let place = self.add(seat, command);
-        self.show_valid();
-        place
-    }
-
-    /// Applies a command, and answers with the place of its record.
-    #[inline(always)]
-    fn add(&mut self, seat: u64, command: &CommandRef<'_>) -> Result<u64, Refusal>
-        ensures accepted { IfOk result (λ place.
-            Accepts (world F.state self.old) (Step.Apply seat (shown_command command.now))
-            (StepAnswer.Applied place (reply_now self.old.knows (shown_command command.now)))
-            (world F.state self.new)) }
-        ensures refused { IfErr result (λ r.
-            Declines (world F.state self.old) (Step.Apply seat (shown_command command.now)) r
-            (world F.state self.new)) }
-    {
-        self.core.accept(seat, command)
-    }
-
-    /// Makes the step Apply with a command that may lie anywhere, as `accept` does, and answers with the reply too. The
-    /// command is judged once. Only a reply with a value of more than 15 bytes is copied.
-    #[inline(always)]
-    pub fn answer(&mut self, seat: u64, command: &CommandRef<'_>) -> Result<(u64, Reply), Refusal>
-        ensures was_valid { IsValid self.old.knows (F.state self.old.fleet) }
-        ensures applied { IfOk result (λ answer.
-            Steps (world F.state self.old) (Step.Apply seat (shown_command command.now))
-            (Ok (StepAnswer.Applied answer.0 answer.1)) (world F.state self.new)) }
-        ensures refused { IfErr result (λ r.
-            Steps (world F.state self.old) (Step.Apply seat (shown_command command.now)) (Err r)
-            (world F.state self.new)) }
-        ensures keeps { Keeps 1 (world F.state self.old) (world F.state self.new) }
-        ensures remembers { self.new.knows.forgotten ≡ self.old.knows.forgotten }
-        ensures valid { IsValid self.new.knows (F.state self.new.fleet) }
-    {
-        self.show_valid();
-        self.show_kept();
-        let answer = self.reply(seat, command);
-        self.show_valid();
-        answer
-    }
-
-    /// Applies a command, and answers with the place of its record and its reply.
-    #[inline(always)]
-    fn reply(&mut self, seat: u64, command: &CommandRef<'_>) -> Result<(u64, Reply), Refusal>
-        ensures accepted { IfOk result (λ answer.
-            Accepts (world F.state self.old) (Step.Apply seat (shown_command command.now))
-            (StepAnswer.Applied answer.0 answer.1) (world F.state self.new)) }
-        ensures refused { IfErr result (λ r.
-            Declines (world F.state self.old) (Step.Apply seat (shown_command command.now)) r
-            (world F.state self.new)) }
-    {
-        self.core.answer(seat, command)
-    }
-
-    /// Applies a command.
-    fn apply(&mut self, seat: u64, command: Command) -> Result<StepAnswer, Refusal>
-        ensures accepted { IfOk result (λ a.
-            Accepts (world F.state self.old) (Step.Apply seat command) a (world F.state self.new)) }
-        ensures refused { IfErr result (λ r.
-            Declines (world F.state self.old) (Step.Apply seat command) r (world F.state self.new)) }
-    {
-        self.core.apply(seat, command)
     }
 
     /// Begins a roll.

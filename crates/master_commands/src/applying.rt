@@ -10,7 +10,6 @@ ghost use Rattle.master_state.specs.Steps.{Applies, AppliesAs, MayApplyNow, repl
 ghost use Rattle.master_commands.specs.Change.{IsJudged, IsSought, IsPresent, IsNoGet, RepliesTo, RepliesFound};
 ghost use Rattle.master_commands.specs.Change.{version_in, had_now};
 ghost use Rattle.versioned_map.specs.Command.{command_key};
-ghost use Rattle.versioned_map.specs.declared.command.Command.{Command as CommandValue};
 
 use crate::change::Judged;
 use crate::counting::count;
@@ -24,101 +23,78 @@ use master_state::{Core, Refusal, StepAnswer};
 use std::alloc::Global;
 use versioned_map::{Command, Reply};
 
-/// What a command does to a core.
-pub trait Commands {
-    /// No test refuses the command.
-    ghost passes: { Self → CommandValue → Type 0 };
-
-    /// Returns the refusal that the first failing test would give this command, or Ok if the command passes all tests.
-    /// Want of memory is not tested.
-    fn would(&self, command: &Command) -> Result<(), Refusal>;
-
-    /// Returns the reply to a command that no test refuses, and changes nothing. Only a reply with a value takes
-    /// memory, so only such a reply can be refused.
-    fn answer_to(&self, command: &Command) -> Result<Reply, NoMemory>
-        requires { passes self.now command.now };
-
-    /// Applies a command of this seat: adds its record and its unit, and returns the record's place and the reply. If a
-    /// test refuses the command or memory runs out, nothing changes.
-    fn apply(&mut self, seat: u64, command: Command) -> Result<StepAnswer, Refusal>;
-
-    /// Applies a command as `apply` does, but borrows the command. Returns the place of its record and the reply.
-    fn answer(&mut self, seat: u64, command: &CommandRef<'_>) -> Result<(u64, Reply), Refusal>;
-
-    /// Applies a command as `answer` does, and returns only the place of its record. The record has the reply. Nothing
-    /// is copied except to the unit and to the record.
-    fn accept(&mut self, seat: u64, command: &CommandRef<'_>) -> Result<u64, Refusal>;
+/// Returns the refusal that the first failing test would give this command, or Ok if the command passes all tests.
+/// Want of memory is not tested.
+pub fn would(core: &Core, command: &Command) -> Result<(), Refusal>
+    ensures { result_err result ≡ command_refusal core.now command.now }
+{
+    match judge(core, &view_command(command)) {
+        Ok(_) => Ok(()),
+        Err(refusal) => Err(refusal),
+    }
 }
 
-impl Commands for Core {
-    ghost passes = { λ core command. command_refusal core command ≡ None };
-
-    fn would(&self, command: &Command) -> Result<(), Refusal>
-        ensures { result_err result ≡ command_refusal self.now command.now }
-    {
-        match judge(self, &view_command(command)) {
-            Ok(_) => Ok(()),
-            Err(refusal) => Err(refusal),
-        }
+/// Returns the reply to a command that no test refuses, and changes nothing. Only a reply with a value takes
+/// memory, so only such a reply can be refused.
+pub fn answer_to(core: &Core, command: &Command) -> Result<Reply, NoMemory>
+    requires { command_refusal core.now command.now ≡ None }
+    ensures reply { IfOk result (λ reply. reply ≡ reply_now core.now command.now) }
+    ensures refused { OnErr result (IsFound (reply_now core.now command.now)) }
+{
+    match judge(core, &view_command(command)) {
+        Ok((judged, found)) => { reply_from(core.alloc, &view_command(command), &judged, &found) }
+        Err(_) => unreachable!(),
     }
+}
 
-    fn answer_to(&self, command: &Command) -> Result<Reply, NoMemory>
-        requires { command_refusal self.now command.now ≡ None }
-        ensures reply { IfOk result (λ reply. reply ≡ reply_now self.now command.now) }
-        ensures refused { OnErr result (IsFound (reply_now self.now command.now)) }
-    {
-        match judge(self, &view_command(command)) {
-            Ok((judged, found)) => {
-                reply_from(self.alloc, &view_command(command), &judged, &found)
-            }
-            Err(_) => unreachable!(),
-        }
-    }
+/// Applies a command of this seat: adds its record and its unit, and returns the record's place and the reply. If a
+/// test refuses the command or memory runs out, nothing changes.
+pub fn apply(core: &mut Core, seat: u64, command: Command) -> Result<StepAnswer, Refusal>
+    ensures applied { IfOk result (λ answer. Applies core.old seat command answer core.new) }
+    ensures may { OnOk result (MayApplyNow core.old seat command) }
+    ensures valid { OnOk result (IsCore core.new) }
+    ensures refused { IfErr result (λ r. (command_refusal core.old command ≡ Some r)
+        ⊎ ((command_refusal core.old command ≡ None) × (r ≡ Refusal.NoMemory))) }
+    ensures err { OnErr result (core.new ≡ core.old) }
+{
+    let (place, reply) = answer(core, seat, &view_command(&command))?;
+    Ok(StepAnswer::Applied(place, reply))
+}
 
-    fn apply(&mut self, seat: u64, command: Command) -> Result<StepAnswer, Refusal>
-        ensures applied { IfOk result (λ answer. Applies self.old seat command answer self.new) }
-        ensures may { OnOk result (MayApplyNow self.old seat command) }
-        ensures valid { OnOk result (IsCore self.new) }
-        ensures refused { IfErr result (λ r. (command_refusal self.old command ≡ Some r)
-            ⊎ ((command_refusal self.old command ≡ None) × (r ≡ Refusal.NoMemory))) }
-        ensures err { OnErr result (self.new ≡ self.old) }
-    {
-        let (place, reply) = self.answer(seat, &view_command(&command))?;
-        Ok(StepAnswer::Applied(place, reply))
-    }
+/// Applies a command as `apply` does, but borrows the command. Returns the place of its record and the reply.
+pub fn answer(core: &mut Core, seat: u64, command: &CommandRef<'_>) -> Result<(u64, Reply), Refusal>
+    ensures applied { IfOk result (λ answer.
+        Applies core.old seat (shown_command command.now) (StepAnswer.Applied answer.0 answer.1) core.new) }
+    ensures may { OnOk result (MayApplyNow core.old seat (shown_command command.now)) }
+    ensures valid { OnOk result (IsCore core.new) }
+    ensures refused { IfErr result (λ r. (command_refusal core.old (shown_command command.now) ≡ Some r)
+        ⊎ ((command_refusal core.old (shown_command command.now) ≡ None) × (r ≡ Refusal.NoMemory))) }
+    ensures err { OnErr result (core.new ≡ core.old) }
+{
+    let (judged, reply) = consider(core, command)?;
+    let accepted = RecordRef {
+        seat,
+        command: *command,
+        reply: view_reply(&reply),
+    };
+    let place = add(core, &accepted, &judged)?;
+    Ok((place, reply))
+}
 
-    fn answer(&mut self, seat: u64, command: &CommandRef<'_>) -> Result<(u64, Reply), Refusal>
-        ensures applied { IfOk result (λ answer.
-            Applies self.old seat (shown_command command.now) (StepAnswer.Applied answer.0 answer.1) self.new) }
-        ensures may { OnOk result (MayApplyNow self.old seat (shown_command command.now)) }
-        ensures valid { OnOk result (IsCore self.new) }
-        ensures refused { IfErr result (λ r. (command_refusal self.old (shown_command command.now) ≡ Some r)
-            ⊎ ((command_refusal self.old (shown_command command.now) ≡ None) × (r ≡ Refusal.NoMemory))) }
-        ensures err { OnErr result (self.new ≡ self.old) }
-    {
-        let (judged, reply) = consider(self, command)?;
-        let accepted = RecordRef {
-            seat,
-            command: *command,
-            reply: view_reply(&reply),
-        };
-        let place = add(self, &accepted, &judged)?;
-        Ok((place, reply))
-    }
-
-    fn accept(&mut self, seat: u64, command: &CommandRef<'_>) -> Result<u64, Refusal>
-        ensures accepted { IfOk result (λ place.
-            AppliesAs self.old (record_now self.old seat (shown_command command.now)) place self.new) }
-        ensures may { OnOk result (MayApplyNow self.old seat (shown_command command.now)) }
-        ensures valid { OnOk result (IsCore self.new) }
-        ensures refused { IfErr result (λ r. (command_refusal self.old (shown_command command.now) ≡ Some r)
-            ⊎ ((command_refusal self.old (shown_command command.now) ≡ None) × (r ≡ Refusal.NoMemory))) }
-        ensures err { OnErr result (self.new ≡ self.old) }
-    {
-        match weigh(self, command) {
-            Ok(judged) => Ok(add_judged(self, seat, command, &judged)?),
-            Err(refusal) => Err(refusal),
-        }
+/// Applies a command as `answer` does, and returns only the place of its record. The record has the reply. Nothing
+/// is copied except to the unit and to the record.
+pub fn accept(core: &mut Core, seat: u64, command: &CommandRef<'_>) -> Result<u64, Refusal>
+    ensures accepted { IfOk result (λ place.
+        AppliesAs core.old (record_now core.old seat (shown_command command.now)) place core.new) }
+    ensures may { OnOk result (MayApplyNow core.old seat (shown_command command.now)) }
+    ensures valid { OnOk result (IsCore core.new) }
+    ensures refused { IfErr result (λ r. (command_refusal core.old (shown_command command.now) ≡ Some r)
+        ⊎ ((command_refusal core.old (shown_command command.now) ≡ None) × (r ≡ Refusal.NoMemory))) }
+    ensures err { OnErr result (core.new ≡ core.old) }
+{
+    match weigh(core, command) {
+        Ok(judged) => Ok(add_judged(core, seat, command, &judged)?),
+        Err(refusal) => Err(refusal),
     }
 }
 

@@ -1,10 +1,10 @@
 //! What a command does to a core, and how a core is loaded before its history begins. Neither hands the fleet any op.
 //!
-//! `Commands::apply` applies a command whole or not at all. It answers what the versioned map replies, and adds the
-//! record to the history and the unit to the head. `Commands::answer` does so with a command that the caller keeps, and
-//! `Commands::accept` returns only the place of its record, from which the reply may be read. `Loads::load` adds an object that has its version
-//! already. `specs/Change.antt` says what a command does to its key, `specs/Index.antt` says what becomes of the index,
-//! and `specs/Counts.antt` says what becomes of the counts of segments.
+//! `apply` applies a command whole or not at all. It answers what the versioned map replies, and adds the record to the
+//! history and the unit to the head. `answer` does so with a command that the caller keeps, and `accept` returns only
+//! the place of its record, from which the reply may be read. `load` adds an object that has its version already.
+//! `specs/Change.antt` says what a command does to its key, `specs/Index.antt` says what becomes of the index, and
+//! `specs/Counts.antt` says what becomes of the counts of segments.
 #![tactic(auto)]
 
 mod applying;
@@ -17,6 +17,6 @@ mod laws;
 mod loading;
 mod unit;
 
-pub use applying::Commands;
+pub use applying::{accept, answer, answer_to, apply, would};
 pub use laws::loading_goes_on;
-pub use loading::Loads;
+pub use loading::{begin_history, can_finish, load, presize};

@@ -2,7 +2,6 @@
 
 ghost use Rattle.std.specs.Prelude.{◌⊎◌, ◌≡◌, ◌≤◌, ◌^◌, length, true, None, Some, IfErr, OnOk, OnErr};
 ghost use Rattle.std.specs.Result.{result_err};
-ghost use Rattle.entry.specs.declared.entry.Object.{Object as ObjectValue};
 ghost use Rattle.entry.specs.declared.entry.Entry.TheVariants as entry;
 ghost use Rattle.entry.specs.Text.{text_of};
 ghost use Rattle.entry.specs.View.{shown, shown_object};
@@ -20,85 +19,60 @@ use log_head::Head;
 use master_state::{Core, Loaded, Posting, Refusal};
 use segment::AppendFault;
 
-/// The steps that load a core before its history begins.
-pub trait Loads {
-    /// The object may be loaded: the core is bare, the object's key was not loaded before, and the object's version is
-    /// below the safe version.
-    ghost may_load: { Self → ObjectValue → Type 0 };
-    /// The history may begin: the core is bare, and nothing is left to be pushed.
-    ghost may_begin: { Self → Type 0 };
-
-    /// Takes memory ahead for an index of so many objects. If memory runs out, the index grows later, as objects come.
-    /// Nothing that the core knows changes.
-    fn presize(&mut self, objects: usize);
-
-    /// Loads an object, which keeps its version: it is appended to the head, and the opening of the history gets it. If
-    /// a test refuses the object or memory runs out, nothing changes.
-    fn load(&mut self, object: &ObjectRef<'_>) -> Result<(), Refusal>
-        requires { may_load self.old (shown_object object.now) };
-
-    /// Returns true if the loading may end: no roll or failover is under way, and each replica of the head has all
-    /// units.
-    fn can_finish(&self) -> bool;
-
-    /// Ends the loading. The history begins with the objects that were loaded.
-    fn begin_history(&mut self)
-        requires { may_begin self.old };
+/// Takes memory ahead for an index of so many objects. If memory runs out, the index grows later, as objects come.
+/// Nothing that the core knows changes.
+pub fn presize(core: &mut Core, objects: usize)
+    ensures { core.new ≡ core.old }
+{
+    core.index.presize(objects);
 }
 
-impl Loads for Core {
-    ghost may_load = { λ core object. IsBare core × IsNewObject core object };
+/// Loads an object, which keeps its version: it is appended to the head, and the opening of the history gets it. If
+/// a test refuses the object or memory runs out, nothing changes.
+pub fn load(core: &mut Core, object: &ObjectRef<'_>) -> Result<(), Refusal>
+    requires bare { IsBare core.old }
+    requires new { IsNewObject core.old (shown_object object.now) }
+    ensures loaded { OnOk result (Loads core.old (shown_object object.now) core.new) }
+    ensures may { OnOk result (MayLoadNow core.old (shown_object object.now)) }
+    ensures valid { OnOk result (IsCore core.new) }
+    ensures bare { OnOk result (IsBare core.new) }
+    ensures refused { IfErr result (λ r. (load_refusal core.old (shown_object object.now) ≡ Some r)
+        ⊎ ((load_refusal core.old (shown_object object.now) ≡ None) × (r ≡ Refusal.NoMemory))) }
+    ensures err { OnErr result (core.new ≡ core.old) }
+{
+    admit_object(core, object)?;
+    let len = object_len(object);
+    let live = core.live.saturating_add(len as u64);
+    append_object(
+        &mut core.head,
+        &mut core.index,
+        object,
+        core.config.segment as usize,
+    )?;
+    let head = core.head.id();
+    core.tallies.grow(head, len, 0);
+    core.live = live;
+    core.loaded = Loaded::with(&core.loaded, object);
+    Ok(())
+}
 
-    ghost may_begin = { λ core. IsBare core × (is_done core ≡ true) };
+/// Returns true if the loading may end: no roll or failover is under way, and each replica of the head has all
+/// units.
+pub fn can_finish(core: &Core) -> bool
+    ensures { result ≡ is_done core.now }
+{
+    core.failover.is_none() && core.head.next_push().is_none()
+}
 
-    fn presize(&mut self, objects: usize)
-        ensures { self.new ≡ self.old }
-    {
-        self.index.presize(objects);
-    }
-
-    fn load(&mut self, object: &ObjectRef<'_>) -> Result<(), Refusal>
-        requires bare { IsBare self.old }
-        requires new { IsNewObject self.old (shown_object object.now) }
-        ensures loaded { OnOk result (Loads self.old (shown_object object.now) self.new) }
-        ensures may { OnOk result (MayLoadNow self.old (shown_object object.now)) }
-        ensures valid { OnOk result (IsCore self.new) }
-        ensures bare { OnOk result (IsBare self.new) }
-        ensures refused { IfErr result (λ r. (load_refusal self.old (shown_object object.now) ≡ Some r)
-            ⊎ ((load_refusal self.old (shown_object object.now) ≡ None) × (r ≡ Refusal.NoMemory))) }
-        ensures err { OnErr result (self.new ≡ self.old) }
-    {
-        admit_object(self, object)?;
-        let len = object_len(object);
-        let live = self.live.saturating_add(len as u64);
-        append_object(
-            &mut self.head,
-            &mut self.index,
-            object,
-            self.config.segment as usize,
-        )?;
-        let head = self.head.id();
-        self.tallies.grow(head, len, 0);
-        self.live = live;
-        self.loaded = Loaded::with(&self.loaded, object);
-        Ok(())
-    }
-
-    fn can_finish(&self) -> bool
-        ensures { result ≡ is_done self.now }
-    {
-        self.failover.is_none() && self.head.next_push().is_none()
-    }
-
-    fn begin_history(&mut self)
-        requires bare { IsBare self.old }
-        requires done { is_done self.old ≡ true }
-        ensures settled { Settles self.old self.new }
-        ensures valid { IsCore self.new }
-    {
-        self.head.begin_history();
-        self.post(&Posting::Settled);
-    }
+/// Ends the loading. The history begins with the objects that were loaded.
+pub fn begin_history(core: &mut Core)
+    requires bare { IsBare core.old }
+    requires done { is_done core.old ≡ true }
+    ensures settled { Settles core.old core.new }
+    ensures valid { IsCore core.new }
+{
+    core.head.begin_history();
+    core.post(&Posting::Settled);
 }
 
 /// Makes the tests of an object that is to be loaded. The first failing test gives the refusal.

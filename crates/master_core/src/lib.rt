@@ -5,7 +5,10 @@
 
 pub use cleaner::{PassFault, Survivors};
 pub use hash_index::Place;
-pub use master_commands::{Commands, Loads, loading_goes_on};
+pub use master_commands::{
+    accept, answer, answer_to, apply, begin_history, can_finish, load, loading_goes_on, presize,
+    would,
+};
 pub use master_failover::{
     Mend, NewHead, begin_opening, failover_left, ledger_of_turn, mend_op, mend_segment, mended,
     new_head, next_mend, victims_of_commit,

@@ -1,7 +1,9 @@
 -- The values that the code of a compaction computes make the core that the definitions say.
-use Rattle.std.proofs.Common.{◌≡◌, ◌↔◌, ℕ, ◌+◌, ◌<◌, ◌≤◌, List, length, refl, sym, ap, subst, ◌∙◌}
+use Rattle.std.proofs.Common.{◌≡◌, ◌↔◌, ℕ, ◌+◌, ◌<◌, ◌≤◌, List, ◌∷◌, ◌++◌, length, refl, sym, ap}
+use Rattle.std.proofs.Common.{subst, ◌∙◌}
 use Rattle.std.specs.Prelude.{Option, Some, None, Result, Ok, Err, IsErr}
 use Rattle.std.specs.Int.{div_ceil}
+use Rattle.std.specs.Option.{option_map, option_to_list}
 use Rattle.std.proofs.lemmas.List.{length-map}
 use Rattle.std.proofs.lemmas.Option.{same_Some}
 use Rattle.entry.specs.declared.entry.Entry.{Entry}
@@ -14,6 +16,7 @@ use Rattle.images.specs.Steps.{replaced_by}
 use Rattle.compactor.specs.Kept.{kept_of, moved_all}
 use Rattle.compactor.specs.Laws.{CompactionFollows}
 use Rattle.compactor.proofs.KeptEntries.{kept_length}
+use Rattle.log_head.specs.declared.head.Roll.{Roll}
 use Rattle.master_state.specs.declared.step.StepAnswer.TheVariants.{Compacted}
 use Rattle.master_state.specs.Causes.{compact_refusal}
 use Rattle.master_state.specs.Data.{MasterData}
@@ -21,6 +24,7 @@ use Rattle.master_state.specs.Invariant.{IsCore, AreImagesOf, AreTallied}
 use Rattle.master_state.specs.Log.{images_of, log_set_ids}
 use Rattle.master_state.specs.Steps.{kept_now, compacted_data, Compacts}
 use Rattle.tally.specs.declared.tallies.Tally.{Tally}
+use Rattle.master_state.proofs.Imaging.{ids_in}
 use Rattle.master_space.proofs.CompactedCore.{admitted, old_there, used_less, compacted_core, compacted_tallies}
 use Rattle.master_space.proofs.CompactedIndex.{compacted_index}
 use Rattle.master_space.proofs.CompactedPass.{compacted_pass}
@@ -30,6 +34,12 @@ use Rattle.master_space.proofs.Replacing.{never_full, still_within}
 refused_for : {T E : Type 0} (r : Result T E) (e : E) (P : Type 0) → r ≡ Err e → (IsErr r ↔ P) → P
 refused_for (Ok t) e P is iff = absurd (cc)
 refused_for (Err x) e P is iff = iff.0 refl
+
+-- the log set, by what was asked of the head
+pub ids_are : (d : MasterData) (head : ℕ) (new : Option ℕ) → head ≡ d.head.id
+    → new ≡ option_map (λ (r : Roll). r.id) d.head.roll
+    → ids_in d.closed ++ head ∷ option_to_list new ≡ log_set_ids d
+ids_are d head new own opening = λ i. ids_in d.closed ++ own i ∷ option_to_list (opening i)
 
 module _ (d : MasterData) (core : IsCore d) (id : ℕ) (passed : compact_refusal d id ≡ None) where
   there : segment_of d.closed id ≡ Some (images_of d id)

@@ -1,19 +1,22 @@
 //! How a core compacts a segment.
 
-ghost use Rattle.std.specs.Prelude.{◌⊎◌, ◌≡◌, None, Some, IfOk, IfErr, OnOk, OnErr};
+ghost use Rattle.std.specs.Prelude.{◌⊎◌, ◌≡◌, length, None, Some, IfOk, IfErr, OnOk, OnErr};
 ghost use Rattle.std.specs.Option.{option_map};
 ghost use Rattle.std.specs.Result.{result_err};
 ghost use Rattle.compactor.specs.Kept.{has_id};
+ghost use Rattle.entry.specs.Text.{text_of};
 ghost use Rattle.log_head.specs.declared.head.Roll.{Roll};
 ghost use Rattle.master_state.specs.Budget.{victims_of, survivors_of};
 ghost use Rattle.master_state.specs.Causes.{is_head, compact_refusal};
 ghost use Rattle.master_state.specs.Invariant.{IsCore};
-ghost use Rattle.master_state.specs.Steps.{Compacts};
+ghost use Rattle.master_state.specs.Steps.{kept_now, Compacts};
 
+use crate::keeping::tallied;
 use cleaner::PassFault;
-use compactor::{LogSet, compact};
+use compactor::{LogSet, compact_to_len, kept_len};
 use log_head::Head;
 use master_state::{Core, Refusal, StepAnswer};
+use tally::opening_len;
 
 /// Compacts a closed segment: its image becomes its kept entries, and the index then leads to their new places. The
 /// replicas stay as they are. A refusal changes nothing.
@@ -25,6 +28,7 @@ pub fn compact_segment(core: &mut Core, id: u64) -> Result<StepAnswer, Refusal>
     ensures err { OnErr result (core.new ≡ core.old) }
 {
     admit_compaction(core, id)?;
+    let kept = whole_kept(core, id);
     core.closed.show_valid();
     let log = LogSet {
         closed: &core.closed,
@@ -34,12 +38,32 @@ pub fn compact_segment(core: &mut Core, id: u64) -> Result<StepAnswer, Refusal>
     let Some(image) = core.closed.get(id) else {
         unreachable!()
     };
-    let segment = compact(core.alloc, id, &image, &mut core.index, &log)?;
+    let segment = compact_to_len(core.alloc, id, &image, &mut core.index, &log, kept)?;
     let len = segment.bytes().len() as u64;
     let Ok(()) = core.closed.replace(id, segment) else {
         unreachable!()
     };
     Ok(StepAnswer::Compacted(id, len))
+}
+
+/// Returns how many bytes of a closed segment that may be compacted are kept, its opening too. The call looks at no
+/// entry behind the opening if the segment has a fresh tally.
+fn whole_kept(core: &Core, id: u64) -> usize
+    requires { compact_refusal core.now id ≡ None }
+    ensures { result ≡ length (text_of (kept_now core.now id)) }
+{
+    let log = LogSet {
+        closed: &core.closed,
+        head: core.head.id(),
+        new: opening_id(&core.head),
+    };
+    let Some(image) = core.closed.get(id) else {
+        unreachable!()
+    };
+    match tallied(core, id, &image, &log) {
+        Some(kept) => kept + opening_len(&image),
+        None => kept_len(id, &image, &core.index, &log),
+    }
 }
 
 /// Returns the number of the head that a roll is opening, or `None` without a roll.

@@ -59,7 +59,12 @@ pub(crate) fn fill_with(core: &Core, id: u64, segment: &SegmentRef<'_>, level: L
 
 /// Returns how many bytes of a closed segment's objects and tombstones are kept, by its tally, or `None` if it has no
 /// tally.
-fn tallied(core: &Core, id: u64, segment: &SegmentRef<'_>, log: &LogSet<'_>) -> Option<usize>
+pub(crate) fn tallied(
+    core: &Core,
+    id: u64,
+    segment: &SegmentRef<'_>,
+    log: &LogSet<'_>,
+) -> Option<usize>
     requires there { segment_of core.now.closed id ≡ Some segment.now }
     requires log { ids_of_log log.now ≡ log_set_ids core.now }
     ensures kept { IfSome result

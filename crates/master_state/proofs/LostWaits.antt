@@ -1,8 +1,7 @@
 -- The loop over the waiting segments puts those that still wait to the front of the list.
 use Rattle.std.proofs.Common.{◌≡◌, ℕ, zero, suc, ◌+◌, ◌<◌, ◌≤◌, Bool, true, false, List, [], ◌∷◌, ◌++◌, length, map}
 use Rattle.std.proofs.Common.{filter, take, drop, get_or, refl, sym, ap, ◌∙◌, arith}
-use Rattle.std.specs.Prelude.{nat_lt, if◌then◌else◌}
-use Rattle.std.proofs.lemmas.Bool.Decides.{nat_tests}
+use Rattle.std.specs.Prelude.{if◌then◌else◌}
 use Rattle.std.specs.List.{AllByRecursion}
 use Rattle.std.proofs.Math.ListN.{set}
 use Rattle.std.proofs.lemmas.List.{append-nil, drop-set-lt, get_or-drop, length-set, map-append, take_more}
@@ -70,9 +69,3 @@ pub all_at : {X : Type 0} (P : X → Type 0) (xs : List X) (n : ℕ) (d : X) →
 all_at P [] n d all lt = absurd (omega arith)
 all_at P (x ∷ xs) zero d all lt = all.0
 all_at P (x ∷ xs) (suc n) d all lt = all_at P xs n d all.1 (omega arith)
-
-pub is_less : (n m : ℕ) → n < m → nat_lt n m ≡ true
-is_less n m lt = grind (arith, nat_tests)
-
-pub not_less : (n m : ℕ) → m ≤ n → nat_lt n m ≡ false
-not_less n m le = grind (arith, nat_tests)

@@ -1,6 +1,7 @@
 -- What an edit of the list makes of all tallies.
 use Rattle.std.proofs.Common.{◌≡◌, ℕ, ◌<◌, ◌≤◌, ◌⊎◌, inl, inr, Bool, true, false, not, List, [], ◌∷◌, ◌++◌, length, get_or}
 use Rattle.std.proofs.Common.{take, drop, arith, set, insert, remove, map, filter, refl, sym, ap, subst, ◌∙◌, ◌==◌, if◌then◌else◌}
+use Rattle.std.proofs.lemmas.Bool.{not-true}
 use Rattle.std.specs.Prelude.{Option, Some, None, IfNone}
 use Rattle.entry.specs.Bag.{IsAmong}
 use Rattle.compactor.specs.Kept.{has_id}
@@ -119,10 +120,6 @@ inserted_rises true rows s at one rising place none same =
 abbrev pub without : List ℕ → List Tally → List Tally
 without victims rows = filter (λ (row : Tally). not (has_id victims row.segment)) rows
 
-not_true : (b : Bool) → not b ≡ true → b ≡ false
-not_true true is = absurd (cc)
-not_true false is = refl
-
 staled_segment : (row : Tally) → (staled row).segment ≡ row.segment
 staled_segment row = go (row.stones == 0)
   where
@@ -134,7 +131,7 @@ pub committed : (victims : List ℕ) (rows : List Tally) → IsCommitted victims
 committed victims rows row is =
     let from = map_members staled (without victims rows) row is in
     let old = filter_members (λ (y : Tally). not (has_id victims y.segment)) rows from.0 from.1 in
-    (from.0, old.0, not_true (has_id victims from.0.segment) old.1, from.2)
+    (from.0, old.0, not-true (has_id victims from.0.segment) old.1, from.2)
 
 pub committed_kept : (victims : List ℕ) (rows : List Tally) → AreKeptBut victims rows (map staled (without victims rows))
 committed_kept victims rows row is other =

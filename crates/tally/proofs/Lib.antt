@@ -11,3 +11,4 @@ pub mod Filling
 pub mod Rights
 pub mod Edits
 pub mod Opened
+pub mod Openings

@@ -33,7 +33,8 @@ pub fn stones_in(segment: &SegmentRef<'_>, log: &LogSet<'_>) -> usize
 
 /// Returns how many bytes a segment has before its first object or tombstone. The call reads no more of it.
 pub fn opening_len(segment: &SegmentRef<'_>) -> usize
-    ensures { result ≡ length (text_of (front_of segment.now)) }
+    ensures sum { result ≡ length (text_of (front_of segment.now)) }
+    ensures limit { result ≤ 8388608 }
 {
     let text = segment.bytes();
     let mut at = 0;

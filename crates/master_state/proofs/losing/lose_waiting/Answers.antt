@@ -1,10 +1,10 @@
 use Rattle.std.proofs.Common.{◌≡◌, ℕ, ◌<◌, ◌≤◌, length, true, false, Vec, Global, subst, sym, ap, ◌∙◌, arith}
 use Rattle.std.specs.Prelude.{Option}
 use Rattle.std.proofs.Math.ListN.{set}
+use Rattle.std.proofs.lemmas.Bool.{lt-ltb, le-ltb}
 use Rattle.master_state.specs.declared.waiting.Waiting.{Waiting}
 use Rattle.master_state.specs.Steps.{lost_waiting, still_waits, less_by}
 use Rattle.master_state.proofs.LostWaits.{read_old, kept_front, gone_front, kept_back, gone_back, kept_count, all_at}
-use Rattle.master_state.proofs.LostWaits.{is_less, not_less}
 use Rattle.master_state.proofs.Homes.{working_many}
 use Rattle.master_state.proofs.losing.lose_waiting.Goals as goal
 use Rattle.master_state.proofs.losing.lose_waiting.Goals.{then-one, else-one}
@@ -46,7 +46,7 @@ loop-place-preserved c =
           let is : c.if-one.waiting.items ≡ set c.loop-place.waiting.items c.loop-place.kept y =
           ap (λ (v : Vec Waiting Global). v.items) w.waiting-is in
           let waits : still_waits (lost_waiting c.args.config.now c.args.failed.now c.args.backup x) ≡ true =
-          ap still_waits (sym own) ∙ is_less c.less_by.result c.less_by-in-loop-place.result w.if-one.true in
+          ap still_waits (sym own) ∙ lt-ltb c.less_by.result c.less_by-in-loop-place.result w.if-one.true in
           rw (is, w.kept-is) (
             omega arith,
             omega arith,
@@ -62,7 +62,7 @@ loop-place-preserved c =
           )
       | else-one w ↦
           let gone : still_waits (lost_waiting c.args.config.now c.args.failed.now c.args.backup x) ≡ false =
-          ap still_waits (sym own) ∙ not_less c.less_by.result c.less_by-in-loop-place.result w.if-one.false in
+          ap still_waits (sym own) ∙ le-ltb c.less_by.result c.less_by-in-loop-place.result w.if-one.false in
           rw (w.waiting-is, w.kept-is) (
             omega arith,
             omega arith,

@@ -11,5 +11,5 @@ begin_history-requires g c = record {
 
 pub invariant_of-master : goal.invariant_of-master
 invariant_of-master g c =
-    finished_kept c.self.inside.core c.begin_history.new.self (g.F.Fleet.state c.self.inside.fleet) c.self.invariant
+    finished_kept c.self.inside.core c.begin_history.new.core (g.F.Fleet.state c.self.inside.fleet) c.self.invariant
     (sym c.can_finish.ensures ∙ c.if-not-can_finish.false) c.begin_history.ensures.settled c.begin_history.ensures.valid

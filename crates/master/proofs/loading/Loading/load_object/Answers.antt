@@ -22,6 +22,6 @@ loaded_then d e f o (Err r) loaded is may core bare same =
 
 pub invariant_of-self : goal.invariant_of-self
 invariant_of-self g c =
-    loaded_then c.self.inside.core c.load.new.self (g.F.Fleet.state c.self.inside.fleet)
+    loaded_then c.self.inside.core c.load.new.core (g.F.Fleet.state c.self.inside.fleet)
     (shown_object c.args.object.now) c.load.result c.self.invariant
     c.load.ensures.loaded c.load.ensures.may c.load.ensures.valid c.load.ensures.bare c.load.ensures.err

@@ -15,19 +15,19 @@ pub returns-clause-accepted : goal.returns-clause-accepted
 returns-clause-accepted g c =
     let command = shown_command c.args.command.now in
     rw (← c.self.view_is) (accepts ℕ (told (reply_now c.self.inside.core command)) c.self.inside.core
-    c.accept.new.self (g.F.Fleet.state c.self.inside.fleet) c.args.seat command c.accept.result
+    c.accept.new.core (g.F.Fleet.state c.self.inside.fleet) c.args.seat command c.accept.result
     c.accept.ensures.accepted)
 
 pub returns-clause-refused : goal.returns-clause-refused
 returns-clause-refused g c =
     let command = shown_command c.args.command.now in
     rw (← c.self.view_is) (declines ℕ (told (reply_now c.self.inside.core command)) c.self.inside.core
-    c.accept.new.self (g.F.Fleet.state c.self.inside.fleet) c.args.seat command c.accept.result
+    c.accept.new.core (g.F.Fleet.state c.self.inside.fleet) c.args.seat command c.accept.result
     c.accept.ensures.refused c.accept.ensures.err)
 
 pub invariant_of-self : goal.invariant_of-self
 invariant_of-self g c =
     let command = shown_command c.args.command.now in
-    kept_then ℕ (told (reply_now c.self.inside.core command)) c.self.inside.core c.accept.new.self
+    kept_then ℕ (told (reply_now c.self.inside.core command)) c.self.inside.core c.accept.new.core
     (g.F.Fleet.state c.self.inside.fleet) c.args.seat command c.accept.result c.self.invariant
     c.accept.ensures.accepted c.accept.ensures.may c.accept.ensures.valid c.accept.ensures.err

@@ -7,7 +7,7 @@ use Rattle.master_state.specs.contracts.state.Core.{the_view}
 use Rattle.master_state.specs.Causes.{is_done}
 use Rattle.master_state.specs.Data.{MasterData}
 use Rattle.master_state.proofs.Refusals.{still_waits, all_pushed}
-use Rattle.master_commands.proofs.loading.CoreLoads.can_finish.Goals as goal
+use Rattle.master_commands.proofs.loading.can_finish.Goals as goal
 
 none_is : (o : Option Failover) → is_some o ≡ false → is_none o ≡ true
 none_is None is = refl
@@ -24,7 +24,7 @@ done_is d (Some n) false calm next test = let waits = still_waits d.head n next 
 
 pub returns-then-is_none : goal.returns-then-is_none
 returns-then-is_none c =
-    rw (← c.self.view_is)
-    (done_is (the_view c.self.inside) c.next_push.result c.is_none-then-is_none.result
-    (none_is c.self.inside.failover (c.is_none.ensures ∙ ap not c.if-is_none.true)) c.next_push.ensures.next
+    rw (← c.core.view_is)
+    (done_is (the_view c.core.inside) c.next_push.result c.is_none-then-is_none.result
+    (none_is c.core.inside.failover (c.is_none.ensures ∙ ap not c.if-is_none.true)) c.next_push.ensures.next
     c.is_none-then-is_none.ensures)

@@ -4,11 +4,11 @@ use Rattle.versioned_map.specs.declared.command.Command.{Command}
 use Rattle.master_state.specs.declared.step.Refusal.TheVariants as refusal
 use Rattle.master_state.specs.Causes.{command_refusal}
 use Rattle.master_state.specs.Steps.{MayApplyNow}
-use Rattle.master_commands.proofs.applying.CoreCommands.apply.Goals as goal
+use Rattle.master_commands.proofs.applying.apply.Goals as goal
 
 pub returns-in_err-place-clause-refused : goal.returns-in_err-place-clause-refused
 returns-in_err-place-clause-refused c =
-    let d = c.args.self.now in
+    let d = c.args.core.now in
     let r = c.in_err-place.field-0.0 in
     let failed = err_from_is_err_and c.from_residual.result c.from_residual.ensures.1 in
     rw (failed.1, failed.2)
@@ -18,5 +18,5 @@ returns-in_err-place-clause-refused c =
 
 pub returns-clause-may : goal.returns-clause-may
 returns-clause-may c =
-    subst (λ (k : Command). MayApplyNow c.args.self.now c.args.seat k) c.view_command.ensures
+    subst (λ (k : Command). MayApplyNow c.args.core.now c.args.seat k) c.view_command.ensures
     c.in_ok-place.ensures.may

@@ -19,34 +19,34 @@ use Rattle.master_state.specs.Loading.{IsBare, IsNewObject, loaded_unit, load_re
 use Rattle.master_commands.proofs.LoadedCore.{is_admitted, absent_then, loaded, may_load, loaded_core, loads}
 use Rattle.master_commands.proofs.Tallied.{object_tallied}
 use Rattle.tally.specs.Rows.{more, IsChangedAt}
-use Rattle.master_commands.proofs.loading.CoreLoads.load.Goals as goal
-use Rattle.master_commands.proofs.loading.CoreLoads.load.Goals.{After-from_residual-in_err-append_object, After-with-self-inside}
+use Rattle.master_commands.proofs.loading.load.Goals as goal
+use Rattle.master_commands.proofs.loading.load.Goals.{After-from_residual-in_err-append_object, After-with-core-inside}
 
 pub append_object-requires-clause-fits : goal.append_object-requires-clause-fits
 append_object-requires-clause-fits c =
-    let d = the_view c.self.inside in
+    let d = the_view c.core.inside in
     let o = shown_object c.args.object.now in
     let passed : load_refusal d o ≡ None =
-    subst (λ (m : MasterData). load_refusal m o ≡ None) (sym c.self.view_is)
+    subst (λ (m : MasterData). load_refusal m o ≡ None) (sym c.core.view_is)
     (sym c.admit_object.ensures ∙ ap result_err c.in_ok-admit_object.was) in
     (is_admitted d o passed).room
 
-module _ (c : goal.After-with-self-inside) where
+module _ (c : goal.After-with-core-inside) where
   abbrev d : MasterData
-  d = the_view c.self.inside
+  d = the_view c.core.inside
 
   abbrev o : Object
   o = shown_object c.args.object.now
 
   bare : IsBare d
-  bare = subst IsBare (sym c.self.view_is) c.requires.bare
+  bare = subst IsBare (sym c.core.view_is) c.requires.bare
 
   is_new : IsNewObject d o
-  is_new = subst (λ (m : MasterData). IsNewObject m o) (sym c.self.view_is) c.requires.new
+  is_new = subst (λ (m : MasterData). IsNewObject m o) (sym c.core.view_is) c.requires.new
 
   passed : load_refusal d o ≡ None
   passed =
-      subst (λ (m : MasterData). load_refusal m o ≡ None) (sym c.self.view_is)
+      subst (λ (m : MasterData). load_refusal m o ≡ None) (sym c.core.view_is)
       (sym c.admit_object.ensures ∙ ap result_err c.in_ok-admit_object.was)
 
   head_is : c.append_object.new.head ≡ with_unit_end d.head 0 (loaded_unit o)
@@ -61,13 +61,13 @@ module _ (c : goal.After-with-self-inside) where
   moved = λ kept tells.
       c.in_ok-append_object.ensures.index (keys_in (images_among
       (with_unit_end d.head 0 (loaded_unit o)) d.closed)) kept
-      (absent_then d c.self.invariant.2 bare o is_new head) tells
+      (absent_then d c.core.invariant.2 bare o is_new head) tells
 
   abbrev left : MasterData
   left = record d {
     head = c.append_object.new.head;
     index = c.append_object.new.index.held;
-    origin = record { objects = c.with-self-inside.result.objects; safe = d.origin.safe };
+    origin = record { objects = c.with-core-inside.result.objects; safe = d.origin.safe };
     live = c.saturating_add-live.result;
   }
 
@@ -77,48 +77,48 @@ module _ (c : goal.After-with-self-inside) where
   live : c.saturating_add-live.result ≡ with_bytes d.live (object_bytes o.key o.value)
   live = c.saturating_add-live.ensures ∙ ap (with_bytes d.live) len
 
-  knows : loaded d c.self.invariant.2 bare o is_new passed c.append_object.new.index.held head moved ≡ left
+  knows : loaded d c.core.invariant.2 bare o is_new passed c.append_object.new.index.held head moved ≡ left
   knows = λ i. record d {
     head = sym head_is i;
     index = c.append_object.new.index.held;
-    origin = record { objects = sym c.with-self-inside.ensures i; safe = d.origin.safe };
+    origin = record { objects = sym c.with-core-inside.ensures i; safe = d.origin.safe };
     live = sym live i;
   }
 
   core : IsCore left
-  core = subst IsCore knows (loaded_core d c.self.invariant.2 bare o is_new passed
+  core = subst IsCore knows (loaded_core d c.core.invariant.2 bare o is_new passed
       c.append_object.new.index.held head moved)
 
   loads_left : Loads d o left
   loads_left =
       subst (λ (m : MasterData). Loads d o m) knows
-      (loads d c.self.invariant.2 bare o is_new passed c.append_object.new.index.held head moved)
+      (loads d c.core.invariant.2 bare o is_new passed c.append_object.new.index.held head moved)
 
   may : MayLoadNow d o
-  may = may_load d c.self.invariant.2 bare o is_new passed c.append_object.new.index.held head moved
+  may = may_load d c.core.invariant.2 bare o is_new passed c.append_object.new.index.held head moved
 
   roll_then : c.append_object.new.head.roll ≡ d.head.roll
   roll_then = ap (λ (h : HeadValue). h.roll) head_is
 
-  counted : IsChangedAt d.head.id (more (object_bytes o.key o.value) 0) c.self.inside.tallies c.grow.new.self
+  counted : IsChangedAt d.head.id (more (object_bytes o.key o.value) 0) c.core.inside.tallies c.grow.new.self
   counted =
       let id = c.id-head.ensures.id ∙ ap (λ (h : HeadValue). h.id) head_is in
-      subst (λ (n : ℕ). IsChangedAt d.head.id (more n 0) c.self.inside.tallies c.grow.new.self) len
-      (subst (λ (n : ℕ). IsChangedAt n (more c.object_len-len.result 0) c.self.inside.tallies c.grow.new.self) id
+      subst (λ (n : ℕ). IsChangedAt d.head.id (more n 0) c.core.inside.tallies c.grow.new.self) len
+      (subst (λ (n : ℕ). IsChangedAt n (more c.object_len-len.result 0) c.core.inside.tallies c.grow.new.self) id
       c.grow.ensures.grown)
 
   tallied : AreTallied left c.grow.new.self
   tallied =
       subst (λ (m : MasterData). AreTallied m c.grow.new.self) knows
-      (object_tallied d c.self.invariant.2 (with_unit_end d.head 0 (loaded_unit o)) (loaded_unit o) refl refl refl head o
-      c.append_object.new.index.held c.self.inside.tallies c.grow.new.self refl moved
-      (absent_then d c.self.invariant.2 bare o is_new head) counted c.self.invariant.4)
+      (object_tallied d c.core.invariant.2 (with_unit_end d.head 0 (loaded_unit o)) (loaded_unit o) refl refl refl head o
+      c.append_object.new.index.held c.core.inside.tallies c.grow.new.self refl moved
+      (absent_then d c.core.invariant.2 bare o is_new head) counted c.core.invariant.4)
 
 -- ---- the core as it was, where memory was refused
 
 module _ (c : goal.After-from_residual-in_err-append_object) where
   abbrev was : MasterData
-  was = the_view c.self.inside
+  was = the_view c.core.inside
 
   kept : (c.append_object.new.head ≡ was.head) × (c.append_object.new.index.held ≡ was.index)
   kept = c.in_err-append_object.ensures.err
@@ -126,35 +126,35 @@ module _ (c : goal.After-from_residual-in_err-append_object) where
   unchanged : was ≡ record was { head = c.append_object.new.head; index = c.append_object.new.index.held }
   unchanged = λ i. record was { head = sym kept.0 i; index = sym kept.1 i }
 
-pub invariant_of-self : goal.invariant_of-self
-invariant_of-self c = (
-  subst (λ (h : HeadValue). IsSome h.roll → length c.self.inside.closed.images < c.self.inside.closed.room)
-      (sym (kept c).0) c.self.invariant.0,
-  c.self.invariant.1,
-  subst IsCore (unchanged c) c.self.invariant.2,
-  c.self.invariant.3,
-  subst (λ (m : MasterData). AreTallied m c.self.inside.tallies) (unchanged c) c.self.invariant.4,
+pub invariant_of-core : goal.invariant_of-core
+invariant_of-core c = (
+  subst (λ (h : HeadValue). IsSome h.roll → length c.core.inside.closed.images < c.core.inside.closed.room)
+      (sym (kept c).0) c.core.invariant.0,
+  c.core.invariant.1,
+  subst IsCore (unchanged c) c.core.invariant.2,
+  c.core.invariant.3,
+  subst (λ (m : MasterData). AreTallied m c.core.inside.tallies) (unchanged c) c.core.invariant.4,
 )
 
-pub invariant_of-self-2 : goal.invariant_of-self-2
-invariant_of-self-2 c =
-    let t = (goal.at.invariant_of-self-2 c).After-with-self-inside in (
-      λ some. c.self.invariant.0 (subst IsSome (roll_then t) some),
-      c.self.invariant.1,
+pub invariant_of-core-2 : goal.invariant_of-core-2
+invariant_of-core-2 c =
+    let t = (goal.at.invariant_of-core-2 c).After-with-core-inside in (
+      λ some. c.core.invariant.0 (subst IsSome (roll_then t) some),
+      c.core.invariant.1,
       core t,
-      c.self.invariant.3,
+      c.core.invariant.3,
       tallied t,
     )
 
 pub returns-clause-loaded : goal.returns-clause-loaded
 returns-clause-loaded c =
-    let t = (goal.at.returns-clause-loaded c).After-with-self-inside in
-    subst (λ (m : MasterData). Loads m (o t) (left t)) c.self.view_is (loads_left t)
+    let t = (goal.at.returns-clause-loaded c).After-with-core-inside in
+    subst (λ (m : MasterData). Loads m (o t) (left t)) c.core.view_is (loads_left t)
 
 pub returns-clause-may : goal.returns-clause-may
 returns-clause-may c =
-    let t = (goal.at.returns-clause-may c).After-with-self-inside in
-    subst (λ (m : MasterData). MayLoadNow m (o t)) c.self.view_is (may t)
+    let t = (goal.at.returns-clause-may c).After-with-core-inside in
+    subst (λ (m : MasterData). MayLoadNow m (o t)) c.core.view_is (may t)
 
 pub returns-clause-valid : goal.returns-clause-valid
-returns-clause-valid c = core (goal.at.returns-clause-valid c).After-with-self-inside
+returns-clause-valid c = core (goal.at.returns-clause-valid c).After-with-core-inside

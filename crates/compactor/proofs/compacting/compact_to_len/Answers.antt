@@ -2,7 +2,7 @@ use Rattle.std.proofs.Common.{◌∙◌}
 use Rattle.segment.proofs.WalkLemmas.{IsTextOf-entries_in, IsSegmentBytes-from_text}
 use Rattle.compactor.specs.Kept.{kept_of}
 use Rattle.compactor.specs.Log.{ids_of_log}
-use Rattle.compactor.proofs.compacting.compact.Goals as goal
+use Rattle.compactor.proofs.compacting.compact_to_len.Goals as goal
 
 pub of_text-requires : goal.of_text-requires
 of_text-requires c =

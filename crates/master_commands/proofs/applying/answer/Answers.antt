@@ -1,6 +1,6 @@
 use Rattle.std.proofs.Common.{inr, refl}
 use Rattle.std.proofs.lemmas.Result.{err_from_is_err_and}
-use Rattle.master_commands.proofs.applying.CoreCommands.answer.Goals as goal
+use Rattle.master_commands.proofs.applying.answer.Goals as goal
 
 pub returns-in_err-judged-clause-refused : goal.returns-in_err-judged-clause-refused
 returns-in_err-judged-clause-refused c =
