@@ -2,11 +2,10 @@
 
 ghost use Rattle.std.specs.Prelude.{◌≡◌, ◌+◌, ◌*◌, ◌≤◌, ◌<◌, ◌^◌, IfOk, OnOk};
 
-use crate::task::Task;
+use crate::task::{Asked, Task};
 use counted_calls::call;
 use counted_calls::locked_log::{CallFault, Naming, Seat, Store};
-use counted_calls::master::{Command, Refusal};
-use entry::NoMemory;
+use counted_calls::master::Refusal;
 use gate::Gate;
 use replica::Fleet;
 use std::sync::Wait;
@@ -62,7 +61,7 @@ pub(crate) fn serve<F: Fleet, B: Naming, R: Wait, G: Gate>(
     Ended { seat, calls }
 }
 
-/// Makes all rounds of a client, up to the first refusal.
+/// Makes all rounds of a client, up to the first refusal. Memory for its commands is taken before the first round.
 fn serve_all<F: Fleet, B: Naming, R: Wait, G: Gate>(
     rt: &R,
     store: &Store<F, B>,
@@ -75,29 +74,50 @@ fn serve_all<F: Fleet, B: Naming, R: Wait, G: Gate>(
     ensures count { seat.old.count ≤ seat.new.count }
     ensures calls { IfOk result (λ n. (n ≡ 2 * task.rounds) × (seat.new.count ≡ seat.old.count + n)) }
 {
+    match Asked::new(task.alloc, task.client) {
+        Ok(mut asked) => serve_rounds(rt, store, seat, task, &mut asked, gate),
+        Err(_) => Err(CallFault::Refused(Refusal::NoMemory)),
+    }
+}
+
+/// Makes all rounds with these commands, up to the first refusal.
+fn serve_rounds<F: Fleet, B: Naming, R: Wait, G: Gate>(
+    rt: &R,
+    store: &Store<F, B>,
+    seat: &mut Seat<B>,
+    task: Task,
+    asked: &mut Asked,
+    gate: &G,
+) -> Result<u64, CallFault>
+    requires { task.rounds < 2 ^ 62 }
+    ensures number { seat.new.number ≡ seat.old.number }
+    ensures count { seat.old.count ≤ seat.new.count }
+    ensures calls { IfOk result (λ n. (n ≡ 2 * task.rounds) × (seat.new.count ≡ seat.old.count + n)) }
+{
     for round in 0..task.rounds {
-        serve_one(rt, store, seat, task.put(round + 1))?;
+        put(rt, store, seat, asked, round + 1)?;
         if round == 0 {
             gate.enter(task.client);
         }
-        serve_one(rt, store, seat, task.get())?;
+        call(rt, store, seat, asked.get())?;
     }
     Ok(2 * task.rounds)
 }
 
-/// Makes one call, if there was memory for the command.
-fn serve_one<F: Fleet, B: Naming, R: Wait>(
+/// Makes the put of a round, if there was memory for its value.
+fn put<F: Fleet, B: Naming, R: Wait>(
     rt: &R,
     store: &Store<F, B>,
     seat: &mut Seat<B>,
-    command: Result<Command, NoMemory>,
+    asked: &mut Asked,
+    round: u64,
 ) -> Result<(), CallFault>
     ensures number { seat.new.number ≡ seat.old.number }
     ensures count { seat.old.count ≤ seat.new.count }
     ensures one { OnOk result (seat.new.count ≡ seat.old.count + 1) }
 {
-    match command {
-        Ok(command) => call(rt, store, seat, command),
+    match asked.go_on(round) {
+        Ok(()) => call(rt, store, seat, asked.put()),
         Err(_) => Err(CallFault::Refused(Refusal::NoMemory)),
     }
 }

@@ -28,6 +28,8 @@ pub type Told = (&'static str, u64);
 pub enum Act {
     /// A call, with the place of its receipt and the reply.
     Calls(Do, u64, Told),
+    /// The same, and for how many takes the fleet is asked meanwhile.
+    Takes(Do, u64, Told, u64),
     /// A call that has no answer: the place if its record is there, and the refusal.
     Fails(Do, Option<u64>, Refusal),
     /// A call when no cell may be left: the refusal that comes first, or `None` for CellsSpent.
@@ -164,6 +166,23 @@ fn asks<F: Fleet, B: Naming, R: Wait>(
         Some(command) => calls(rt, store, seat, receipts, command, want),
         None => false,
     }
+}
+
+/// Makes the call of this command. Whether it is answered as wanted, and the fleet is asked for so many takes meanwhile.
+fn takes<F: Fleet, B: Naming, R: Wait>(
+    rt: &R,
+    alloc: Global,
+    store: &Store<F, B>,
+    watch: &Watch,
+    seat: &mut Seat<B>,
+    receipts: &mut Vec<Receipt<B>>,
+    what: &Do,
+    want: (u64, Told),
+    takes: u64,
+) -> bool {
+    let before = watch.takes();
+    let is_answered = asks(rt, alloc, store, seat, receipts, what, want);
+    is_answered && watch.takes() == before.saturating_add(takes)
 }
 
 /// Makes the call. Whether the record is there as wanted, without an answer, for this refusal.
@@ -426,6 +445,10 @@ fn is_told<F: Bench + Send, B: Naming + Send + Sync, R: Threads + Wait + Sync>(
     match act {
         Act::Calls(what, place, reply) => {
             asks(rt, alloc, store, seat, receipts, what, (*place, *reply))
+        }
+        Act::Takes(what, place, reply, count) => {
+            let want = (*place, *reply);
+            takes(rt, alloc, store, watch, seat, receipts, what, want, *count)
         }
         Act::LetsIn(what, place, reply, takes) => {
             let want = (*place, *reply);

@@ -35,6 +35,22 @@ const CONDITIONS: &[(usize, Act)] = &[
     (0, Act::Counts(6, 6)),
 ];
 
+/// A put and a delete hand one unit to each of two replicas. A get, a put whose condition fails and a delete of nothing
+/// hand over nothing, and are answered by the one step that applies them. The first put opens the first head before that.
+const TAKEN: &[(usize, Act)] = &[
+    (0, Act::Takes(Do::Put(b"a", b"x", If::Any), 0, ("ok", 1), 4)),
+    (0, Act::Takes(Do::Put(b"a", b"x", If::Any), 1, ("ok", 2), 2)),
+    (0, Act::Takes(Do::Get(b"a"), 2, ("found", 2), 0)),
+    (0, Act::Takes(Do::Put(b"b", b"x", If::Any), 3, ("ok", 2), 2)),
+    (
+        0,
+        Act::Takes(Do::Put(b"a", b"x", If::Absent), 4, ("mismatch", 2), 0),
+    ),
+    (0, Act::Takes(Do::Delete(b"a"), 5, ("ok", 2), 2)),
+    (0, Act::Takes(Do::Delete(b"a"), 6, ("none", 0), 0)),
+    (0, Act::Takes(Do::Get(b"a"), 7, ("none", 0), 0)),
+];
+
 /// A value that no segment of 512 bytes may have.
 const LONG: &[u8] = &[b'x'; 77];
 
@@ -340,6 +356,7 @@ const TWO: Size = (2, RECORDS, RECORDS, 0);
 
 const DAYS: &[Day] = &[
     (ONE, HALTING, CONDITIONS, 6, 8),
+    (ONE, HALTING, TAKEN, 8, 8),
     (ONE, HALTING, UNSURE, 3, 8),
     (TWO, HALTING, SETTLED, 6, 8),
     (TWO, HALTING, MET, 3, 8),
