@@ -60,15 +60,18 @@ class Options:
     tend: int = 0
     # Whether a master forgets its durable records behind each line.
     forget: bool = False
+    # Whether keys and values are any bytes, each behind its length.
+    raw: bool = False
 
 
 def options_of(words):
     """The options of words such as --segment=4096 and --forget. For a --live of 0 they have the greatest limit."""
-    names = {option.name for option in fields(Options)} - {"forget"}
+    flags = {"forget", "raw"}
+    names = {option.name for option in fields(Options)} - flags
     numbers = {}
     for word in words:
-        if word == "--forget":
-            numbers["forget"] = True
+        if word[2:] in flags:
+            numbers[word[2:]] = True
             continue
         match = re.fullmatch(r"--([a-z]+)=([0-9]+)", word)
         if not match or match[1] not in names:
@@ -236,18 +239,82 @@ RANGES = {
 LATER = ("format", "seglets")
 
 
-def lines_of(text):
-    """The lines of a script, without their line feeds."""
+def spaced_lines(text):
+    """The lines of a script with raw bytes: a length, a colon and so many bytes may stand where a word begins."""
+    at = begin = 0
+    while at < len(text):
+        counted = re.compile(rb"([0-9]+):").match(text, at) if text[begin:begin + 1] != b"#" else None
+        if counted and int(counted[1]) <= 2**21:
+            at = min(counted.end() + int(counted[1]), len(text))
+        # To the next word, or to the end of the line.
+        while at < len(text) and text[at] not in b" \n":
+            at += 1
+        if text[at:at + 1] == b"\n":
+            yield text[begin:at]
+            begin = at + 1
+        at += 1
+    if begin < len(text):
+        yield text[begin:]
+
+
+def lines_of(text, raw=False):
+    """The lines of a script, without the line feeds that end them."""
+    if raw:
+        return [*spaced_lines(text)]
     lines = text.split(b"\n")
     return lines[:-1] if lines[-1] == b"" else lines
 
 
-def parse(line, backups):
+def counted(given):
+    """Bytes behind their length, as a script with raw bytes has them."""
+    return b"%d:%s" % (len(given), given)
+
+
+def shown(given, raw):
+    """A key or a value as it is printed; each character stands for one byte."""
+    return (counted(given) if raw else given).decode("latin-1")
+
+
+def counted_front(text):
+    """The bytes with which the text begins, behind their length, and the rest of it."""
+    digits, colon, rest = text.partition(b":")
+    length = number_word(digits)
+    if not colon or length > len(rest):
+        raise ValueError
+    return rest[:length], rest[length:]
+
+
+def raw_parts(name, text):
+    """What follows the name of a command with a key, in a script with raw bytes."""
+    table, space, rest = text.partition(b" ")
+    key, rest = counted_front(rest)
+    parts = [number_word(table), key]
+    if name == "cas":
+        blank, version, rest = rest.split(b" ", 2)
+        parts.append(number_word(version))
+        rest = blank + b" " + rest
+    if name in ("put", "new", "cas"):
+        if rest[:1] != b" ":
+            raise ValueError
+        value, rest = counted_front(rest[1:])
+        parts.append(value)
+    if rest or not space or not 1 <= len(key) <= 1024 or len(parts[-1]) > 2**21:
+        raise ValueError
+    return parts
+
+
+def parse(line, backups, raw=False):
     """A line's name and what follows it, or None if it is a bad line, whatever stands before it."""
-    if len(line) > 4096:
+    if len(line) > (2**21 if raw else 0) + 4096:
         return None
     if line[:1] in (b"", b"#"):
         return ("idle",)
+    command, _, behind = line.partition(b" ")
+    if raw and command in (b"put", b"new", b"cas", b"get", b"del"):
+        try:
+            return (command.decode(), *raw_parts(command.decode(), behind))
+        except ValueError:
+            return None
     name, *words = line.split(b" ")
     if name == b"recover" and words[:1] in ([b"reverse"], [b"threads"]):
         name += b" " + words.pop(0)
@@ -277,8 +344,8 @@ def later_options(later, line):
 def parsed_lines(script, options):
     """The lines of a script up to the first bad one, for which None stands."""
     later = options
-    for line in lines_of(script):
-        parsed = parse(line, options.backups)
+    for line in lines_of(script, options.raw):
+        parsed = parse(line, options.backups, options.raw)
         later = later_options(later, parsed) if parsed else later
         if config_fault(later):
             parsed = None
@@ -586,6 +653,8 @@ class Command:
     value: bytes = b""
     # What the key has to be for a put: "any", "absent", or a version.
     condition: object = "any"
+    # Whether the value of a reply is printed behind its length.
+    raw: bool = False
 
 
 @dataclass(frozen=True)
@@ -808,7 +877,7 @@ class Master:
         name = (command.table, command.key)
         live = self.live.get(name)
         if command.kind == "get":
-            return f"{live.version} {live.value.decode()}" if live else "none", [], live
+            return f"{live.version} {shown(live.value, command.raw)}" if live else "none", [], live
         if command.kind == "del":
             return (f"ok {live.version}", [self.tombstone(name)], None) if live else ("none", [], None)
         if command.condition != "any" and command.condition != (live.version if live else "absent"):
@@ -1296,7 +1365,7 @@ class Store:
         return self.command(Command("put", table, key, value, version))
 
     def line_get(self, table, key):
-        return self.command(Command("get", table, key))
+        return self.command(Command("get", table, key, raw=self.options.raw))
 
     def line_del(self, table, key):
         return self.command(Command("del", table, key))
@@ -1837,7 +1906,8 @@ class Store:
         store = yield from self.adopted(objects, safe)
         store = store and (yield from store.retired())
         if store:
-            lines = [f"{it.table} {it.key.decode()} {it.version} {it.value.decode()}\n" for it in objects]
+            raw = self.options.raw
+            lines = [f"{it.table} {shown(it.key, raw)} {it.version} {shown(it.value, raw)}\n" for it in objects]
             yield "".join(lines) + f"recovered {len(lines)}\n", 0, store
 
     def adopted(self, objects, safe):

@@ -18,7 +18,7 @@ from dataclasses import dataclass, field
 
 from script_model import (ANY_LINES, BLOCK, DOWN_LINES, NO_LIMIT, STEPS, Command, Fleet, Object, Run, Store, Undetermined, answers_of,
                           client_key, config_fault, is_too_big, later_options, make_will, name_of, object_len, options_of,
-                          parsed_lines, place, seglets_needed, whole_seglets)
+                          parsed_lines, place, seglets_needed, undisturbed, whole_seglets)
 from script_orders import orders_of
 
 PUTS = ("put", "new", "cas")
@@ -587,6 +587,10 @@ def wrong_run(words, script, run):
     options = options_of(words)
     if config_fault(options):
         wanted = Run(2, "", f"ramlog: bad configuration {config_fault(options)}\n")
+        return None if run == wanted else f"it ended with {run}, and not with {wanted}"
+    if options.raw:
+        # Rows can't be told apart where values have line feeds: the model says what is printed.
+        wanted = undisturbed(script, options)
         return None if run == wanted else f"it ended with {run}, and not with {wanted}"
     follower, lines, status, errors = Follower(options), [], 0, ""
     for number, parsed in enumerate(parsed_lines(script, options), 1):

@@ -215,6 +215,21 @@ def a_pipe_is_told_why_if_asked(program):
     want(run(program, b"put 1 a\n"), (b"", bad, 2))
 
 
+def any_bytes_come_back(program):
+    """With --raw, keys and values of all bytes, and the longest line that may be put, come back as they were."""
+    every = bytes(range(256))
+    # An object has at most a quarter of a segment.
+    longest = (every * 8192)[:2**21 - 52]
+    words = ("--raw", "--segment=8388608", "--seglet=65536", "--seglets=512")
+    for key, value in ((every, every), (b"\n", b""), (every * 4, every), (b"k", longest)):
+        key, value = (b"%d:%s" % (len(given), given) for given in (key, value))
+        script = b"put 1 %s %s\nget 1 %s\ncrash\nrecover\n" % (key, value, key)
+        want(run(program, script, words), (b"ok 1\n1 %s\ncrashed\n1 %s 1 %s\nrecovered 1\n" % (value, key, value), b"", 0))
+    why = b"ramlog: bad line 1\nramlog: with --raw a key or a value is its length, a colon and so many bytes\n"
+    for script in (b"put 1 a x\n", b"get 1 01:a\n", b"get 1 0:\n", b"put 1 1:a 2:x", b"del 1 1:ab\n", b"get 1 1025:" + 1025 * b"a"):
+        want(run(program, script, ("--raw", "--explain")), (b"", why, 2))
+
+
 def a_terminal_shows_why(program):
     """At a terminal a second line of the errors says why."""
     whys = (
@@ -496,7 +511,7 @@ def the_largest_configuration_is_served(program):
 
 TESTS = [
     help_is_printed, version_is_printed, words_are_text, lines_have_limits, a_reader_fails, a_writer_fails,
-    input_comes_in_parts, pipes_show_each_answer, output_goes_in_blocks, a_terminal_shows_each_answer, a_terminal_shows_why, a_pipe_is_told_why_if_asked, an_end_is_not_asked_for_again,
+    input_comes_in_parts, pipes_show_each_answer, output_goes_in_blocks, a_terminal_shows_each_answer, a_terminal_shows_why, a_pipe_is_told_why_if_asked, any_bytes_come_back, an_end_is_not_asked_for_again,
     memory_is_taken_and_given_back, survivors_take_a_segment_each, forgotten_records_leave_their_memory, large_tables_are_recovered, workers_recover_in_threads,
     a_call_ends_a_long_failover,
     a_whole_segment_is_compacted_and_cleaned, many_segments_and_objects_are_served, the_largest_configuration_is_served,

@@ -230,7 +230,7 @@ fn write_take_fault<W: Write>(writer: &mut W, fault: TakeFault) -> Result<(), Wr
 
 /// Writes words, a number in decimal digits, and a last byte, in one write.
 #[inline(always)]
-fn write_number<W: Write>(
+pub fn write_number<W: Write>(
     writer: &mut W,
     words: &[u8],
     number: u64,

@@ -10,7 +10,7 @@ pub struct WriteFailed;
 
 /// Hands all of the bytes to the writer. If the writer fails, it has taken a front of them. A write that was
 /// interrupted is tried again.
-pub(crate) fn hand<W: Write>(writer: &mut W, bytes: &[u8]) -> Result<(), WriteFailed>
+pub fn hand<W: Write>(writer: &mut W, bytes: &[u8]) -> Result<(), WriteFailed>
     ensures { IsHanded (W.contents writer.old) (W.contents writer.new) bytes.now result }
 {
     let mut rest = bytes;

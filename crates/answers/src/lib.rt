@@ -15,10 +15,10 @@ mod limits;
 mod segment_rows;
 mod short_line;
 
-pub use answer::{Answer, write_answer, write_reply};
+pub use answer::{Answer, write_answer, write_number, write_reply};
 pub use errors::ErrorOutput;
 pub use fault::{ScriptFault, report, report_config};
-pub use handing::WriteFailed;
+pub use handing::{WriteFailed, hand};
 pub use limits::Limits;
 pub use recovery;
 pub use recovery::{driving, replay};

@@ -339,7 +339,7 @@ fn is_taken(alloc: Global, len: usize, want: Taken) -> bool {
     }
     let mut reader = text.as_slice();
     let mut lines = LineReader::new(alloc);
-    lines.next_line(&mut reader, &mut io::sink()) == Ok(want)
+    lines.next_line(&mut reader, &mut io::sink(), false) == Ok(want)
 }
 
 #[test]

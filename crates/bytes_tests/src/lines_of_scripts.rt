@@ -267,7 +267,7 @@ fn is_taken<R: BufRead>(
     want: &Result<Taken, ReadFault>,
     text: &[u8],
 ) -> bool {
-    let taken = lines.next_line(reader, &mut io::sink());
+    let taken = lines.next_line(reader, &mut io::sink(), false);
     taken == *want && lines.text() == text
 }
 

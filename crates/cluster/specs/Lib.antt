@@ -12,3 +12,4 @@ pub use Rattle.answers.specs.driving
 pub use Rattle.answers.specs.replay
 pub use Rattle.answers.specs.recovery
 pub use Rattle.answers.specs as answers
+pub use Rattle.raw_answers.specs as raw_answers

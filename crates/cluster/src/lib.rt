@@ -17,5 +17,6 @@ pub use answers;
 pub use answers::driving::master;
 pub use answers::{driving, recovery, replay};
 pub use node::Node;
+pub use raw_answers;
 pub use tending::Notes;
 pub use tried::Tried;

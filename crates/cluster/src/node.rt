@@ -5,7 +5,7 @@ ghost use Rattle.versioned_map.specs.declared.command.Reply.{Reply as ReplyValue
 ghost use Rattle.std.specs.Option.{option_map};
 ghost use Rattle.history.specs.View.{shown_command, shown_reply};
 ghost use Rattle.answers.specs.Errors.{IsHanded};
-ghost use Rattle.answers.specs.Texts.{reply_text};
+ghost use Rattle.raw_answers.specs.Texts.{reply_in};
 ghost use Rattle.answers.specs.driving.master.master_state.declared.config.Config.{Config};
 ghost use Rattle.cluster.specs.Served.{IsDropped, AsksFault, asked_of, fleet_of, is_up};
 ghost use Rattle.cluster.specs.Served.{AnswersLine, LimitsFleet, LosesMaster, LosesOne, MakesStep, MakesRoll, Refuses};
@@ -16,9 +16,10 @@ ghost use Rattle.cluster.specs.Waits.{MakesRoom, MakesOpen, TriesLine, IsReplyAt
 use crate::tried::Tried;
 use answers::driving::master::{CommandRef, Look, Master, Refusal, ReplyRef, Shown, Step};
 use answers::driving::{clean_all, roll_all, serve};
-use answers::{Answer, WriteFailed, write_reply};
+use answers::{Answer, WriteFailed};
 use backup::MemoryFleet;
 use entry::{NoMemory, Row};
+use raw_answers::write_reply_in;
 use replica::{Bench, Fleet, Labels};
 use std::alloc::Global;
 use std::io::Write;
@@ -68,15 +69,21 @@ impl Node {
         }
     }
 
-    /// Writes the line of the reply that the record at this place of the history has. The value is copied from there.
+    /// Writes the line of the reply that the record at this place of the history has, as a script with raw bytes
+    /// (`is_raw`) or one of words alone prints it. The value is copied from there.
     #[inline(always)]
-    pub fn write_reply<W: Write>(&self, place: u64, writer: &mut W) -> Result<(), WriteFailed>
+    pub fn write_reply<W: Write>(
+        &self,
+        place: u64,
+        writer: &mut W,
+        is_raw: bool,
+    ) -> Result<(), WriteFailed>
         requires { (reply : ReplyValue) × IsReplyAt self.now place reply }
         ensures { (reply : ReplyValue) → IsReplyAt self.now place reply →
-            IsHanded (W.contents writer.old) (W.contents writer.new) (reply_text reply) result }
+            IsHanded (W.contents writer.old) (W.contents writer.new) (reply_in is_raw reply) result }
     {
         match self.lent_reply(place) {
-            Some(reply) => write_reply(writer, &reply),
+            Some(reply) => write_reply_in(writer, &reply, is_raw),
             None => unreachable!(),
         }
     }

@@ -73,6 +73,10 @@ Limits:
   A master accepts as many commands as --history says, gets too. The next master counts from 0 again.
   With --forget, a master frees the memory of its durable records, 1024 at a time, once their lines have been answered.
   Then --history counts only those that it still has. Above 1024 a script goes on for ever, in constant memory.
+  With --raw, which may stand anywhere among the options, each key and each value is any bytes, spaces and line feeds
+  too: its length, a colon, and so many bytes, as in 'put 1 3:a b 5:he lo'. Replies and tables show them so. A line ends
+  at the first line feed that is none of these bytes, and has at most 2101248 bytes. A line that begins with # has no
+  such bytes.
   Up to 64 callers, its seats, share a master: the script is one, and 'clients' has up to 63.
 
 Refusals. A line that is refused prints 'refused NAME', and the script goes on:

@@ -44,6 +44,7 @@ wrong_behind text first rest reason.Spaces is w = absurd w.2
 wrong_behind text first rest reason.Capital is w = absurd w.2
 wrong_behind text first rest reason.Unknown is w = absurd w.2
 wrong_behind text first rest (reason.Shape name shape) is w = absurd w.2
+wrong_behind text first rest reason.Uncounted is w = absurd w.2
 wrong_behind text first rest reason.TooLong is w = absurd w.2
 wrong_behind text first rest reason.TooMany is w = absurd w.2
 wrong_behind text first rest reason.NoLaterMaster is w = absurd w.2

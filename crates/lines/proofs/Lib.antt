@@ -6,6 +6,7 @@ pub mod NumberLines
 pub mod NumberWords
 pub mod OneLine
 pub mod Orders
+pub mod Scanning
 pub mod Spelling
 pub mod Taking
 pub mod Visible

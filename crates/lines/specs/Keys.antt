@@ -11,3 +11,8 @@ pub record IsWord (word : List ℕ) : Type 0 where
 pub record IsKeyWord (key : List ℕ) : Type 0 where
   pub word : IsWord key
   pub short : length key ≤ 1024
+
+-- a key has 1 to 1,024 bytes
+pub record IsKey (key : List ℕ) : Type 0 where
+  pub some : 0 < length key
+  pub short : length key ≤ 1024

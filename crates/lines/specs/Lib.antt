@@ -4,5 +4,6 @@ pub mod Keys
 pub mod Numbers
 pub mod Reading
 pub mod Reasons
+pub mod Scanning
 pub mod Texts
 pub mod Words

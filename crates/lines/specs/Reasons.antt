@@ -35,7 +35,8 @@ IsWrongWord word _ = ⊥
 abbrev pub IsWrong : List (List ℕ) → Reason → Type 0
 IsWrong words why = (word : List ℕ) × IsAmong words word × IsWrongWord word why
 
--- What the reason says of the text of a bad line. Unknown says nothing of it.
+-- What the reason says of the text of a bad line. Unknown and Uncounted say nothing
+-- of it.
 abbrev pub HasReason : List ℕ → Reason → Type 0
 HasReason text reason.CarriageReturn = (line : List ℕ) × (text ≡ line ++ 13 ∷ [])
 HasReason text (reason.Byte byte) = HasHidden text byte
@@ -45,4 +46,5 @@ HasReason text (reason.Shape name shape) = BeginsWith text name.now
 HasReason text reason.Number = IsWrong (slice_split is_space text) reason.Number
 HasReason text reason.LongKey = IsWrong (slice_split is_space text) reason.LongKey
 HasReason text reason.Unknown = Unit {0}
+HasReason text reason.Uncounted = Unit {0}
 HasReason text _ = ⊥

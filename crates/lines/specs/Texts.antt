@@ -37,6 +37,7 @@ reason_text reason.Unknown = codes "the first word is no command"
 reason_text (reason.Shape name s) = name.now ++ shape_text s
 reason_text reason.Number = codes "a number has digits, no sign and no leading zero, and is below 2^64"
 reason_text reason.LongKey = codes "a key has at most 1024 bytes"
+reason_text reason.Uncounted = codes "with --raw a key or a value is its length, a colon and so many bytes"
 reason_text reason.TooLong = codes "a line has at most 4096 bytes"
 reason_text reason.TooMany = codes "a script has at most 2^64 - 2 lines"
 reason_text reason.NoLaterMaster = codes "masters that start later need memory for four segments, and sizes that --live fits"

@@ -1,13 +1,13 @@
 //! The lines that ask the map for something.
 
-ghost use Rattle.lines.specs.Keys.{IsKeyWord};
+ghost use Rattle.lines.specs.Keys.{IsKey};
 
-/// A key as it is written in a line.
+/// A key of a line.
 #[derive(Clone, Copy, Debug)]
 pub struct KeyWord<'a> {
-    /// 1 to 1,024 visible bytes.
+    /// 1 to 1,024 bytes.
     pub bytes: &'a [u8],
-    ghost word: { IsKeyWord bytes.now },
+    ghost word: { IsKey bytes.now },
 }
 
 /// A line that is a command. Keys and values are borrowed from the text that was parsed.

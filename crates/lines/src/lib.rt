@@ -12,6 +12,7 @@ mod numbers;
 mod parse;
 mod reading;
 mod reason;
+mod scan;
 mod why;
 mod words;
 
@@ -22,3 +23,4 @@ pub use numbers::Numbers;
 pub use parse::parse_line;
 pub use reading::{LineReader, ReadFault, Taken};
 pub use reason::{Reason, Shape};
+pub use words::parse_number;

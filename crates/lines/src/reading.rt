@@ -3,8 +3,10 @@
 ghost use Rattle.std.specs.Prelude.{◌≡◌, ◌+◌, ◌≤◌, ◌++◌, [], List, ℕ, length, IfErr, IfOk, OnErr, vec_capacity};
 ghost use Rattle.std.specs.Prelude.{vec_len};
 ghost use Rattle.std.specs.Io.KnownBytes.{Keeps};
-ghost use Rattle.lines.specs.Reading.{IsFrontOfLine, StopsIn, TakesByte, TakesLine, TakesShown};
+ghost use Rattle.lines.specs.Reading.{IsFrontOfLine, IsFrontOfWords, StopsIn, TakesByte, TakesLine, TakesShown};
+ghost use Rattle.lines.specs.Scanning.{line_limit};
 
+use crate::scan::Scan;
 use memchr::memchr;
 use std::alloc::Global;
 use std::io::{BufRead, ErrorKind, Read, Write};
@@ -37,8 +39,22 @@ pub enum Taken {
     Nothing,
 }
 
-/// The most bytes of a line, without its line feed.
+/// The most bytes of a line of words, without its line feed.
 const MAX_LINE_LEN: usize = 4096;
+
+/// The most bytes of a line with raw bytes, without its line feed: 4,096 and those of the longest value.
+const MAX_RAW_LINE_LEN: usize = 2_101_248;
+
+/// The most bytes of a line, without its line feed.
+fn line_limit(is_raw: bool) -> usize
+    ensures { result ≡ line_limit is_raw }
+{
+    if is_raw {
+        MAX_RAW_LINE_LEN
+    } else {
+        MAX_LINE_LEN
+    }
+}
 
 /// Reads lines one at a time, and holds the text of the last, without its line feed.
 #[derive(Drop)]
@@ -71,7 +87,8 @@ impl LineReader {
         self.text.as_slice()
     }
 
-    /// Reads the next line.
+    /// Reads the next line. If raw bytes may stand in it (`is_raw`), it ends at the first line feed that isn't one of
+    /// them, and may have 2,101,248 bytes in place of 4,096.
     ///
     /// The writer is flushed before the reader is asked for bytes that it didn't show yet. So whoever sends a line and
     /// waits for its answer gets it. While the reader has more to show, the writer may go on writing in blocks.
@@ -81,26 +98,32 @@ impl LineReader {
         &mut self,
         reader: &mut R,
         writer: &mut W,
+        is_raw: bool,
     ) -> Result<Taken, ReadFault>
-        ensures taken { IfOk result (TakesLine (R.remaining reader.old) (R.remaining reader.new) self.new) }
-        ensures fault { IfErr result (StopsIn (R.remaining reader.old) (R.remaining reader.new) self.new) }
+        ensures taken { IfOk result (TakesLine is_raw (R.remaining reader.old) (R.remaining reader.new) self.new) }
+        ensures fault { IfErr result (StopsIn is_raw (R.remaining reader.old) (R.remaining reader.new) self.new) }
         ensures flushed { Keeps (W.contents writer.old) (W.contents writer.new) }
     {
         self.text.clear();
-        if self.text.reserve(MAX_LINE_LEN + 1).is_err() {
+        let limit = line_limit(is_raw);
+        if self.text.reserve(limit + 1).is_err() {
             return Err(ReadFault::NoMemory);
         }
-        'parts: while self.text.len() <= MAX_LINE_LEN {
+        let mut scan = Scan::start(is_raw);
+        'parts: while self.text.len() <= limit {
             if self.is_spent && writer.flush().is_err() {
                 return Err(ReadFault::WriteFailed);
             }
-            match take_shown(reader, &mut self.text, &mut self.is_spent)? {
+            match take_shown(reader, &mut self.text, &mut self.is_spent, limit, scan)? {
                 Took::Ended => return Ok(Taken::Ended),
-                Took::Part => {}
+                Took::Part(behind) => scan = behind,
                 // Only a read is certain to find the end of the input.
                 Took::Nothing => match next_byte(reader)? {
-                    Some(b'\n') => return Ok(Taken::Ended),
-                    Some(byte) => self.text.push_reserved(byte),
+                    Some(byte) if scan.ends_at(byte) => return Ok(Taken::Ended),
+                    Some(byte) => {
+                        self.text.push_reserved(byte);
+                        scan = scan.behind(byte);
+                    }
                     None if self.text.is_empty() => return Ok(Taken::Nothing),
                     None => return Ok(Taken::Last),
                 },
@@ -133,21 +156,25 @@ fn next_byte<R: Read>(reader: &mut R) -> Result<Option<u8>, ReadFault>
 enum Took {
     /// The last bytes of the line, and its line feed.
     Ended,
-    /// A byte of the line or more.
-    Part,
+    /// A byte of the line or more, behind which the line stands so.
+    Part(Scan),
     /// Nothing: the reader was interrupted, or shows no byte.
     Nothing,
 }
 
-/// Takes what the reader shows of a line.
+/// Takes what the reader shows of a line, which stands so far.
 fn take_shown<R: BufRead>(
     reader: &mut R,
     line: &mut Vec<u8>,
     is_spent: &mut bool,
+    limit: usize,
+    scan: Scan,
 ) -> Result<Took, ReadFault>
-    requires short { vec_len line.old ≤ 4096 }
-    requires room { 4097 ≤ vec_capacity line.old }
-    ensures taken { TakesShown (R.remaining reader.old) (R.remaining reader.new) line.old.items line.new.items result }
+    requires short { vec_len line.old ≤ limit }
+    requires room { limit + 1 ≤ vec_capacity line.old }
+    requires small { limit ≤ 2101248 }
+    ensures taken { TakesShown limit scan (R.remaining reader.old) (R.remaining reader.new)
+        line.old.items line.new.items result }
     ensures capacity { vec_capacity line.old ≤ vec_capacity line.new }
 {
     let shown = match reader.fill_buf() {
@@ -156,7 +183,7 @@ fn take_shown<R: BufRead>(
         Err(error) if error.kind() == ErrorKind::Interrupted => return Ok(Took::Nothing),
         Err(_) => return Err(ReadFault::ReadFailed),
     };
-    let (len, is_ended) = front_of_line(shown, MAX_LINE_LEN + 1 - line.len());
+    let (len, is_ended, behind) = front_of_line(shown, limit + 1 - line.len(), scan);
     append(line, &shown[..len]);
     *is_spent = len + usize::from(is_ended) == shown.len();
     if is_ended {
@@ -164,19 +191,51 @@ fn take_shown<R: BufRead>(
         Ok(Took::Ended)
     } else {
         reader.consume(len);
-        Ok(Took::Part)
+        Ok(Took::Part(behind))
+    }
+}
+
+/// How many of the first `most` bytes come before the line feed that ends the line, and whether that is among them;
+/// and how the line stands behind them.
+fn front_of_line(shown: &[u8], most: usize, scan: Scan) -> (usize, bool, Scan)
+    ensures { IsFrontOfLine shown.now most scan result.0 result.1 result.2 }
+{
+    match scan {
+        Scan::Words => {
+            let (len, is_ended) = front_of_words(shown, most);
+            (len, is_ended, Scan::Words)
+        }
+        scan => front_of_raw(shown, most, scan),
     }
 }
 
 /// How many of the first `most` bytes come before a line feed, and whether there is a line feed among them.
-fn front_of_line(shown: &[u8], most: usize) -> (usize, bool)
-    ensures { IsFrontOfLine shown.now most result.0 result.1 }
+fn front_of_words(shown: &[u8], most: usize) -> (usize, bool)
+    ensures { IsFrontOfWords shown.now most result.0 result.1 }
 {
     let most = shown.len().min(most);
     match memchr(b'\n', &shown[..most]) {
         Some(at) => (at, true),
         None => (most, false),
     }
+}
+
+/// The same as `front_of_line`, byte by byte.
+fn front_of_raw(shown: &[u8], most: usize, scan: Scan) -> (usize, bool, Scan)
+    ensures { IsFrontOfLine shown.now most scan result.0 result.1 result.2 }
+{
+    let most = shown.len().min(most);
+    let mut behind = scan;
+    let mut len = 0;
+    while len < most {
+        let byte = shown[len];
+        if behind.ends_at(byte) {
+            return (len, true, behind);
+        }
+        behind = behind.behind(byte);
+        len += 1;
+    }
+    (len, false, behind)
 }
 
 /// Appends bytes for which there is room.

@@ -24,6 +24,8 @@ pub enum Reason {
     Number,
     /// The key of the line is too long.
     LongKey,
+    /// In a script with raw bytes, the key or the value of the line isn't behind its length.
+    Uncounted,
     /// The line is too long.
     TooLong,
     /// The line comes after the last line that a script may have.
@@ -101,6 +103,9 @@ impl Reason {
             Reason::Shape(name, shape) => return (name, shape.words(), None),
             Reason::Number => "a number has digits, no sign and no leading zero, and is below 2^64",
             Reason::LongKey => "a key has at most 1024 bytes",
+            Reason::Uncounted => {
+                "with --raw a key or a value is its length, a colon and so many bytes"
+            }
             Reason::TooLong => "a line has at most 4096 bytes",
             Reason::TooMany => "a script has at most 2^64 - 2 lines",
             Reason::NoLaterMaster => {

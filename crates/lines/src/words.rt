@@ -209,8 +209,8 @@ pub(crate) fn is_number(word: &[u8]) -> bool
     parse_number(word).is_some()
 }
 
-/// The number that is written as this word, in decimal digits without leading zeros.
-pub(crate) fn parse_number(word: &[u8]) -> Option<u64>
+/// The number of 64 bits that is written as this word, in decimal digits without leading zeros.
+pub fn parse_number(word: &[u8]) -> Option<u64>
     ensures sound { IfSome result (λ n. word.now ≡ decimal n) }
     ensures complete { IsNone result → (n : ℕ) → n < 2 ^ 64 → word.now ≢ decimal n }
 {

@@ -20,6 +20,9 @@ const MISUSE: u8 = 2;
 /// The word by which a fault is explained on standard error, also if that is no terminal. It may stand anywhere.
 const EXPLAIN: &str = "--explain";
 
+/// The word by which keys and values are any bytes, each behind its length. It may stand anywhere.
+const RAW: &str = "--raw";
+
 /// How many bytes the program reads or writes at once.
 const BLOCK: usize = 65_536;
 
@@ -60,12 +63,13 @@ fn refuse(rt: &HostRuntime, error: &Error) -> ExitCode {
 }
 
 /// Runs the program from standard input to standard output. It writes in blocks, and writes what it answered before it
-/// waits for more input. If it `explains`, or at a terminal, a second line of the errors says why. `threads` and `rt` are
-/// one handle, but only a parameter with these bounds can start threads.
+/// waits for more input. With `is_raw` keys and values are any bytes. If it `explains`, or at a terminal, a second line of
+/// the errors says why. `threads` and `rt` are one handle, but only a parameter with these bounds can start threads.
 fn run<H: Threads + Wait + Sync>(
     threads: &H,
     rt: &HostRuntime,
     words: &[&str],
+    is_raw: bool,
     explains: bool,
 ) -> Result<u8, Error> {
     let mut errors = ErrorOutput::new(rt.stderr().lock(), explains || rt.stderr().is_terminal());
@@ -80,13 +84,14 @@ fn run<H: Threads + Wait + Sync>(
         threads,
         rt.alloc(),
         words,
+        is_raw,
         &mut reader,
         &mut writer,
         &mut errors,
     )
 }
 
-/// Runs the program with these words. `--explain` is none that the options know.
+/// Runs the program with these words. `--explain` and `--raw` are none that the options know.
 fn run_arguments<H: Threads + Wait + Sync>(
     threads: &H,
     rt: &HostRuntime,
@@ -94,14 +99,17 @@ fn run_arguments<H: Threads + Wait + Sync>(
 ) -> ExitCode {
     let mut words = Vec::new(rt.alloc());
     let mut explains = false;
+    let mut is_raw = false;
     for argument in arguments {
         if argument.as_str() == EXPLAIN {
             explains = true;
+        } else if argument.as_str() == RAW {
+            is_raw = true;
         } else if words.push(argument.as_str()).is_err() {
             return fail(rt, ScriptFault::NoMemory);
         }
     }
-    match run(threads, rt, words.as_slice(), explains) {
+    match run(threads, rt, words.as_slice(), is_raw, explains) {
         Ok(status) => ExitCode::from(status),
         Err(error) => refuse(rt, &error),
     }

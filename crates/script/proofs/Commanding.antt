@@ -1,15 +1,19 @@
 -- Which lines have a command, and which lines a session doesn't take.
-use Rattle.std.proofs.Common.{◌≡◌, ℕ, refl, subst}
+use Rattle.std.proofs.Common.{◌≡◌, ◌≤◌, ℕ, List, ◌∷◌, ◌++◌, Bool, true, false, ap, inl, inr, length, length-append, refl}
+use Rattle.std.proofs.Common.{subst, arith}
 use Rattle.std.specs.Prelude.{None}
+use Rattle.std.specs.Fmt.{decimal}
+use Rattle.lines.specs.Reading.{IsLineText}
+use Rattle.raw_lines.specs.Raw.{HasNoKey, IsKeyLine, SaysIn}
 use Rattle.lines.specs.declared.command.CommandLine.{CommandLine}
 use Rattle.lines.specs.declared.command.CommandLine.TheVariants as command
 use Rattle.lines.specs.declared.line.Line.{Line}
 use Rattle.lines.specs.declared.line.Line.TheVariants as line
 use Rattle.lines.specs.Grammar.{shown_command, shown_line}
 use Rattle.next_master.specs.cluster.Told.{command_of}
-use Rattle.lines.specs.Grammar.{LineValue}
+use Rattle.lines.specs.Grammar.{IsLine, LineValue, Says, Idle, Put, New, Cas, Get, Del}
 use Rattle.script.specs.Runs.{Allows, IsOfFleet}
-use Rattle.script.specs.Turns.{RefusesLine}
+use Rattle.script.specs.Turns.{HasValue, RefusesLine}
 use Rattle.script.specs.declared.session.LineFault.TheVariants as line_fault
 use Rattle.script.specs.declared.session.Session.{Session}
 
@@ -66,3 +70,68 @@ no_backup s l (backup, is, none) allows = none (subst (Allows s) is allows).0
 -- a text says one line, which isn't taken
 pub says_none : (s : Session) (other l : LineValue) → other ≡ l → (Allows s l → ⊥) → Allows s other → ⊥
 says_none s other l is none allows = none (subst (Allows s) is allows)
+
+-- ---- lines with raw bytes or without
+
+pub no_key_of : (l : LineValue) → command_of l ≡ None → HasNoKey l
+no_key_of (Put table key value) is = absurd (cc)
+no_key_of (New table key value) is = absurd (cc)
+no_key_of (Cas table key version value) is = absurd (cc)
+no_key_of (Get table key) is = absurd (cc)
+no_key_of (Del table key) is = absurd (cc)
+no_key_of _ is = tt
+
+said_limits : (text : List ℕ) (l : LineValue) → Says text l → IsLine l
+said_limits text Idle says = tt
+said_limits text _ says = says.limits
+
+key_line : (l : LineValue) → IsKeyLine l → HasNoKey l → ⊥
+key_line (Put table key value) limits plain = plain
+key_line (New table key value) limits plain = plain
+key_line (Cas table key version value) limits plain = plain
+key_line (Get table key) limits plain = plain
+key_line (Del table key) limits plain = plain
+key_line _ limits plain = limits
+
+-- a line without a command is within its limits
+pub line_in : (is_raw : Bool) (text : List ℕ) (l : LineValue) → SaysIn is_raw text l → command_of l ≡ None → IsLine l
+line_in false text l says none = said_limits text l says
+line_in true text l (inl raw) none = absurd (key_line l raw.limits (no_key_of l none))
+line_in true text l (inr said) none = said_limits text l said.1
+
+said_value : (text : List ℕ) (l : LineValue) → Says text l → length text ≤ 4096 → HasValue l
+said_value text (Put table key value) says short =
+    let long = ap length says.spaced in
+    omega (arith, long, length-append (decimal table) (32 ∷ (key ++ 32 ∷ value)), length-append key (32 ∷ value))
+said_value text (New table key value) says short =
+    let long = ap length says.spaced in
+    omega (arith, long, length-append (decimal table) (32 ∷ (key ++ 32 ∷ value)), length-append key (32 ∷ value))
+said_value text (Cas table key version value) says short =
+    let long = ap length says.spaced in
+    omega (
+      arith,
+      long,
+      length-append (decimal table) (32 ∷ (key ++ 32 ∷ (decimal version ++ 32 ∷ value))),
+      length-append key (32 ∷ (decimal version ++ 32 ∷ value)),
+      length-append (decimal version) (32 ∷ value),
+    )
+said_value text _ says short = tt
+
+raw_value : (l : LineValue) → IsKeyLine l → HasValue l
+raw_value (Put table key value) limits = limits.2
+raw_value (New table key value) limits = limits.2
+raw_value (Cas table key version value) limits = limits.3
+raw_value _ limits = tt
+
+plain_value : (l : LineValue) → HasNoKey l → HasValue l
+plain_value (Put table key value) plain = absurd plain
+plain_value (New table key value) plain = absurd plain
+plain_value (Cas table key version value) plain = absurd plain
+plain_value _ plain = tt
+
+-- an object may have the value of a line
+pub value_in : (is_raw : Bool) (text : List ℕ) (l : LineValue) → SaysIn is_raw text l → IsLineText is_raw text
+    → HasValue l
+value_in false text l says whole = said_value text l says whole.short
+value_in true text l (inl raw) whole = raw_value l raw.limits
+value_in true text l (inr said) whole = plain_value l said.0

@@ -32,7 +32,8 @@ use Rattle.next_master.specs.cluster.Lives.{Life, Position, at_start}
 use Rattle.script.specs.Sessions.{RunsLine, RunsTurn, BeginsSession, IsCovered, AreLaterUnraised, Stands}
 use Rattle.next_master.specs.Recoveries.{standing_of}
 use Rattle.next_master.specs.cluster.Served.{AnswersLine, IsNodeAt, life_of}
-use Rattle.next_master.specs.answers.Texts.{answer_text}
+use Rattle.raw_answers.specs.Texts.{told_text}
+use Rattle.lines.specs.Scanning.{line_limit}
 use Rattle.next_master.specs.Succession.{Standing, Succeeds}
 use Rattle.script.specs.Telling.{at_first, Moves, AreTelling, TellLives, Told}
 use Rattle.next_master.specs.cluster.Told.{Tells}
@@ -45,558 +46,559 @@ use Rattle.script.proofs.Succeeding.{nothing_more, telling_longer, telling_more,
 use Rattle.next_master.proofs.of_cluster.Standing.{legal_of, same_opening}
 use Rattle.entry.specs.Meaning.{contents_of}
 
--- ---- a line that was run
+module _ (is_raw : Bool) where
+  -- ---- a line that was run
 
-pub answer_printed : (old new : Session) (text : List ℕ) (number : ℕ) (held holds : Option (List ℕ)) (answer : Answer)
-    (r : Result (Unit {0}) ScriptFault)
-    → RunsText old text new answer → IsPrinted held holds answer r → PrintsText old new text number held holds r
-answer_printed old new text number held holds answer (Ok done) runs printed = (answer, runs, printed)
-answer_printed old new text number held holds answer (Err e) runs failed =
-    subst (λ (f : ScriptFault). PrintsText old new text number held holds (Err f)) (sym failed.0)
-    (answer, runs, failed.1)
+  pub answer_printed : (old new : Session) (text : List ℕ) (number : ℕ) (held holds : Option (List ℕ)) (answer : Answer)
+      (r : Result (Unit {0}) ScriptFault)
+      → RunsText is_raw old text new answer → IsPrinted is_raw held holds answer r → PrintsText is_raw old new text number held holds r
+  answer_printed old new text number held holds answer (Ok done) runs printed = (answer, runs, printed)
+  answer_printed old new text number held holds answer (Err e) runs failed =
+      subst (λ (f : ScriptFault). PrintsText is_raw old new text number held holds (Err f)) (sym failed.0)
+      (answer, runs, failed.1)
 
--- ---- what was taken for a line
+  -- ---- what was taken for a line
 
-pub taken_as : (had left : Option (List ℕ)) (text bytes : List ℕ) (was is : Taken) → was ≡ is → text ≡ bytes
-    → TakesLine had left text was
-    → TakesLine had left bytes is
-taken_as had left text bytes was is same whole there =
-    subst (λ (l : List ℕ). TakesLine had left l is) whole (subst (λ (t : Taken). TakesLine had left text t) same there)
+  pub taken_as : (had left : Option (List ℕ)) (text bytes : List ℕ) (was is : Taken) → was ≡ is → text ≡ bytes
+      → TakesLine is_raw had left text was
+      → TakesLine is_raw had left bytes is
+  taken_as had left text bytes was is same whole there =
+      subst (λ (l : List ℕ). TakesLine is_raw had left l is) whole (subst (λ (t : Taken). TakesLine is_raw had left text t) same there)
 
-pub stopped_as : (had left : Option (List ℕ)) (text : List ℕ) (was is : ReadFault) → was ≡ is
-    → StopsIn had left text was → StopsIn had left text is
-stopped_as had left text was is same there = subst (λ (f : ReadFault). StopsIn had left text f) same there
+  pub stopped_as : (had left : Option (List ℕ)) (text : List ℕ) (was is : ReadFault) → was ≡ is
+      → StopsIn is_raw had left text was → StopsIn is_raw had left text is
+  stopped_as had left text was is same there = subst (λ (f : ReadFault). StopsIn is_raw had left text f) same there
 
--- ---- the writer was flushed before the line was run
+  -- ---- the writer was flushed before the line was run
 
-kept_first : (held wrote holds : Option (List ℕ)) (bytes : List ℕ) → Keeps held wrote → Appends wrote holds bytes
-    → Appends held holds bytes
-kept_first None wrote holds bytes kept more = tt
-kept_first (Some xs) None holds bytes kept more = absurd kept
-kept_first (Some xs) (Some ys) None bytes kept more = absurd more
-kept_first (Some xs) (Some ys) (Some zs) bytes kept more = more ∙ ap (λ l. l ++ bytes) kept
+  kept_first : (held wrote holds : Option (List ℕ)) (bytes : List ℕ) → Keeps held wrote → Appends wrote holds bytes
+      → Appends held holds bytes
+  kept_first None wrote holds bytes kept more = tt
+  kept_first (Some xs) None holds bytes kept more = absurd kept
+  kept_first (Some xs) (Some ys) None bytes kept more = absurd more
+  kept_first (Some xs) (Some ys) (Some zs) bytes kept more = more ∙ ap (λ l. l ++ bytes) kept
 
-pub flushed_first : (old new : Session) (text : List ℕ) (number : ℕ) (held wrote holds : Option (List ℕ))
-    (r : Result (Unit {0}) ScriptFault)
-    → Keeps held wrote → PrintsText old new text number wrote holds r → PrintsText old new text number held holds r
-flushed_first old new text number held wrote holds (Ok done) kept p =
-    (p.0, p.1, kept_first held wrote holds (answer_text p.0) kept p.2)
-flushed_first old new text number held wrote holds (Err (fault.BadLine n why)) kept p =
-    (p.0, p.1, Keeps-trans held wrote holds kept p.2, p.3)
-flushed_first old new text number held wrote holds (Err fault.ReadFailed) kept p = absurd p
-flushed_first old new text number held wrote holds (Err fault.WriteFailed) kept p =
-    (p.0, p.1, (p.2.0, p.2.1, p.2.2, kept_first held wrote holds p.2.0 kept p.2.3))
-flushed_first old new text number held wrote holds (Err fault.NoMemory) kept p = Keeps-trans held wrote holds kept p
+  pub flushed_first : (old new : Session) (text : List ℕ) (number : ℕ) (held wrote holds : Option (List ℕ))
+      (r : Result (Unit {0}) ScriptFault)
+      → Keeps held wrote → PrintsText is_raw old new text number wrote holds r → PrintsText is_raw old new text number held holds r
+  flushed_first old new text number held wrote holds (Ok done) kept p =
+      (p.0, p.1, kept_first held wrote holds (told_text is_raw p.0) kept p.2)
+  flushed_first old new text number held wrote holds (Err (fault.BadLine n why)) kept p =
+      (p.0, p.1, Keeps-trans held wrote holds kept p.2, p.3)
+  flushed_first old new text number held wrote holds (Err fault.ReadFailed) kept p = absurd p
+  flushed_first old new text number held wrote holds (Err fault.WriteFailed) kept p =
+      (p.0, p.1, (p.2.0, p.2.1, p.2.2, kept_first held wrote holds p.2.0 kept p.2.3))
+  flushed_first old new text number held wrote holds (Err fault.NoMemory) kept p = Keeps-trans held wrote holds kept p
 
--- ---- a turn that failed
+  -- ---- a turn that failed
 
-pub turn_fault : (old new : Session) (number : ℕ) (had left held holds : Option (List ℕ)) (text taken : List ℕ)
-    (f : ScriptFault) → IsLineText text
-    → Consumes had left taken → IsTakenLine text taken left → PrintsText old new text number held holds (Err f)
-    → TakesTurn old new number had left held holds (Err f)
-turn_fault old new number had left held holds text taken (fault.BadLine n why) whole consumed is p =
-    (p.0, taken, consumed, inr (text, whole, is, inr p.1), p.2, inl (text, is, p.3))
-turn_fault old new number had left held holds text taken fault.ReadFailed whole consumed is p = absurd p
-turn_fault old new number had left held holds text taken fault.WriteFailed whole consumed is p =
-    inl (text, taken, whole, consumed, is, p.0, p.1, p.2)
-turn_fault old new number had left held holds text taken fault.NoMemory whole consumed is p =
-    let short = whole.short in
-    let count : length taken ≤ 4097 = elim is [
-      | inl e ↦ let long = ap length e in let both = length-append text (10 ∷ []) in omega arith
-      | inr e ↦ let long = ap length e.0 in omega arith
-    ] in
-    (taken, consumed, count, p)
+  pub turn_fault : (old new : Session) (number : ℕ) (had left held holds : Option (List ℕ)) (text taken : List ℕ)
+      (f : ScriptFault) → IsLineText is_raw text
+      → Consumes had left taken → IsTakenLine text taken left → PrintsText is_raw old new text number held holds (Err f)
+      → TakesTurn is_raw old new number had left held holds (Err f)
+  turn_fault old new number had left held holds text taken (fault.BadLine n why) whole consumed is p =
+      (p.0, taken, consumed, inr (text, whole, is, inr p.1), p.2, inl (text, is, p.3))
+  turn_fault old new number had left held holds text taken fault.ReadFailed whole consumed is p = absurd p
+  turn_fault old new number had left held holds text taken fault.WriteFailed whole consumed is p =
+      inl (text, taken, whole, consumed, is, p.0, p.1, p.2)
+  turn_fault old new number had left held holds text taken fault.NoMemory whole consumed is p =
+      let short = whole.short in
+      let count : length taken ≤ line_limit is_raw + 1 = elim is [
+        | inl e ↦ let long = ap length e in let both = length-append text (10 ∷ []) in omega arith
+        | inr e ↦ let long = ap length e.0 in omega arith
+      ] in
+      (taken, consumed, count, p)
 
--- a master that began with no keys
-empty_opening : (d : MasterData) → d.origin ≡ no_origin → opening_of d ≡ empty_state
-empty_opening d is = ap (λ (o : Origin). record { contents = contents_of o.objects; safe = o.safe }) is
+  -- a master that began with no keys
+  empty_opening : (d : MasterData) → d.origin ≡ no_origin → opening_of d ≡ empty_state
+  empty_opening d is = ap (λ (o : Origin). record { contents = contents_of o.objects; safe = o.safe }) is
 
--- ---- all lines so far
+  -- ---- all lines so far
 
--- the lines that were run before the one of this number, and what the session stands for
-pub record Running (options : Options) (session : Session) (had left held holds : Option (List ℕ))
-    (number : ℕ) : Type 0 where
-  pub told : List Told
-  pub first : Life
-  pub start : Session
-  pub knows : MasterData
-  pub at : Position
-  -- only the format and the seglets may be others
-  pub set : record session.options { format = options.format; seglets = options.seglets } ≡ options
-  pub begins : BeginsSession options start
-  pub run : AreRunOn start told session
-  pub covers : IsCovered session
-  pub stands : IsNodeAt session.node (config_of session.options session.master) knows at
-  pub used : session.master ≤ session.used
-  pub later : AreLaterUnraised session
-  pub may_begin : MayBegin session.later session.options
-  pub count : suc (length told) ≡ number
-  pub lines : All (IsScriptLine options.backups) told
-  pub opening : first.opening ≡ empty_state
-  pub telling : AreTelling (at_first (config_of options 1) first) told
-      (standing_of (config_of session.options session.master) knows at)
-  pub consumed : Consumes had left (texts_of told)
-  pub printed : Appends held holds (answers_of told)
+  -- the lines that were run before the one of this number, and what the session stands for
+  pub record Running (options : Options) (session : Session) (had left held holds : Option (List ℕ))
+      (number : ℕ) : Type 0 where
+    pub told : List Told
+    pub first : Life
+    pub start : Session
+    pub knows : MasterData
+    pub at : Position
+    -- only the format and the seglets may be others
+    pub set : record session.options { format = options.format; seglets = options.seglets } ≡ options
+    pub begins : BeginsSession options start
+    pub run : AreRunOn start told session
+    pub covers : IsCovered session
+    pub stands : IsNodeAt session.node (config_of session.options session.master) knows at
+    pub used : session.master ≤ session.used
+    pub later : AreLaterUnraised session
+    pub may_begin : MayBegin session.later session.options
+    pub count : suc (length told) ≡ number
+    pub lines : All (IsScriptLine is_raw options.backups) told
+    pub opening : first.opening ≡ empty_state
+    pub telling : AreTelling (at_first (config_of options 1) first) told
+        (standing_of (config_of session.options session.master) knows at)
+    pub consumed : Consumes had left (texts_of told)
+    pub printed : Appends held holds (answers_of is_raw told)
 
-pub starts_running : (options : Options) (session : Session) (had held : Option (List ℕ))
-    → BeginsSession options session
-    → Running options session had had held held 1
-starts_running options session had held begins =
-    let d = begins.stands.0 in
-    let set = begins.set in
-    let number = begins.number in
-    let same : config_of session.options session.master ≡ config_of options 1 = λ i. config_of (set i) (number i) in
-    record {
-      told = [];
-      first = life_of d;
-      start = session;
-      knows = d;
-      at = at_start;
-      set = ap (λ (o : Options). record o { format = options.format; seglets = options.seglets }) set;
-      begins = begins;
-      run = refl;
-      covers = begins.covers;
-      stands = subst (λ (c : Config). IsNodeAt session.node c d at_start) (sym same) begins.stands.1;
-      used = let used = begins.used in omega (arith, number, used);
-      later = begins_unraised options session begins;
-      may_begin = begins_later options session begins;
-      count = refl;
-      lines = All-nil (IsScriptLine options.backups);
-      opening = empty_opening d begins.stands.3;
-      telling = λ i. standing_of (same i) d at_start;
-      consumed = Consumes-nil had;
-      printed = Appends-nil held;
-    }
-
--- the session stands for some master
-pub running_stands : (options : Options) (session : Session) (had left held holds : Option (List ℕ)) (number : ℕ)
-    → Running options session had left held holds number → Stands session
-running_stands options session had left held holds number r =
-    (r.covers, (r.knows, r.at, r.stands), r.later, r.may_begin)
-
--- ---- where a line leads
-
--- the session stands for another master or the same, and the line leads there from where it stood
-abbrev LeadsOn : Session → LineValue → Answer → Session → MasterData → Position → Type 0
-LeadsOn old line a new d at = (e : MasterData) × (next : Position)
-    × IsNodeAt new.node (config_of new.options new.master) e next
-    × ((more : List Record)
-    × Moves (with_more (standing_of (config_of old.options old.master) d at) more) line a
-    (standing_of (config_of new.options new.master) e next))
-
-answers_lead : (old new : Session) (line : LineValue) (a : Answer) (d : MasterData) (at : Position)
-    → new.options ≡ old.options
-    → new.master ≡ old.master → AnswersLine old.node (config_of old.options old.master) line new.node a
-    → IsNodeAt old.node (config_of old.options old.master) d at → LeadsOn old line a new d at
-answers_lead old new line a d at options number answers s =
-    let c = config_of old.options old.master in
-    let told = answers d at s in
-    let e = told.0 in
-    let same : config_of new.options new.master ≡ c = λ i. config_of (options i) (number i) in
-    let opening = sym (same_opening d e told.3.1) in
-    let history = told.3.2 in
-    let lives : ◌≡◌ {A = Life} (life_of e) (record { opening = opening_of d; history = d.history ++ told.3.0 }) =
-    λ i. record { opening = opening i; history = history i } in (
-      e,
-      told.1,
-      subst (λ (k : Config). IsNodeAt new.node k e told.1) (sym same) told.2,
-      (
-        told.3.0,
-        inl (record {
-          config = same;
-          life = lives;
-          tells = subst
-              (λ (l : Life). Tells c l at line a told.1) lives told.4;
-        }),
-      ),
-    )
-
-line_leads : (old new : Session) (line : LineValue) (a : Answer) → RunsLine old line new a
-    → (d : MasterData) (at : Position)
-    → IsNodeAt old.node (config_of old.options old.master) d at → LeadsOn old line a new d at
-line_leads old new line a (inl r) d at s = answers_lead old new line a d at r.options r.number
-    (r.answers (config_of old.options old.master) (told_of old line)) s
-line_leads old new line a (inr r) d at s =
-    subst (λ (l : LineValue). LeadsOn old l a new d at) (sym r.asks)
-    (elim r.recovers [
-      | inl (number, answers) ↦
-          answers_lead old new (Recover r.order) a d at (options_stay old new r.options number) number answers s
-      | inr begins ↦
-          let next = begins d at s in
-          let above = next.4.config.0 in
-          let other : new.master ≡ old.master → ⊥ = λ same. absurd (omega arith) in
-          let options = sym (options_renewed old new r.options other) in
-          let from = standing_of (config_of old.options old.master) d at in (
-            next.0,
-            next.1,
-            subst (λ (o : Options). IsNodeAt new.node (config_of o new.master) next.0 next.1) options next.2,
-            (
-              [],
-              subst (λ (f : Standing). Moves f (Recover r.order) a
-                  (standing_of (config_of new.options new.master) next.0 next.1)) (sym (nothing_more from))
-                  (inr (subst (λ (o : Options). Succeeds from (Recover r.order) a
-                  (standing_of (config_of o new.master) next.0 next.1)) options next.4)),
-            ),
-          )
-    ])
-
--- and behind the line its master may forget
-turn_leads : (old new : Session) (line : LineValue) (a : Answer) → RunsTurn old line new a
-    → (d : MasterData) (at : Position)
-    → IsNodeAt old.node (config_of old.options old.master) d at → LeadsOn old line a new d at
-turn_leads old new line a (mid, runs, forgets) d at s =
-    let led = line_leads old mid line a runs d at s in
-    let there = still_there mid new forgets led.0 led.1 led.2 in
-    let config = sym (same_config mid new forgets) in
-    let life = there.2 in
-    let from = standing_of (config_of old.options old.master) d at in
-    let same : ◌≡◌ {A = Standing} (standing_of (config_of mid.options mid.master) led.0 led.1)
-    (standing_of (config_of new.options new.master) there.0 led.1) =
-    λ i. record { config = config i; life = life i; at = led.1 } in (
-      there.0,
-      led.1,
-      there.1,
-      (led.3.0, subst (λ (to : Standing). Moves (with_more from led.3.0) line a to) same led.3.1),
-    )
-
-covers_on : (old new : Session) (line : LineValue) (a : Answer) → RunsTurn old line new a → Stands old → IsCovered new
-covers_on old new line a (mid, inl r, forgets) stands = still_covered mid new forgets (r.covers stands)
-covers_on old new line a (mid, inr r, forgets) stands = still_covered mid new forgets (r.covers stands)
-
-options_on : (old new : Session) (line : LineValue) (a : Answer) (format seglets : ℕ) → RunsTurn old line new a
-    → record new.options { format = format; seglets = seglets }
-    ≡ record old.options { format = format; seglets = seglets }
-options_on old new line a format seglets (mid, inl r, forgets) =
-    same_set mid new forgets format seglets
-    ∙ ap (λ (o : Options). record o { format = format; seglets = seglets }) r.options
-options_on old new line a format seglets (mid, inr r, forgets) =
-    same_set mid new forgets format seglets ∙ options_kept old mid format seglets r.options
-
--- later masters may begin as before, or as the line asks
-begins_on : (old new : Session) (line : LineValue) (a : Answer) → RunsTurn old line new a → Stands old
-    → MayBegin new.later new.options
-begins_on old new line a (mid, inl r, forgets) stands = still_begins mid new forgets (r.begins stands)
-begins_on old new line a (mid, inr r, forgets) stands =
-    still_begins mid new forgets (renewed_begins old mid r.options r.later stands.3)
-
-numbers_on : (old new : Session) (line : LineValue) (a : Answer) → RunsTurn old line new a → old.master ≤ old.used
-    → new.master ≤ new.used
-numbers_on old new line a (mid, runs, forgets) within =
-    still_numbered mid new forgets (line_numbers old mid line a runs within)
-
-unraised_on : (old new : Session) (line : LineValue) (a : Answer) → RunsTurn old line new a → (d : MasterData)
-    (at : Position) → IsNodeAt old.node (config_of old.options old.master) d at → old.master ≤ old.used
-    → AreLaterUnraised old → AreLaterUnraised new
-unraised_on old new line a (mid, runs, forgets) d at s within are =
-    still_unraised mid new forgets (line_unraised old mid line a runs d at s within are)
-
--- one line more was run
-runs_more : (first : Session) (told : List Told) (old : Session) (t : Told) (new : Session) → AreRunOn first told old
-    → RunsTurn old t.line new t.answer
-    → AreRunOn first (told ++ t ∷ []) new
-runs_more first [] old t new same runs = (new, subst (λ (s : Session). RunsTurn s t.line new t.answer) same runs, refl)
-runs_more first (u ∷ us) old t new (mid, ran, rest) runs = (mid, ran, runs_more mid us old t new rest runs)
-
-texts-more : (told : List Told) (t : Told) → texts_of (told ++ t ∷ []) ≡ texts_of told ++ (t.text ++ 10 ∷ [])
-texts-more told t = flat_map-append _ told (t ∷ []) ∙ ap (λ l. texts_of told ++ l) (append-nil (t.text ++ 10 ∷ []))
-
-answers-more : (told : List Told) (t : Told) → answers_of (told ++ t ∷ []) ≡ answers_of told ++ answer_text t.answer
-answers-more told t = flat_map-append _ told (t ∷ []) ∙ ap (λ l. answers_of told ++ l)
-    (append-nil (answer_text t.answer))
-
-module _ (options : Options) (old : Session) (had mid left held wrote holds : Option (List ℕ)) (number : ℕ)
-    (r : Running options old had mid held wrote number) where
-  fleet : old.options.backups ≡ options.backups
-  fleet = ap (λ (o : Options). o.backups) r.set
-
-  now_stands : Stands old
-  now_stands = (r.covers, (r.knows, r.at, r.stands), r.later, r.may_begin)
-
-  abbrev now : Standing
-  now = standing_of (config_of old.options old.master) r.knows r.at
-
-  -- the lines tell of one life after another
-  tell_so_far : TellLives (config_of options 1) r.told
-  tell_so_far = (
-    r.first,
-    r.opening,
-    now,
-    r.telling,
-    record { legal = legal_of old.node r.at.left r.knows r.stands.node_of; whole = r.stands.made },
-  )
-
-  module _ (new : Session) (text : List ℕ) (a : Answer) (runs : RunsText old text new a) (whole : IsLineText text) where
-    abbrev next_told : Told
-    next_told = record { text = text; line = runs.line; answer = a }
-
-    abbrev after_line : LeadsOn old runs.line a new r.knows r.at
-    after_line = turn_leads old new runs.line a runs.runs r.knows r.at r.stands
-
-    abbrev after_this : Standing
-    after_this = standing_of (config_of new.options new.master) after_line.0 after_line.1
-
-    abbrev longer : (before : List Record) × AreTelling (with_more (at_first (config_of options 1) r.first) before)
-        r.told (with_more now after_line.3.0)
-    longer = telling_longer (at_first (config_of options 1) r.first) r.told now after_line.3.0
-        (let made = r.stands.made in omega arith) r.telling
-
-    abbrev first_on : Life
-    first_on = record { opening = r.first.opening; history = r.first.history ++ longer.0 }
-
-    telling_on : AreTelling (at_first (config_of options 1) first_on) (r.told ++ next_told ∷ []) after_this
-    telling_on = telling_more (at_first (config_of options 1) first_on) r.told
-        (with_more now after_line.3.0) next_told after_this longer.1 after_line.3.1
-
-    tell_longer : TellLives (config_of options 1) (r.told ++ next_told ∷ [])
-    tell_longer = (
-      first_on,
-      r.opening,
-      after_this,
-      telling_on,
+  pub starts_running : (options : Options) (session : Session) (had held : Option (List ℕ))
+      → BeginsSession options session
+      → Running options session had had held held 1
+  starts_running options session had held begins =
+      let d = begins.stands.0 in
+      let set = begins.set in
+      let number = begins.number in
+      let same : config_of session.options session.master ≡ config_of options 1 = λ i. config_of (set i) (number i) in
       record {
-        legal = legal_of new.node after_line.1.left after_line.0 after_line.2.node_of;
-        whole = after_line.2.made;
-      },
+        told = [];
+        first = life_of d;
+        start = session;
+        knows = d;
+        at = at_start;
+        set = ap (λ (o : Options). record o { format = options.format; seglets = options.seglets }) set;
+        begins = begins;
+        run = refl;
+        covers = begins.covers;
+        stands = subst (λ (c : Config). IsNodeAt session.node c d at_start) (sym same) begins.stands.1;
+        used = let used = begins.used in omega (arith, number, used);
+        later = begins_unraised options session begins;
+        may_begin = begins_later options session begins;
+        count = refl;
+        lines = All-nil (IsScriptLine is_raw options.backups);
+        opening = empty_opening d begins.stands.3;
+        telling = λ i. standing_of (same i) d at_start;
+        consumed = Consumes-nil had;
+        printed = Appends-nil held;
+      }
+
+  -- the session stands for some master
+  pub running_stands : (options : Options) (session : Session) (had left held holds : Option (List ℕ)) (number : ℕ)
+      → Running options session had left held holds number → Stands session
+  running_stands options session had left held holds number r =
+      (r.covers, (r.knows, r.at, r.stands), r.later, r.may_begin)
+
+  -- ---- where a line leads
+
+  -- the session stands for another master or the same, and the line leads there from where it stood
+  abbrev LeadsOn : Session → LineValue → Answer → Session → MasterData → Position → Type 0
+  LeadsOn old line a new d at = (e : MasterData) × (next : Position)
+      × IsNodeAt new.node (config_of new.options new.master) e next
+      × ((more : List Record)
+      × Moves (with_more (standing_of (config_of old.options old.master) d at) more) line a
+      (standing_of (config_of new.options new.master) e next))
+
+  answers_lead : (old new : Session) (line : LineValue) (a : Answer) (d : MasterData) (at : Position)
+      → new.options ≡ old.options
+      → new.master ≡ old.master → AnswersLine old.node (config_of old.options old.master) line new.node a
+      → IsNodeAt old.node (config_of old.options old.master) d at → LeadsOn old line a new d at
+  answers_lead old new line a d at options number answers s =
+      let c = config_of old.options old.master in
+      let told = answers d at s in
+      let e = told.0 in
+      let same : config_of new.options new.master ≡ c = λ i. config_of (options i) (number i) in
+      let opening = sym (same_opening d e told.3.1) in
+      let history = told.3.2 in
+      let lives : ◌≡◌ {A = Life} (life_of e) (record { opening = opening_of d; history = d.history ++ told.3.0 }) =
+      λ i. record { opening = opening i; history = history i } in (
+        e,
+        told.1,
+        subst (λ (k : Config). IsNodeAt new.node k e told.1) (sym same) told.2,
+        (
+          told.3.0,
+          inl (record {
+            config = same;
+            life = lives;
+            tells = subst
+                (λ (l : Life). Tells c l at line a told.1) lives told.4;
+          }),
+        ),
+      )
+
+  line_leads : (old new : Session) (line : LineValue) (a : Answer) → RunsLine old line new a
+      → (d : MasterData) (at : Position)
+      → IsNodeAt old.node (config_of old.options old.master) d at → LeadsOn old line a new d at
+  line_leads old new line a (inl r) d at s = answers_lead old new line a d at r.options r.number
+      (r.answers (config_of old.options old.master) (told_of old line)) s
+  line_leads old new line a (inr r) d at s =
+      subst (λ (l : LineValue). LeadsOn old l a new d at) (sym r.asks)
+      (elim r.recovers [
+        | inl (number, answers) ↦
+            answers_lead old new (Recover r.order) a d at (options_stay old new r.options number) number answers s
+        | inr begins ↦
+            let next = begins d at s in
+            let above = next.4.config.0 in
+            let other : new.master ≡ old.master → ⊥ = λ same. absurd (omega arith) in
+            let options = sym (options_renewed old new r.options other) in
+            let from = standing_of (config_of old.options old.master) d at in (
+              next.0,
+              next.1,
+              subst (λ (o : Options). IsNodeAt new.node (config_of o new.master) next.0 next.1) options next.2,
+              (
+                [],
+                subst (λ (f : Standing). Moves f (Recover r.order) a
+                    (standing_of (config_of new.options new.master) next.0 next.1)) (sym (nothing_more from))
+                    (inr (subst (λ (o : Options). Succeeds from (Recover r.order) a
+                    (standing_of (config_of o new.master) next.0 next.1)) options next.4)),
+              ),
+            )
+      ])
+
+  -- and behind the line its master may forget
+  turn_leads : (old new : Session) (line : LineValue) (a : Answer) → RunsTurn old line new a
+      → (d : MasterData) (at : Position)
+      → IsNodeAt old.node (config_of old.options old.master) d at → LeadsOn old line a new d at
+  turn_leads old new line a (mid, runs, forgets) d at s =
+      let led = line_leads old mid line a runs d at s in
+      let there = still_there mid new forgets led.0 led.1 led.2 in
+      let config = sym (same_config mid new forgets) in
+      let life = there.2 in
+      let from = standing_of (config_of old.options old.master) d at in
+      let same : ◌≡◌ {A = Standing} (standing_of (config_of mid.options mid.master) led.0 led.1)
+      (standing_of (config_of new.options new.master) there.0 led.1) =
+      λ i. record { config = config i; life = life i; at = led.1 } in (
+        there.0,
+        led.1,
+        there.1,
+        (led.3.0, subst (λ (to : Standing). Moves (with_more from led.3.0) line a to) same led.3.1),
+      )
+
+  covers_on : (old new : Session) (line : LineValue) (a : Answer) → RunsTurn old line new a → Stands old → IsCovered new
+  covers_on old new line a (mid, inl r, forgets) stands = still_covered mid new forgets (r.covers stands)
+  covers_on old new line a (mid, inr r, forgets) stands = still_covered mid new forgets (r.covers stands)
+
+  options_on : (old new : Session) (line : LineValue) (a : Answer) (format seglets : ℕ) → RunsTurn old line new a
+      → record new.options { format = format; seglets = seglets }
+      ≡ record old.options { format = format; seglets = seglets }
+  options_on old new line a format seglets (mid, inl r, forgets) =
+      same_set mid new forgets format seglets
+      ∙ ap (λ (o : Options). record o { format = format; seglets = seglets }) r.options
+  options_on old new line a format seglets (mid, inr r, forgets) =
+      same_set mid new forgets format seglets ∙ options_kept old mid format seglets r.options
+
+  -- later masters may begin as before, or as the line asks
+  begins_on : (old new : Session) (line : LineValue) (a : Answer) → RunsTurn old line new a → Stands old
+      → MayBegin new.later new.options
+  begins_on old new line a (mid, inl r, forgets) stands = still_begins mid new forgets (r.begins stands)
+  begins_on old new line a (mid, inr r, forgets) stands =
+      still_begins mid new forgets (renewed_begins old mid r.options r.later stands.3)
+
+  numbers_on : (old new : Session) (line : LineValue) (a : Answer) → RunsTurn old line new a → old.master ≤ old.used
+      → new.master ≤ new.used
+  numbers_on old new line a (mid, runs, forgets) within =
+      still_numbered mid new forgets (line_numbers old mid line a runs within)
+
+  unraised_on : (old new : Session) (line : LineValue) (a : Answer) → RunsTurn old line new a → (d : MasterData)
+      (at : Position) → IsNodeAt old.node (config_of old.options old.master) d at → old.master ≤ old.used
+      → AreLaterUnraised old → AreLaterUnraised new
+  unraised_on old new line a (mid, runs, forgets) d at s within are =
+      still_unraised mid new forgets (line_unraised old mid line a runs d at s within are)
+
+  -- one line more was run
+  runs_more : (first : Session) (told : List Told) (old : Session) (t : Told) (new : Session) → AreRunOn first told old
+      → RunsTurn old t.line new t.answer
+      → AreRunOn first (told ++ t ∷ []) new
+  runs_more first [] old t new same runs = (new, subst (λ (s : Session). RunsTurn s t.line new t.answer) same runs, refl)
+  runs_more first (u ∷ us) old t new (mid, ran, rest) runs = (mid, ran, runs_more mid us old t new rest runs)
+
+  texts-more : (told : List Told) (t : Told) → texts_of (told ++ t ∷ []) ≡ texts_of told ++ (t.text ++ 10 ∷ [])
+  texts-more told t = flat_map-append _ told (t ∷ []) ∙ ap (λ l. texts_of told ++ l) (append-nil (t.text ++ 10 ∷ []))
+
+  answers-more : (told : List Told) (t : Told) → answers_of is_raw (told ++ t ∷ []) ≡ answers_of is_raw told ++ told_text is_raw t.answer
+  answers-more told t = flat_map-append _ told (t ∷ []) ∙ ap (λ l. answers_of is_raw told ++ l)
+      (append-nil (told_text is_raw t.answer))
+
+  module _ (options : Options) (old : Session) (had mid left held wrote holds : Option (List ℕ)) (number : ℕ)
+      (r : Running options old had mid held wrote number) where
+    fleet : old.options.backups ≡ options.backups
+    fleet = ap (λ (o : Options). o.backups) r.set
+
+    now_stands : Stands old
+    now_stands = (r.covers, (r.knows, r.at, r.stands), r.later, r.may_begin)
+
+    abbrev now : Standing
+    now = standing_of (config_of old.options old.master) r.knows r.at
+
+    -- the lines tell of one life after another
+    tell_so_far : TellLives (config_of options 1) r.told
+    tell_so_far = (
+      r.first,
+      r.opening,
+      now,
+      r.telling,
+      record { legal = legal_of old.node r.at.left r.knows r.stands.node_of; whole = r.stands.made },
     )
 
-    run_on : AreRunOn r.start (r.told ++ next_told ∷ []) new
-    run_on = runs_more r.start r.told old next_told new r.run runs.runs
+    module _ (new : Session) (text : List ℕ) (a : Answer) (runs : RunsText is_raw old text new a) (whole : IsLineText is_raw text) where
+      abbrev next_told : Told
+      next_told = record { text = text; line = runs.line; answer = a }
 
-    line_there : All (IsScriptLine options.backups) (r.told ++ next_told ∷ [])
-    line_there = All-push (IsScriptLine options.backups) r.told next_told r.lines
-        (record {
-          whole = whole;
-          says = runs.says;
-          of_fleet = subst
-              (λ (n : ℕ). IsOfFleet n runs.line) fleet runs.of_fleet;
-        })
+      abbrev after_line : LeadsOn old runs.line a new r.knows r.at
+      after_line = turn_leads old new runs.line a runs.runs r.knows r.at r.stands
 
-    answers_on : Appends wrote holds (answer_text a) → Appends held holds (answers_of (r.told ++ next_told ∷ []))
-    answers_on printed = subst (Appends held holds) (sym (answers-more r.told next_told))
-        (Appends-trans held wrote holds (answers_of r.told) (answer_text a) r.printed printed)
+      abbrev after_this : Standing
+      after_this = standing_of (config_of new.options new.master) after_line.0 after_line.1
 
-    -- one line more was run
-    runs_on : Consumes mid left (text ++ 10 ∷ []) → Appends wrote holds (answer_text a)
-        → Running options new had left held holds (number + 1)
-    runs_on consumed printed =
-        let count = r.count in
-        let longer = length-append r.told (next_told ∷ []) in
+      abbrev longer : (before : List Record) × AreTelling (with_more (at_first (config_of options 1) r.first) before)
+          r.told (with_more now after_line.3.0)
+      longer = telling_longer (at_first (config_of options 1) r.first) r.told now after_line.3.0
+          (let made = r.stands.made in omega arith) r.telling
+
+      abbrev first_on : Life
+      first_on = record { opening = r.first.opening; history = r.first.history ++ longer.0 }
+
+      telling_on : AreTelling (at_first (config_of options 1) first_on) (r.told ++ next_told ∷ []) after_this
+      telling_on = telling_more (at_first (config_of options 1) first_on) r.told
+          (with_more now after_line.3.0) next_told after_this longer.1 after_line.3.1
+
+      tell_longer : TellLives (config_of options 1) (r.told ++ next_told ∷ [])
+      tell_longer = (
+        first_on,
+        r.opening,
+        after_this,
+        telling_on,
         record {
-          told = r.told ++ next_told ∷ [];
-          first = first_on;
-          start = r.start;
-          knows = after_line.0;
-          at = after_line.1;
-          set = options_on old new runs.line a options.format options.seglets runs.runs ∙ r.set;
-          begins = r.begins;
-          run = run_on;
-          covers = covers_on old new runs.line a runs.runs now_stands;
-          stands = after_line.2;
-          used = numbers_on old new runs.line a runs.runs r.used;
-          later = unraised_on old new runs.line a runs.runs r.knows r.at r.stands r.used r.later;
-          may_begin = begins_on old new runs.line a runs.runs now_stands;
-          count = omega arith;
-          lines = line_there;
-          opening = r.opening;
-          telling = telling_on;
-          consumed = subst (Consumes had left) (sym (texts-more r.told next_told))
-              (Consumes-trans had mid left (texts_of r.told) (text ++ 10 ∷ []) r.consumed consumed);
-          printed = answers_on printed;
-        }
+          legal = legal_of new.node after_line.1.left after_line.0 after_line.2.node_of;
+          whole = after_line.2.made;
+        },
+      )
 
-    lines_are : (taken : List ℕ) → IsTakenLine text taken left
-        → AreLines (r.told ++ next_told ∷ []) (texts_of r.told ++ taken)
-    lines_are taken (inl e) = inl (ap (λ l. texts_of r.told ++ l) e ∙ sym (texts-more r.told next_told))
-    lines_are taken (inr e) = inr (r.told, next_told, refl, ap (λ l. texts_of r.told ++ l) e.0, e.1)
+      run_on : AreRunOn r.start (r.told ++ next_told ∷ []) new
+      run_on = runs_more r.start r.told old next_told new r.run runs.runs
 
-    -- a line was run, and no more
-    ends_here : (taken : List ℕ) (result : Result (Unit {0}) ScriptFault) → Consumes mid left taken
-        → EndsWith options (r.told ++ next_told ∷ []) (texts_of r.told ++ taken) left result
-        → Prints held holds (r.told ++ next_told ∷ []) result
-        → RunsScript options had left held holds result
-    ends_here taken result consumed ends prints = record {
-      told = r.told ++ next_told ∷ [];
+      line_there : All (IsScriptLine is_raw options.backups) (r.told ++ next_told ∷ [])
+      line_there = All-push (IsScriptLine is_raw options.backups) r.told next_told r.lines
+          (record {
+            whole = whole;
+            says = runs.says;
+            of_fleet = subst
+                (λ (n : ℕ). IsOfFleet n runs.line) fleet runs.of_fleet;
+          })
+
+      answers_on : Appends wrote holds (told_text is_raw a) → Appends held holds (answers_of is_raw (r.told ++ next_told ∷ []))
+      answers_on printed = subst (Appends held holds) (sym (answers-more r.told next_told))
+          (Appends-trans held wrote holds (answers_of is_raw r.told) (told_text is_raw a) r.printed printed)
+
+      -- one line more was run
+      runs_on : Consumes mid left (text ++ 10 ∷ []) → Appends wrote holds (told_text is_raw a)
+          → Running options new had left held holds (number + 1)
+      runs_on consumed printed =
+          let count = r.count in
+          let longer = length-append r.told (next_told ∷ []) in
+          record {
+            told = r.told ++ next_told ∷ [];
+            first = first_on;
+            start = r.start;
+            knows = after_line.0;
+            at = after_line.1;
+            set = options_on old new runs.line a options.format options.seglets runs.runs ∙ r.set;
+            begins = r.begins;
+            run = run_on;
+            covers = covers_on old new runs.line a runs.runs now_stands;
+            stands = after_line.2;
+            used = numbers_on old new runs.line a runs.runs r.used;
+            later = unraised_on old new runs.line a runs.runs r.knows r.at r.stands r.used r.later;
+            may_begin = begins_on old new runs.line a runs.runs now_stands;
+            count = omega arith;
+            lines = line_there;
+            opening = r.opening;
+            telling = telling_on;
+            consumed = subst (Consumes had left) (sym (texts-more r.told next_told))
+                (Consumes-trans had mid left (texts_of r.told) (text ++ 10 ∷ []) r.consumed consumed);
+            printed = answers_on printed;
+          }
+
+      lines_are : (taken : List ℕ) → IsTakenLine text taken left
+          → AreLines (r.told ++ next_told ∷ []) (texts_of r.told ++ taken)
+      lines_are taken (inl e) = inl (ap (λ l. texts_of r.told ++ l) e ∙ sym (texts-more r.told next_told))
+      lines_are taken (inr e) = inr (r.told, next_told, refl, ap (λ l. texts_of r.told ++ l) e.0, e.1)
+
+      -- a line was run, and no more
+      ends_here : (taken : List ℕ) (result : Result (Unit {0}) ScriptFault) → Consumes mid left taken
+          → EndsWith is_raw options (r.told ++ next_told ∷ []) (texts_of r.told ++ taken) left result
+          → Prints is_raw held holds (r.told ++ next_told ∷ []) result
+          → RunsScript is_raw options had left held holds result
+      ends_here taken result consumed ends prints = record {
+        told = r.told ++ next_told ∷ [];
+        taken = texts_of r.told ++ taken;
+        consumed = Consumes-trans had mid left (texts_of r.told) taken r.consumed consumed;
+        lines = line_there;
+        tells = tell_longer;
+        session = inr (record { first = r.start; last = new; begins = r.begins; run = run_on });
+        ends = ends;
+        prints = prints;
+      }
+
+      runs_last : Consumes mid left text → IsAtEnd left → 0 < length text → Appends wrote holds (told_text is_raw a)
+          → RunsScript is_raw options had left held holds (Ok tt)
+      runs_last consumed end some printed = ends_here text (Ok tt) consumed (lines_are text (inr (refl, some, end)), end)
+          (answers_on printed)
+
+      -- a front of the last answer was written
+      cut_on : AppendsFront wrote holds (told_text is_raw a) → CutsLast is_raw held holds (r.told ++ next_told ∷ [])
+      cut_on (front, rest, is, some) = (
+        r.told,
+        next_told,
+        front,
+        rest,
+        refl,
+        is,
+        Appends-trans held wrote holds (answers_of is_raw r.told) front r.printed some,
+      )
+
+      fails_to_write : (taken : List ℕ) → Consumes mid left taken → IsTakenLine text taken left
+          → AppendsFront wrote holds (told_text is_raw a)
+          → RunsScript is_raw options had left held holds (Err fault.WriteFailed)
+      fails_to_write taken consumed is front =
+          ends_here taken (Err fault.WriteFailed) consumed (inl (lines_are taken is)) (inr (cut_on front))
+
+    -- the lines were run, and no more
+    closes : (taken : List ℕ) (result : Result (Unit {0}) ScriptFault) → Consumes mid left taken
+        → EndsWith is_raw options r.told (texts_of r.told ++ taken) left result → Prints is_raw held holds r.told result
+        → RunsScript is_raw options had left held holds result
+    closes taken result consumed ends prints = record {
+      told = r.told;
       taken = texts_of r.told ++ taken;
       consumed = Consumes-trans had mid left (texts_of r.told) taken r.consumed consumed;
-      lines = line_there;
-      tells = tell_longer;
-      session = inr (record { first = r.start; last = new; begins = r.begins; run = run_on });
+      lines = r.lines;
+      tells = tell_so_far;
+      session = inr (record { first = r.start; last = old; begins = r.begins; run = r.run });
       ends = ends;
       prints = prints;
     }
 
-    runs_last : Consumes mid left text → IsAtEnd left → 0 < length text → Appends wrote holds (answer_text a)
-        → RunsScript options had left held holds (Ok tt)
-    runs_last consumed end some printed = ends_here text (Ok tt) consumed (lines_are text (inr (refl, some, end)), end)
-        (answers_on printed)
+    kept_answers : Keeps wrote holds → Appends held holds (answers_of is_raw r.told)
+    kept_answers kept = Appends-kept held wrote holds (answers_of is_raw r.told) r.printed kept
 
-    -- a front of the last answer was written
-    cut_on : AppendsFront wrote holds (answer_text a) → CutsLast held holds (r.told ++ next_told ∷ [])
-    cut_on (front, rest, is, some) = (
-      r.told,
-      next_told,
-      front,
-      rest,
+    runs_out : Consumes mid left [] → IsAtEnd left → Keeps wrote holds → RunsScript is_raw options had left held holds (Ok tt)
+    runs_out consumed end kept = closes [] (Ok tt) consumed (inl (append-nil (texts_of r.told)), end) (kept_answers kept)
+
+    bad_here : (n : ℕ) (bad : List ℕ) → n ≡ number → IsBadLine is_raw old number bad left → IsBadLine is_raw old n bad left
+    bad_here n bad is line = subst (λ (k : ℕ). IsBadLine is_raw old k bad left) (sym is) line
+
+    reason_here : (n : ℕ) (bad : List ℕ) (why : Reason) → n ≡ number → IsReasonFor is_raw old.options.backups number bad left why
+        → IsReasonFor is_raw options.backups n bad left why
+    reason_here n bad why is reason =
+        subst (λ (k : ℕ). IsReasonFor is_raw k n bad left why) fleet
+        (subst (λ (k : ℕ). IsReasonFor is_raw old.options.backups k bad left why) (sym is) reason)
+
+    pub fails : (new : Session) (f : ScriptFault) → TakesTurn is_raw old new number mid left wrote holds (Err f)
+        → RunsScript is_raw options had left held holds (Err f)
+    fails new (fault.BadLine n why) t =
+        closes t.1 (Err (fault.BadLine n why)) t.2 (
+          t.0 ∙ sym r.count,
+          t.1,
+          refl,
+          record { first = r.start; last = old; begins = r.begins; run = r.run },
+          bad_here n t.1 t.0 t.3,
+          reason_here n t.1 why t.0 t.5,
+        ) (kept_answers t.4)
+    fails new fault.ReadFailed t = closes t.0 (Err fault.ReadFailed) t.1 (t.0, refl, t.2) (kept_answers t.3)
+    fails new fault.WriteFailed (inl t) = fails_to_write new t.0 t.5 t.6 t.2 t.1 t.3 t.4 t.7
+    fails new fault.WriteFailed (inr t) =
+        closes t.0 (Err fault.WriteFailed) t.1 (inr (t.0, refl, t.2)) (inl (kept_answers t.3))
+    fails new fault.NoMemory t = closes t.0 (Err fault.NoMemory) t.1 (t.0, refl, t.2) (kept_answers t.3)
+
+    none_left : (new : Session) → TakesTurn is_raw old new number mid left wrote holds (Ok false)
+        → RunsScript is_raw options had left held holds (Ok tt)
+    none_left new (inl t) = runs_last new t.0 t.5.0 t.5.1 t.1 t.2 t.3 t.4 t.5.2
+    none_left new (inr t) = runs_out t.0 t.1 t.2
+
+    pub none_ran : (new : Session) (more : Bool) → more ≡ false → TakesTurn is_raw old new number mid left wrote holds (Ok more)
+        → RunsScript is_raw options had left held holds (Ok tt)
+    none_ran new more is t = none_left new (subst (λ (b : Bool). TakesTurn is_raw old new number mid left wrote
+        holds (Ok b)) is t)
+
+    pub more_ran : (new : Session) (more : Bool) → more ≡ true → TakesTurn is_raw old new number mid left wrote holds (Ok more)
+        → Running options new had left held holds (number + 1)
+    more_ran new more is t =
+        let ran : TakesTurn is_raw old new number mid left wrote holds (Ok true) =
+        subst (λ (b : Bool). TakesTurn is_raw old new number mid left wrote holds (Ok b)) is t in
+        runs_on new ran.0 ran.3.0 ran.3.1 ran.1 ran.2 ran.3.2
+
+  -- ---- behind the last number, and behind the last line
+
+  pub runs_dry : (options : Options) (old : Session) (had mid left held wrote holds : Option (List ℕ)) (number : ℕ)
+      → number ≡ 2 ^ 64 - 1 → (r : Running options old had mid held wrote number)
+      (result : Result (Unit {0}) ScriptFault) → IsNoMore is_raw mid left wrote holds result
+      → RunsScript is_raw options had left held holds result
+  runs_dry options old had mid left held wrote holds number is r (Ok done) n =
+      runs_out options old had mid left held wrote holds number r n.0 n.1 n.2
+  runs_dry options old had mid left held wrote holds number is r (Err (fault.BadLine n why)) none =
+      fails options old had mid left held wrote holds number r old (fault.BadLine n why) (
+        none.0 ∙ sym is,
+        none.1,
+        none.2,
+        subst (λ (k : ℕ). IsBadLine is_raw old k none.1 left) (none.0 ∙ sym is) (none.3 old),
+        none.4,
+        inr (inr (none.5, is)),
+      )
+  runs_dry options old had mid left held wrote holds number is r (Err fault.ReadFailed) none =
+      fails options old had mid left held wrote holds number r old fault.ReadFailed none
+  runs_dry options old had mid left held wrote holds number is r (Err fault.WriteFailed) none =
+      fails options old had mid left held wrote holds number r old fault.WriteFailed (inr none)
+  runs_dry options old had mid left held wrote holds number is r (Err fault.NoMemory) none =
+      fails options old had mid left held wrote holds number r old fault.NoMemory none
+
+  -- the writer was flushed
+  module _ (options : Options) (had left held wrote holds : Option (List ℕ)) (kept : Keeps wrote holds) where
+    pub flushes : (result : Result (Unit {0}) ScriptFault) → RunsScript is_raw options had left held wrote result
+        → RunsScript is_raw options had left held holds result
+    flushes result r = record {
+      told = r.told;
+      taken = r.taken;
+      consumed = r.consumed;
+      lines = r.lines;
+      tells = r.tells;
+      session = r.session;
+      ends = r.ends;
+      prints = flushed result r.prints;
+    } where
+      flushed : (result : Result (Unit {0}) ScriptFault) → Prints is_raw held wrote r.told result
+          → Prints is_raw held holds r.told result
+      flushed (Ok done) p = Appends-kept held wrote holds (answers_of is_raw r.told) p kept
+      flushed (Err (fault.BadLine n why)) p = Appends-kept held wrote holds (answers_of is_raw r.told) p kept
+      flushed (Err fault.ReadFailed) p = Appends-kept held wrote holds (answers_of is_raw r.told) p kept
+      flushed (Err fault.WriteFailed) (inl p) = inl (Appends-kept held wrote holds (answers_of is_raw r.told) p kept)
+      flushed (Err fault.WriteFailed) (inr (before, last, front, rest, told, text, p)) =
+          inr (
+            before,
+            last,
+            front,
+            rest,
+            told,
+            text,
+            Appends-kept held wrote holds (answers_of is_raw before ++ front) p kept,
+          )
+      flushed (Err fault.NoMemory) p = Appends-kept held wrote holds (answers_of is_raw r.told) p kept
+
+    pub fails_to_flush : (done : Unit {0}) → RunsScript is_raw options had left held wrote (Ok done)
+        → RunsScript is_raw options had left held holds (Err fault.WriteFailed)
+    fails_to_flush done r = record {
+      told = r.told;
+      taken = r.taken;
+      consumed = r.consumed;
+      lines = r.lines;
+      tells = r.tells;
+      session = r.session;
+      ends = inl r.ends.0;
+      prints = inl (Appends-kept held wrote holds (answers_of is_raw r.told) r.prints kept);
+    }
+
+  -- nothing was begun
+  pub begins_not : (options : Options) (had held : Option (List ℕ))
+      → RunsScript is_raw options had had held held (Err fault.NoMemory)
+  begins_not options had held = record {
+    told = [];
+    taken = [];
+    consumed = Consumes-nil had;
+    lines = All-nil (IsScriptLine is_raw options.backups);
+    tells = (
+      record { opening = empty_state; history = [] },
       refl,
-      is,
-      Appends-trans held wrote holds (answers_of r.told) front r.printed some,
-    )
-
-    fails_to_write : (taken : List ℕ) → Consumes mid left taken → IsTakenLine text taken left
-        → AppendsFront wrote holds (answer_text a)
-        → RunsScript options had left held holds (Err fault.WriteFailed)
-    fails_to_write taken consumed is front =
-        ends_here taken (Err fault.WriteFailed) consumed (inl (lines_are taken is)) (inr (cut_on front))
-
-  -- the lines were run, and no more
-  closes : (taken : List ℕ) (result : Result (Unit {0}) ScriptFault) → Consumes mid left taken
-      → EndsWith options r.told (texts_of r.told ++ taken) left result → Prints held holds r.told result
-      → RunsScript options had left held holds result
-  closes taken result consumed ends prints = record {
-    told = r.told;
-    taken = texts_of r.told ++ taken;
-    consumed = Consumes-trans had mid left (texts_of r.told) taken r.consumed consumed;
-    lines = r.lines;
-    tells = tell_so_far;
-    session = inr (record { first = r.start; last = old; begins = r.begins; run = r.run });
-    ends = ends;
-    prints = prints;
+      at_first (config_of options 1) (record { opening = empty_state; history = [] }),
+      refl,
+      record { legal = refl; whole = refl },
+    );
+    session = inl refl;
+    ends = ([], refl, omega arith);
+    prints = Appends-nil held;
   }
-
-  kept_answers : Keeps wrote holds → Appends held holds (answers_of r.told)
-  kept_answers kept = Appends-kept held wrote holds (answers_of r.told) r.printed kept
-
-  runs_out : Consumes mid left [] → IsAtEnd left → Keeps wrote holds → RunsScript options had left held holds (Ok tt)
-  runs_out consumed end kept = closes [] (Ok tt) consumed (inl (append-nil (texts_of r.told)), end) (kept_answers kept)
-
-  bad_here : (n : ℕ) (bad : List ℕ) → n ≡ number → IsBadLine old number bad left → IsBadLine old n bad left
-  bad_here n bad is line = subst (λ (k : ℕ). IsBadLine old k bad left) (sym is) line
-
-  reason_here : (n : ℕ) (bad : List ℕ) (why : Reason) → n ≡ number → IsReasonFor old.options.backups number bad left why
-      → IsReasonFor options.backups n bad left why
-  reason_here n bad why is reason =
-      subst (λ (k : ℕ). IsReasonFor k n bad left why) fleet
-      (subst (λ (k : ℕ). IsReasonFor old.options.backups k bad left why) (sym is) reason)
-
-  pub fails : (new : Session) (f : ScriptFault) → TakesTurn old new number mid left wrote holds (Err f)
-      → RunsScript options had left held holds (Err f)
-  fails new (fault.BadLine n why) t =
-      closes t.1 (Err (fault.BadLine n why)) t.2 (
-        t.0 ∙ sym r.count,
-        t.1,
-        refl,
-        record { first = r.start; last = old; begins = r.begins; run = r.run },
-        bad_here n t.1 t.0 t.3,
-        reason_here n t.1 why t.0 t.5,
-      ) (kept_answers t.4)
-  fails new fault.ReadFailed t = closes t.0 (Err fault.ReadFailed) t.1 (t.0, refl, t.2) (kept_answers t.3)
-  fails new fault.WriteFailed (inl t) = fails_to_write new t.0 t.5 t.6 t.2 t.1 t.3 t.4 t.7
-  fails new fault.WriteFailed (inr t) =
-      closes t.0 (Err fault.WriteFailed) t.1 (inr (t.0, refl, t.2)) (inl (kept_answers t.3))
-  fails new fault.NoMemory t = closes t.0 (Err fault.NoMemory) t.1 (t.0, refl, t.2) (kept_answers t.3)
-
-  none_left : (new : Session) → TakesTurn old new number mid left wrote holds (Ok false)
-      → RunsScript options had left held holds (Ok tt)
-  none_left new (inl t) = runs_last new t.0 t.5.0 t.5.1 t.1 t.2 t.3 t.4 t.5.2
-  none_left new (inr t) = runs_out t.0 t.1 t.2
-
-  pub none_ran : (new : Session) (more : Bool) → more ≡ false → TakesTurn old new number mid left wrote holds (Ok more)
-      → RunsScript options had left held holds (Ok tt)
-  none_ran new more is t = none_left new (subst (λ (b : Bool). TakesTurn old new number mid left wrote
-      holds (Ok b)) is t)
-
-  pub more_ran : (new : Session) (more : Bool) → more ≡ true → TakesTurn old new number mid left wrote holds (Ok more)
-      → Running options new had left held holds (number + 1)
-  more_ran new more is t =
-      let ran : TakesTurn old new number mid left wrote holds (Ok true) =
-      subst (λ (b : Bool). TakesTurn old new number mid left wrote holds (Ok b)) is t in
-      runs_on new ran.0 ran.3.0 ran.3.1 ran.1 ran.2 ran.3.2
-
--- ---- behind the last number, and behind the last line
-
-pub runs_dry : (options : Options) (old : Session) (had mid left held wrote holds : Option (List ℕ)) (number : ℕ)
-    → number ≡ 2 ^ 64 - 1 → (r : Running options old had mid held wrote number)
-    (result : Result (Unit {0}) ScriptFault) → IsNoMore mid left wrote holds result
-    → RunsScript options had left held holds result
-runs_dry options old had mid left held wrote holds number is r (Ok done) n =
-    runs_out options old had mid left held wrote holds number r n.0 n.1 n.2
-runs_dry options old had mid left held wrote holds number is r (Err (fault.BadLine n why)) none =
-    fails options old had mid left held wrote holds number r old (fault.BadLine n why) (
-      none.0 ∙ sym is,
-      none.1,
-      none.2,
-      subst (λ (k : ℕ). IsBadLine old k none.1 left) (none.0 ∙ sym is) (none.3 old),
-      none.4,
-      inr (inr (none.5, is)),
-    )
-runs_dry options old had mid left held wrote holds number is r (Err fault.ReadFailed) none =
-    fails options old had mid left held wrote holds number r old fault.ReadFailed none
-runs_dry options old had mid left held wrote holds number is r (Err fault.WriteFailed) none =
-    fails options old had mid left held wrote holds number r old fault.WriteFailed (inr none)
-runs_dry options old had mid left held wrote holds number is r (Err fault.NoMemory) none =
-    fails options old had mid left held wrote holds number r old fault.NoMemory none
-
--- the writer was flushed
-module _ (options : Options) (had left held wrote holds : Option (List ℕ)) (kept : Keeps wrote holds) where
-  pub flushes : (result : Result (Unit {0}) ScriptFault) → RunsScript options had left held wrote result
-      → RunsScript options had left held holds result
-  flushes result r = record {
-    told = r.told;
-    taken = r.taken;
-    consumed = r.consumed;
-    lines = r.lines;
-    tells = r.tells;
-    session = r.session;
-    ends = r.ends;
-    prints = flushed result r.prints;
-  } where
-    flushed : (result : Result (Unit {0}) ScriptFault) → Prints held wrote r.told result
-        → Prints held holds r.told result
-    flushed (Ok done) p = Appends-kept held wrote holds (answers_of r.told) p kept
-    flushed (Err (fault.BadLine n why)) p = Appends-kept held wrote holds (answers_of r.told) p kept
-    flushed (Err fault.ReadFailed) p = Appends-kept held wrote holds (answers_of r.told) p kept
-    flushed (Err fault.WriteFailed) (inl p) = inl (Appends-kept held wrote holds (answers_of r.told) p kept)
-    flushed (Err fault.WriteFailed) (inr (before, last, front, rest, told, text, p)) =
-        inr (
-          before,
-          last,
-          front,
-          rest,
-          told,
-          text,
-          Appends-kept held wrote holds (answers_of before ++ front) p kept,
-        )
-    flushed (Err fault.NoMemory) p = Appends-kept held wrote holds (answers_of r.told) p kept
-
-  pub fails_to_flush : (done : Unit {0}) → RunsScript options had left held wrote (Ok done)
-      → RunsScript options had left held holds (Err fault.WriteFailed)
-  fails_to_flush done r = record {
-    told = r.told;
-    taken = r.taken;
-    consumed = r.consumed;
-    lines = r.lines;
-    tells = r.tells;
-    session = r.session;
-    ends = inl r.ends.0;
-    prints = inl (Appends-kept held wrote holds (answers_of r.told) r.prints kept);
-  }
-
--- nothing was begun
-pub begins_not : (options : Options) (had held : Option (List ℕ))
-    → RunsScript options had had held held (Err fault.NoMemory)
-begins_not options had held = record {
-  told = [];
-  taken = [];
-  consumed = Consumes-nil had;
-  lines = All-nil (IsScriptLine options.backups);
-  tells = (
-    record { opening = empty_state; history = [] },
-    refl,
-    at_first (config_of options 1) (record { opening = empty_state; history = [] }),
-    refl,
-    record { legal = refl; whole = refl },
-  );
-  session = inl refl;
-  ends = ([], refl, omega arith);
-  prints = Appends-nil held;
-}

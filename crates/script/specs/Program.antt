@@ -1,5 +1,5 @@
 -- What the program does, from its words to its exit status.
-use Rattle.std.specs.Prelude.{◌≡◌, ◌⊎◌, ℕ, List, Option, Some, None, Ok, Err}
+use Rattle.std.specs.Prelude.{◌≡◌, ◌⊎◌, ℕ, Bool, List, Option, Some, None, Ok, Err}
 use Rattle.clap.specs.Words.{Row}
 use Rattle.command_line.specs.CommandLine.{HasOptions}
 use Rattle.command_line.specs.declared.settings.Options.{Options}
@@ -34,21 +34,21 @@ pub record IsMisuse (config : Config) (old new : Streams) (status : ℕ) : Type 
   pub unwritten : new.output ≡ old.output
   pub ends_with : status ≡ 2
 
--- The script was run under options whose configuration passes its check, or memory ran out. The end of the run is
+-- The script, with raw bytes or of words alone, was run under options whose configuration passes its check, or memory ran out. The end of the run is
 -- reported.
-pub record IsRunOf (options : Options) (old new : Streams) (status : ℕ) : Type 0 where
+pub record IsRunOf (is_raw : Bool) (options : Options) (old new : Streams) (status : ℕ) : Type 0 where
   pub result : RunResult
   pub checked : (config_fault (config_of options 1) ≡ None) ⊎ (result ≡ Err NoMemory)
-  pub run : RunsScript options old.input new.input old.output new.output result
+  pub run : RunsScript is_raw options old.input new.input old.output new.output result
   pub reported : IsReported result old.errors new.errors status
 
 -- what the program does with its options
-abbrev pub RunsOptions : Options → Streams → Streams → ℕ → Type 0
-RunsOptions options old new status =
-    IsMisuse (config_of options 1) old new status ⊎ IsRunOf options old new status
+abbrev pub RunsOptions : Bool → Options → Streams → Streams → ℕ → Type 0
+RunsOptions is_raw options old new status =
+    IsMisuse (config_of options 1) old new status ⊎ IsRunOf is_raw options old new status
 
 -- What the program does with the options that these matches of its words have. They may ask for the greatest limit of
 -- live bytes.
-abbrev pub RunsMatches : List Row → Streams → Streams → ℕ → Type 0
-RunsMatches rows old new status = (asked : Options) × HasOptions rows asked
-    × (options : Options) × SetsLimit asked options × RunsOptions options old new status
+abbrev pub RunsMatches : Bool → List Row → Streams → Streams → ℕ → Type 0
+RunsMatches is_raw rows old new status = (asked : Options) × HasOptions rows asked
+    × (options : Options) × SetsLimit asked options × RunsOptions is_raw options old new status

@@ -18,7 +18,8 @@ use std::sync::Wait;
 use std::thread::Threads;
 
 /// Runs the program: it reads the options from the words, does what they say, and answers the exit status. The first
-/// word is the program's name. A limit of live bytes of 0 stands for the greatest one.
+/// word is the program's name. A limit of live bytes of 0 stands for the greatest one. With `is_raw` keys and values are
+/// any bytes, each behind its length.
 ///
 /// The error is clap's. Nothing was read then, and nothing was written to either output: the caller prints the error's
 /// text. Its exit code is 2, or 0 if `--help` or `--version` was asked for.
@@ -26,12 +27,13 @@ pub fn run_program<'a, H: Threads + Wait + Sync, R: BufRead, W: Write, E: Write 
     rt: &H,
     alloc: Global,
     words: &'a [&'a str],
+    is_raw: bool,
     reader: &mut R,
     writer: &mut W,
     errors: &mut ErrorOutput<E>,
 ) -> Result<u8, Error>
     // The program does what the options say that clap finds in the words.
-    ensures ran { IfOk result (RunsMatches (ramlog_matches (texts words.entry.now))
+    ensures ran { IfOk result (RunsMatches is_raw (ramlog_matches (texts words.entry.now))
         (record { input = R.remaining reader.old; output = W.contents writer.old; errors = errors.old })
         (record { input = R.remaining reader.new; output = W.contents writer.new; errors = errors.new })) }
     // The words are refused only for a fault that clap finds in them, or because memory ran out.
@@ -43,7 +45,7 @@ pub fn run_program<'a, H: Threads + Wait + Sync, R: BufRead, W: Write, E: Write 
     match options(alloc, words) {
         Ok(options) => {
             let options = with_limit(&options);
-            Ok(run_options(rt, alloc, options, reader, writer, errors))
+            Ok(run_options(rt, alloc, options, is_raw, reader, writer, errors))
         }
         Err(error) => Err(error),
     }
@@ -54,11 +56,12 @@ pub fn run_options<H: Threads + Wait + Sync, R: BufRead, W: Write, E: Write + Dr
     rt: &H,
     alloc: Global,
     options: Options,
+    is_raw: bool,
     reader: &mut R,
     writer: &mut W,
     errors: &mut ErrorOutput<E>,
 ) -> u8
-    ensures { RunsOptions options
+    ensures { RunsOptions is_raw options
         (record { input = R.remaining reader.old; output = W.contents writer.old; errors = errors.old })
         (record { input = R.remaining reader.new; output = W.contents writer.new; errors = errors.new })
         result }
@@ -68,7 +71,7 @@ pub fn run_options<H: Threads + Wait + Sync, R: BufRead, W: Write, E: Write + Dr
     };
     match config.check() {
         Err(fault) => report_config(&config, fault, errors),
-        Ok(()) => match run_script(rt, alloc, reader, writer, options) {
+        Ok(()) => match run_script(rt, alloc, reader, writer, options, is_raw) {
             Ok(()) => 0,
             Err(fault) => report(&fault, errors),
         },

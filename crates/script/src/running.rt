@@ -3,7 +3,8 @@
 ghost use Rattle.std.specs.Prelude.{◌≡◌, None};
 ghost use Rattle.next_master.specs.master.master_state.Config.{config_fault};
 ghost use Rattle.command_line.specs.declared.settings.Options.{Options as OptionsValue};
-ghost use Rattle.lines.specs.Grammar.{IsLine, Says, shown_command, shown_line};
+ghost use Rattle.lines.specs.Grammar.{IsLine, shown_command, shown_line};
+ghost use Rattle.raw_lines.specs.Raw.{SaysIn};
 ghost use Rattle.lines.specs.Reading.{IsLineText};
 ghost use Rattle.next_master.specs.cluster.Told.{command_of};
 ghost use Rattle.next_master.specs.Configuration.{config_of};
@@ -16,32 +17,35 @@ ghost use Rattle.script.specs.Turns.{HasValue, IsNoMore, IsPrinted, PrintsText, 
 use crate::outcome::Outcome;
 use crate::session::{LineFault, Session};
 use command_line::Options;
-use lines::{CommandLine, Line, LineReader, ReadFault, Reason, Taken, one_line, parse_line};
-use next_master::answers::{Answer, ScriptFault, write_answer};
+use lines::{CommandLine, Line, LineReader, ReadFault, Reason, Taken};
+use next_master::answers::{Answer, ScriptFault};
 use next_master::cluster::Tried;
+use raw_answers::write_told;
+use raw_lines::{one_plain_line, parse_text};
 use std::alloc::Global;
 use std::io::{BufRead, Write};
 use std::sync::Wait;
 use std::thread::Threads;
 
 /// Runs the lines of the reader in order, up to the first bad line, and hands the answer of each to the writer. It
-/// flushes the writer before it waits for more lines.
+/// flushes the writer before it waits for more lines. With `is_raw` keys and values are any bytes, each behind its length.
 pub fn run_script<H: Threads + Wait + Sync, R: BufRead, W: Write>(
     rt: &H,
     alloc: Global,
     reader: &mut R,
     writer: &mut W,
     options: Options,
+    is_raw: bool,
 ) -> Result<(), ScriptFault>
     requires { config_fault (config_of options 1) ≡ None }
     // The lines tell of one legal life after another. Exactly their answers were written. A bad line is named.
-    ensures { RunsScript options (R.remaining reader.old) (R.remaining reader.new)
+    ensures { RunsScript is_raw options (R.remaining reader.old) (R.remaining reader.new)
         (W.contents writer.old) (W.contents writer.new) result }
 {
     let Ok(mut session) = Session::start(alloc, &options) else {
         return Err(ScriptFault::NoMemory);
     };
-    run_and_flush(rt, alloc, reader, writer, &mut session)
+    run_and_flush(rt, alloc, reader, writer, &mut session, is_raw)
 }
 
 /// Runs all lines on a session at its start, and flushes the writer.
@@ -51,13 +55,14 @@ fn run_and_flush<H: Threads + Wait + Sync, R: BufRead, W: Write>(
     reader: &mut R,
     writer: &mut W,
     session: &mut Session,
+    is_raw: bool,
 ) -> Result<(), ScriptFault>
     requires { (options : OptionsValue) × BeginsSession options session.old }
     ensures { (options : OptionsValue) → BeginsSession options session.old →
-        RunsScript options (R.remaining reader.old) (R.remaining reader.new)
+        RunsScript is_raw options (R.remaining reader.old) (R.remaining reader.new)
         (W.contents writer.old) (W.contents writer.new) result }
 {
-    let ran = run_lines(rt, alloc, reader, writer, session);
+    let ran = run_lines(rt, alloc, reader, writer, session, is_raw);
     let flushed = writer.flush();
     match ran {
         Ok(()) if flushed.is_err() => Err(ScriptFault::WriteFailed),
@@ -72,21 +77,22 @@ fn run_lines<H: Threads + Wait + Sync, R: BufRead, W: Write>(
     reader: &mut R,
     writer: &mut W,
     session: &mut Session,
+    is_raw: bool,
 ) -> Result<(), ScriptFault>
     requires { (options : OptionsValue) × BeginsSession options session.old }
     ensures { (options : OptionsValue) → BeginsSession options session.old →
-        RunsScript options (R.remaining reader.old) (R.remaining reader.new)
+        RunsScript is_raw options (R.remaining reader.old) (R.remaining reader.new)
         (W.contents writer.old) (W.contents writer.new) result }
 {
     let mut lines = LineReader::new(alloc);
     for number in 1..u64::MAX {
-        match run_next(rt, reader, writer, &mut lines, session, number) {
+        match run_next(rt, reader, writer, &mut lines, session, number, is_raw) {
             Ok(true) => {}
             Ok(false) => return Ok(()),
             Err(fault) => return Err(fault),
         }
     }
-    no_more(reader, writer, &mut lines)
+    no_more(reader, writer, &mut lines, is_raw)
 }
 
 /// Takes the next line, which has this number, and runs it. Answers whether more lines may come.
@@ -97,17 +103,18 @@ fn run_next<H: Threads + Wait + Sync, R: BufRead, W: Write>(
     lines: &mut LineReader,
     session: &mut Session,
     number: u64,
+    is_raw: bool,
 ) -> Result<bool, ScriptFault>
     requires stands { Stands session.old }
-    ensures { TakesTurn session.old session.new number (R.remaining reader.old) (R.remaining reader.new)
+    ensures { TakesTurn is_raw session.old session.new number (R.remaining reader.old) (R.remaining reader.new)
         (W.contents writer.old) (W.contents writer.new) result }
 {
-    match lines.next_line(reader, writer) {
-        Ok(Taken::Ended) => match run_text(rt, writer, session, lines.text(), number) {
+    match lines.next_line(reader, writer, is_raw) {
+        Ok(Taken::Ended) => match run_text(rt, writer, session, lines.text(), number, is_raw) {
             Ok(()) => Ok(true),
             Err(fault) => Err(fault),
         },
-        Ok(Taken::Last) => match run_text(rt, writer, session, lines.text(), number) {
+        Ok(Taken::Last) => match run_text(rt, writer, session, lines.text(), number, is_raw) {
             Ok(()) => Ok(false),
             Err(fault) => Err(fault),
         },
@@ -120,30 +127,32 @@ fn run_next<H: Threads + Wait + Sync, R: BufRead, W: Write>(
 }
 
 /// Runs the line of a text, and writes its answer. Behind that the master may forget.
+#[tactic(auto, using(crate::proofs::Commanding::line_in, crate::proofs::Commanding::value_in, crate::proofs::Commanding::has_no_command))]
 fn run_text<H: Threads + Wait + Sync, W: Write>(
     rt: &H,
     writer: &mut W,
     session: &mut Session,
     text: &[u8],
     number: u64,
+    is_raw: bool,
 ) -> Result<(), ScriptFault>
-    requires text { IsLineText text.now }
+    requires text { IsLineText is_raw text.now }
     requires stands { Stands session.old }
-    ensures { PrintsText session.old session.new text.now number
+    ensures { PrintsText is_raw session.old session.new text.now number
         (W.contents writer.old) (W.contents writer.new) result }
 {
-    let line = match parse_line(text) {
+    let line = match parse_text(text, is_raw) {
         Ok(line) => line,
         Err(reason) => return Err(ScriptFault::BadLine(number, reason)),
     };
     match line {
         Line::Command(command) => {
-            let printed = run_command(writer, session, command);
+            let printed = run_command(writer, session, command, is_raw);
             session.forget();
             printed
         }
         other => {
-            let printed = run_other(rt, writer, session, text, other, number);
+            let printed = run_other(rt, writer, session, text, other, number, is_raw);
             session.forget();
             printed
         }
@@ -157,21 +166,22 @@ fn run_command<W: Write>(
     writer: &mut W,
     session: &mut Session,
     line: CommandLine<'_>,
+    is_raw: bool,
 ) -> Result<(), ScriptFault>
     requires value { HasValue (shown_command line) }
     ensures { (answer : AnswerValue) × SessionAnswers session.old (shown_command line.entry) session.new answer
-        × IsPrinted (W.contents writer.old) (W.contents writer.new) answer result }
+        × IsPrinted is_raw (W.contents writer.old) (W.contents writer.new) answer result }
 {
     let steps = session.steps_behind(line);
     if steps > 0 {
-        return run_tended(writer, session, line, steps);
+        return run_tended(writer, session, line, steps, is_raw);
     }
     match session.serve(line) {
-        Tried::Replied(place) => match session.write_reply(place, writer) {
+        Tried::Replied(place) => match session.write_reply(place, writer, is_raw) {
             Ok(()) => Ok(()),
             Err(_) => Err(ScriptFault::WriteFailed),
         },
-        tried => finish_command(writer, session, line, tried),
+        tried => finish_command(writer, session, line, tried, is_raw),
     }
 }
 
@@ -182,14 +192,15 @@ fn run_tended<W: Write>(
     session: &mut Session,
     line: CommandLine<'_>,
     steps: u64,
+    is_raw: bool,
 ) -> Result<(), ScriptFault>
     requires value { HasValue (shown_command line) }
     requires tended { IsTended session.old (shown_command line) steps }
     ensures { (answer : AnswerValue) × SessionAnswers session.old (shown_command line.entry) session.new answer
-        × IsPrinted (W.contents writer.old) (W.contents writer.new) answer result }
+        × IsPrinted is_raw (W.contents writer.old) (W.contents writer.new) answer result }
 {
     let outcome = session.serve_tended(line, steps);
-    print(writer, session, &outcome)
+    print(writer, session, &outcome, is_raw)
 }
 
 /// Goes on with the line of a command that was tried, and writes its answer.
@@ -199,15 +210,16 @@ fn finish_command<W: Write>(
     session: &mut Session,
     line: CommandLine<'_>,
     tried: Tried,
+    is_raw: bool,
 ) -> Result<(), ScriptFault>
     requires value { HasValue (shown_command line) }
     requires tried { (first : SessionValue) × TriesCommand first (shown_command line) session.old tried }
     ensures { (first : SessionValue) → TriesCommand first (shown_command line.entry) session.old tried →
         (answer : AnswerValue) × SessionAnswers first (shown_command line.entry) session.new answer
-        × IsPrinted (W.contents writer.old) (W.contents writer.new) answer result }
+        × IsPrinted is_raw (W.contents writer.old) (W.contents writer.new) answer result }
 {
     let outcome = session.finish(line, tried);
-    print(writer, session, &outcome)
+    print(writer, session, &outcome, is_raw)
 }
 
 /// Runs the line of this text, which has no command, and writes its answer.
@@ -219,24 +231,25 @@ fn run_other<H: Threads + Wait + Sync, W: Write>(
     _text: &[u8],
     line: Line<'_>,
     number: u64,
+    is_raw: bool,
 ) -> Result<(), ScriptFault>
-    requires says { Says _text.now (shown_line line) }
+    requires says { SaysIn is_raw _text.now (shown_line line) }
     requires line { IsLine (shown_line line) }
     requires other { command_of (shown_line line) ≡ None }
     requires stands { Stands session.old }
-    ensures { (last : SessionValue) → Forgets session.new last → PrintsText session.old last _text.now number
+    ensures { (last : SessionValue) → Forgets session.new last → PrintsText is_raw session.old last _text.now number
         (W.contents writer.old) (W.contents writer.new) result }
 {
     let backups = session.backups();
     match session.run_any(rt, line) {
-        Ok(answer) => print_answer(writer, &answer),
+        Ok(answer) => print_answer(writer, &answer, is_raw),
         Err(LineFault::NoBackup) => {
             // This text is that of no other line.
-            one_line();
+            one_plain_line();
             Err(ScriptFault::BadLine(number, Reason::NoBackup(backups)))
         }
         Err(LineFault::NoLaterMaster) => {
-            one_line();
+            one_plain_line();
             Err(ScriptFault::BadLine(number, Reason::NoLaterMaster))
         }
         Err(LineFault::NoMemory) => Err(ScriptFault::NoMemory),
@@ -244,14 +257,19 @@ fn run_other<H: Threads + Wait + Sync, W: Write>(
 }
 
 /// Writes the answer that a line came to.
-fn print<W: Write>(writer: &mut W, session: &Session, outcome: &Outcome) -> Result<(), ScriptFault>
+fn print<W: Write>(
+    writer: &mut W,
+    session: &Session,
+    outcome: &Outcome,
+    is_raw: bool,
+) -> Result<(), ScriptFault>
     requires { (answer : AnswerValue) × IsPrintedAs session.now outcome.now answer }
     ensures { (answer : AnswerValue) → IsPrintedAs session.now outcome.now answer →
-        IsPrinted (W.contents writer.old) (W.contents writer.new) answer result }
+        IsPrinted is_raw (W.contents writer.old) (W.contents writer.new) answer result }
 {
     match outcome {
-        Outcome::Answered(answer) => print_answer(writer, answer),
-        Outcome::Replied(place) => match session.write_reply(*place, writer) {
+        Outcome::Answered(answer) => print_answer(writer, answer, is_raw),
+        Outcome::Replied(place) => match session.write_reply(*place, writer, is_raw) {
             Ok(()) => Ok(()),
             Err(_) => Err(ScriptFault::WriteFailed),
         },
@@ -259,10 +277,10 @@ fn print<W: Write>(writer: &mut W, session: &Session, outcome: &Outcome) -> Resu
 }
 
 /// Writes an answer.
-fn print_answer<W: Write>(writer: &mut W, answer: &Answer) -> Result<(), ScriptFault>
-    ensures { IsPrinted (W.contents writer.old) (W.contents writer.new) answer.now result }
+fn print_answer<W: Write>(writer: &mut W, answer: &Answer, is_raw: bool) -> Result<(), ScriptFault>
+    ensures { IsPrinted is_raw (W.contents writer.old) (W.contents writer.new) answer.now result }
 {
-    match write_answer(writer, answer) {
+    match write_told(writer, answer, is_raw) {
         Ok(()) => Ok(()),
         Err(_) => Err(ScriptFault::WriteFailed),
     }
@@ -273,11 +291,12 @@ fn no_more<R: BufRead, W: Write>(
     reader: &mut R,
     writer: &mut W,
     lines: &mut LineReader,
+    is_raw: bool,
 ) -> Result<(), ScriptFault>
-    ensures { IsNoMore (R.remaining reader.old) (R.remaining reader.new)
+    ensures { IsNoMore is_raw (R.remaining reader.old) (R.remaining reader.new)
         (W.contents writer.old) (W.contents writer.new) result }
 {
-    match lines.next_line(reader, writer) {
+    match lines.next_line(reader, writer, is_raw) {
         Ok(Taken::Nothing) => Ok(()),
         Ok(_) => Err(ScriptFault::BadLine(u64::MAX, Reason::TooMany)),
         Err(ReadFault::ReadFailed) => Err(ScriptFault::ReadFailed),

@@ -8,10 +8,11 @@ ghost use Rattle.versioned_map.specs.declared.command.Command.TheVariants as ask
 ghost use Rattle.versioned_map.specs.declared.command.Reply.{Reply as ReplyValue};
 ghost use Rattle.next_master.specs.answers.declared.answer.Answer.{Answer as AnswerValue};
 ghost use Rattle.next_master.specs.answers.Errors.{IsHanded};
-ghost use Rattle.next_master.specs.answers.Texts.{reply_text};
+ghost use Rattle.raw_answers.specs.Texts.{reply_in};
 ghost use Rattle.next_master.specs.cluster.Waits.{IsReplyAt};
 ghost use Rattle.lines.specs.Grammar.{Begin, Clean, Clients, Recover, IsLine, IsOrder, shown_command, shown_line};
 ghost use Rattle.lines.specs.Grammar.{Format, Needs, Seglets, Will as WillLine};
+ghost use Rattle.lines.specs.Keys.{IsKey};
 ghost use Rattle.lines.specs.Numbers.{numbers_of};
 ghost use Rattle.next_master.specs.master.master_state.Config.{config_fault};
 ghost use Rattle.next_master.specs.Configuration.{config_of, MayBegin};
@@ -149,14 +150,19 @@ impl Session {
         self.options.backups
     }
 
-    /// Writes the line of the reply that the record at this place of the history has.
+    /// Writes the line of the reply that the record at this place of the history has, with raw bytes or as words.
     #[inline(always)]
-    pub fn write_reply<W: Write>(&self, place: u64, writer: &mut W) -> Result<(), WriteFailed>
+    pub fn write_reply<W: Write>(
+        &self,
+        place: u64,
+        writer: &mut W,
+        is_raw: bool,
+    ) -> Result<(), WriteFailed>
         requires { (reply : ReplyValue) × IsReplyAt self.now.node place reply }
         ensures { (reply : ReplyValue) → IsReplyAt self.now.node place reply →
-            IsHanded (W.contents writer.old) (W.contents writer.new) (reply_text reply) result }
+            IsHanded (W.contents writer.old) (W.contents writer.new) (reply_in is_raw reply) result }
     {
-        self.node.write_reply(place, writer)
+        self.node.write_reply(place, writer, is_raw)
     }
 
     /// Runs one line that has no command. It is not inlined, since a command would then make room for the results of
@@ -482,10 +488,15 @@ fn line_command<'a>(line: CommandLine<'a>) -> CommandRef<'a>
 fn key_of<'a>(table: u64, word: KeyWord<'a>) -> KeyRef<'a>
     ensures { shown_key result ≡ record { table = table; bytes = word.entry.bytes.now } }
 {
-    KeyRef {
-        table,
-        bytes: word.bytes,
-    }
+    key_ref(table, word.bytes)
+}
+
+/// The key of a table with these bytes.
+fn key_ref<'a>(table: u64, bytes: &'a [u8]) -> KeyRef<'a>
+    requires { IsKey bytes.now }
+    ensures { shown_key result ≡ record { table = table; bytes = bytes.entry.now } }
+{
+    KeyRef { table, bytes }
 }
 
 fn put_command<'a>(table: u64, word: KeyWord<'a>, value: &'a [u8], when: If) -> CommandRef<'a>

@@ -43,7 +43,15 @@ fn is_run<H: Threads + Wait + Sync>(rt: &H, alloc: Global) -> bool {
     let mut script = SCRIPT;
     let mut written = Vec::new(alloc);
     let mut errors = ErrorOutput::new(Vec::new(alloc), true);
-    match run_program(rt, alloc, WORDS, &mut script, &mut written, &mut errors) {
+    match run_program(
+        rt,
+        alloc,
+        WORDS,
+        false,
+        &mut script,
+        &mut written,
+        &mut errors,
+    ) {
         Ok(status) => status == 0 && is_output(written.as_slice()),
         Err(_) => false,
     }

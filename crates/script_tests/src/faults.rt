@@ -140,7 +140,7 @@ fn end_of<H: Threads + Wait + Sync, R: BufRead, W: Write>(
     };
     match config.check() {
         Err(_) => None,
-        Ok(()) => Some(run_script(rt, alloc, reader, writer, options)),
+        Ok(()) => Some(run_script(rt, alloc, reader, writer, options, false)),
     }
 }
 

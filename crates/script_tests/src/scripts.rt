@@ -25,7 +25,7 @@ fn ends<H: Threads + Wait + Sync, R: BufRead, W: Write>(
     want: End,
 ) -> bool {
     let mut errors = ErrorOutput::new(Vec::new(alloc), true);
-    match run_program(rt, alloc, &["ramlog"], reader, writer, &mut errors) {
+    match run_program(rt, alloc, &["ramlog"], false, reader, writer, &mut errors) {
         Ok(status) => (errors.writer().as_slice(), status) == (want.0.as_bytes(), want.1),
         Err(_) => false,
     }
@@ -116,7 +116,15 @@ fn is_explained<H: Threads + Wait + Sync>(
 ) -> bool {
     let mut reader = script;
     let mut errors = ErrorOutput::new(Vec::new(alloc), true);
-    match run_program(rt, alloc, words, &mut reader, &mut io::sink(), &mut errors) {
+    match run_program(
+        rt,
+        alloc,
+        words,
+        false,
+        &mut reader,
+        &mut io::sink(),
+        &mut errors,
+    ) {
         Ok(_) => errors.writer().as_slice() == want.as_bytes(),
         Err(_) => false,
     }

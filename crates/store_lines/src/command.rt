@@ -1,5 +1,7 @@
 //! The command of a line.
 
+ghost use Rattle.lines.specs.Keys.{IsKey};
+
 use crate::fault::LineFault;
 use entry::{Key, KeyRef, MAX_VALUE_LEN, NoMemory, Row, Value};
 use lines::{CommandLine, KeyWord, Numbers};
@@ -39,11 +41,15 @@ fn put(
 }
 
 fn make_key(alloc: Global, table: u64, word: KeyWord<'_>) -> Result<Key, NoMemory> {
-    let key = KeyRef {
-        table,
-        bytes: word.bytes,
-    };
+    let key = key_ref(table, word.bytes);
     key.to_key(alloc)
+}
+
+/// The key of a table with these bytes.
+fn key_ref<'a>(table: u64, bytes: &'a [u8]) -> KeyRef<'a>
+    requires { IsKey bytes.now }
+{
+    KeyRef { table, bytes }
 }
 
 /// The numbers of a line, in memory of their own.

@@ -39,7 +39,10 @@ impl<I: BufRead + Drop, O: Write + Drop> Dialogue<I, O> {
             return false;
         }
         self.number = self.number.saturating_add(1);
-        match self.lines.next_line(&mut self.reader, &mut self.writer) {
+        match self
+            .lines
+            .next_line(&mut self.reader, &mut self.writer, false)
+        {
             Ok(Taken::Ended) => true,
             Ok(Taken::Last) => {
                 self.is_over = true;

@@ -11,7 +11,7 @@ returns-in_default g c =
     inr (record {
       result = _;
       checked = inr refl;
-      run = begins_not _ _ _;
+      run = begins_not c.args.is_raw _ _ _;
       reported = (c.report.ensures.lines, c.report.ensures.status);
     })
 

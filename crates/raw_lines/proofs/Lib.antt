@@ -1,0 +1,3 @@
+pub mod Behind
+pub mod Cuts
+pub mod OneLine
