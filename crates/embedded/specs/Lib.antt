@@ -2,6 +2,7 @@ pub mod Options
 pub mod Replies
 pub mod Tries
 pub mod Next
+pub mod Losses
 pub mod Lives
 pub mod Stores
 pub mod Survives

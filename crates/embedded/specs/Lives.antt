@@ -9,7 +9,6 @@ use Rattle.backup.specs.declared.fleet.MemoryFleet.{MemoryFleet}
 use Rattle.replica.specs.Picture.{AreHeld, FleetState}
 use Rattle.replica.specs.declared.holding.Holding.{Holding}
 use Rattle.versioned_map.specs.declared.command.Command.{Command}
-use Rattle.versioned_map.specs.declared.command.Command.TheVariants as asked
 use Rattle.versioned_map.specs.declared.command.Reply.{Reply as MapReply}
 use Rattle.versioned_map.specs.declared.command.Reply.TheVariants as said
 use Rattle.recovery.specs.Recovered.{IsSomePrefix}
@@ -24,6 +23,7 @@ use Rattle.recovery.specs.master.master_state.declared.config.Config.{Config}
 use Rattle.recovery.specs.master.master_state.declared.step.Refusal.{Refusal}
 use Rattle.recovery.specs.replay.Adopting.{IsAdopted, IsAdoptedOn}
 use Rattle.embedded.specs.declared.rescue.NotRecovered.{NotRecovered}
+use Rattle.embedded.specs.Losses.{IsWhy}
 use Rattle.embedded.specs.Options.{config_of}
 use Rattle.embedded.specs.Replies.{GoesOn, Means, kept_reply, no_master, too_big}
 use Rattle.embedded.specs.declared.life.Life.{Life}
@@ -140,11 +140,12 @@ abbrev pub StaysDown : MemoryFleet → Life → Type 0
 StaysDown old new = (left : MemoryFleet) × (new ≡ Down left) × (number : ℕ)
     × IsAdoptedOn number (fleet_state old) (fleet_state left)
 
--- What a recovery of the master with this number makes of a life. With a master nothing changed.
+-- What a recovery of the master with this number makes of a life. A refusal says why (*IsWhy*). With a master nothing
+-- changed.
 abbrev pub RecoversTo : Life → Options → ℕ → ℕ → Result ℕ NotRecovered → Life → Type 0
 RecoversTo (Down fleet) o master used (Ok number) new =
     IsRecovered (fleet_state fleet) o master used number new
-RecoversTo (Down fleet) o master used (Err e) new = StaysDown fleet new
+RecoversTo (Down fleet) o master used (Err e) new = StaysDown fleet new × IsWhy (fleet_state fleet) o master e
 RecoversTo old o master used (Ok number) new = ⊥
 RecoversTo old o master used (Err e) new = new ≡ old
 

@@ -37,6 +37,7 @@ stats_of d = record {
   records = length d.history - d.forgotten;
   durable = durable_of (log_of d);
   failover_left = left_now d;
+  failed = length d.failed;
   is_adoptable = is_limit (sizes_of d.config) d.config.largest d.live;
 }
 

@@ -22,7 +22,7 @@ mod upkeep;
 
 pub use backup::MemoryFleet;
 pub use carrying::carry_out;
-pub use laws::what_survives;
+pub use laws::{what_is_lost, what_survives};
 pub use life::Life;
 pub use options::Options;
 pub use recovery;

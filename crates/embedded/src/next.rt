@@ -1,7 +1,8 @@
 //! The number and the configuration of the next master.
 
-ghost use Rattle.std.specs.Prelude.{◌≡◌, ◌↔◌, suc, max, true, IfOk, IfSome, IsTrue};
+ghost use Rattle.std.specs.Prelude.{◌≡◌, ◌↔◌, suc, max, true, IfErr, IfOk, IfSome, IsTrue};
 ghost use Rattle.backup.specs.State.{fleet_state};
+ghost use Rattle.embedded.specs.Losses.{IsNoLoss};
 ghost use Rattle.embedded.specs.Next.{HasPlace, IsFit, MayBegin, greatest_of};
 
 use crate::options::{Options, configuration};
@@ -49,7 +50,8 @@ pub(crate) fn next_config(
     options: &Options,
     used: u64,
 ) -> Result<Config, NotRecovered>
-    ensures { IfOk result (MayBegin (fleet_state fleet.now) options.now used) }
+    ensures config { IfOk result (MayBegin (fleet_state fleet.now) options.now used) }
+    ensures refused { IfErr result IsNoLoss }
 {
     let Ok(inventory) = fleet.inventory(alloc) else {
         return Err(NotRecovered::NoMemory);

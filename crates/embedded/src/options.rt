@@ -1,6 +1,7 @@
 //! What a store is made with.
 
 ghost use Rattle.std.specs.Prelude.{◌≡◌, IfOk};
+ghost use Rattle.recovery.specs.Orders.{Covers};
 ghost use Rattle.embedded.specs.Options.{config_of, tables_to};
 
 use entry::{NoMemory, Tablet, Tablets};
@@ -98,7 +99,9 @@ pub(crate) fn configuration(
 }
 
 /// A will that is one partition over all tables.
-pub(crate) fn whole_will(alloc: Global, options: &Options) -> Result<Will, WillFault> {
+pub(crate) fn whole_will(alloc: Global, options: &Options) -> Result<Will, WillFault>
+    ensures { IfOk result (λ will. Covers (tables_to options.now.tables) will) }
+{
     let tablets = tables(alloc, options.tables)?;
     make_will(alloc, tablets.as_slice(), &[], u64::MAX, u64::MAX)
 }

@@ -1,9 +1,10 @@
 //! A recovery: from what a master left to the next one.
 
-ghost use Rattle.std.specs.Prelude.{◌≡◌, IfOk};
+ghost use Rattle.std.specs.Prelude.{◌≡◌, IfErr, IfOk};
 ghost use Rattle.backup.specs.State.{fleet_state};
 ghost use Rattle.backup.specs.declared.fleet.MemoryFleet.{MemoryFleet as FleetValue};
 ghost use Rattle.embedded.specs.Lives.{Adopts, Frees, IsFound, RecoversTo};
+ghost use Rattle.embedded.specs.Losses.{IsNoLoss, IsWhy};
 ghost use Rattle.embedded.specs.Next.{MayAdopt};
 ghost use Rattle.embedded.specs.declared.life.Life.TheVariants.{Down};
 
@@ -17,6 +18,7 @@ use recovery::{GroupOrder, Rebuilt, RecoveryFault, recover};
 use replica::Fleet;
 use std::alloc::Global;
 use std::mem::replace;
+use tablet_will::WillFault;
 
 /// Why there is no next master.
 #[derive(Drop)]
@@ -25,7 +27,8 @@ pub enum NotRecovered {
     Up,
     /// Memory ran out, and nothing changed.
     NoMemory,
-    /// Nothing could be rebuilt of what the backups hold. The fault names what is lost. Nothing changed.
+    /// Nothing could be rebuilt of what the backups hold. The fault names the head or the segment that is lost, or
+    /// says that memory ran out. Nothing changed.
     NotRebuilt(RecoveryFault),
     /// No number is left for a master. Nothing changed.
     NumbersSpent,
@@ -35,6 +38,18 @@ pub enum NotRecovered {
     Refused(Refusal),
 }
 
+impl NotRecovered {
+    /// Why there is no will.
+    fn of_will(fault: &WillFault) -> NotRecovered
+        ensures { IsNoLoss result }
+    {
+        match fault {
+            WillFault::NoMemory => NotRecovered::NoMemory,
+            _ => NotRecovered::OtherFleet,
+        }
+    }
+}
+
 /// Rebuilds the table of the master with this number from what the backups hold.
 fn find_table(
     alloc: Global,
@@ -42,13 +57,15 @@ fn find_table(
     options: &Options,
     master: u64,
 ) -> Result<Rebuilt, NotRecovered>
-    ensures { IfOk result (IsFound (fleet_state fleet.now) master) }
+    ensures found { IfOk result (IsFound (fleet_state fleet.now) master) }
+    ensures none { IfErr result (IsWhy (fleet_state fleet.now) options.now master) }
 {
     let Ok(inventory) = fleet.inventory(alloc) else {
         return Err(NotRecovered::NoMemory);
     };
-    let Ok(will) = whole_will(alloc, options) else {
-        return Err(NotRecovered::NoMemory);
+    let will = match whole_will(alloc, options) {
+        Ok(will) => will,
+        Err(fault) => return Err(NotRecovered::of_will(&fault)),
     };
     match recover(
         alloc,

@@ -66,6 +66,8 @@ pub struct Stats {
     pub durable: u64,
     /// How many pushes the failover of a backup still needs. It is 0 just if none is open.
     pub failover_left: u64,
+    /// How many backups failed since the master began. It goes on without them: a next master has all of them again.
+    pub failed: u64,
     /// Whether a next master surely has room for the table, whatever its objects are, if there are no more live
     /// bytes. A limit of live bytes in the options keeps this true.
     pub is_adoptable: bool,
@@ -159,6 +161,7 @@ impl Store {
             records: master.history().kept() as u64,
             durable: master.durable(),
             failover_left: master.failover_left(),
+            failed: master.failed(),
             is_adoptable: is_limit(
                 &master.config().sizes(),
                 master.config().largest,

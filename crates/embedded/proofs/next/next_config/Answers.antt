@@ -7,8 +7,8 @@ use Rattle.embedded.specs.Options.{config_of}
 use Rattle.embedded.proofs.Numbers.{next_unused}
 use Rattle.embedded.proofs.next.next_config.Goals as goal
 
-pub returns : goal.returns
-returns c =
+pub returns-clause-config : goal.returns-clause-config
+returns-clause-config c =
     let config = c.in-Ok-configuration.config in
     let is = c.in-Ok-configuration.ensures in
     let number : config.master ≡ c.in-Some.number = ap (λ (k : Config). k.master) is in
