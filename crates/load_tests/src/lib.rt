@@ -1,4 +1,4 @@
-//! Tests of what loads draw.
+//! Tests of what loads draw, and of how long calls took.
 #![tactic(auto)]
 
 ghost use Rattle.std.specs.Prelude.{◌<◌};
@@ -6,6 +6,7 @@ ghost use Rattle.std.specs.Prelude.{◌<◌};
 #[cfg(test)]
 mod tests {
     use load_keys::{Act, Keys, Load, Spread, Words, Zipf};
+    use load_report::Latencies;
     use std::alloc::Global;
 
     /// How often each test draws.
@@ -80,5 +81,25 @@ mod tests {
         assert!(rt; Load::D.act(94) == Act::Read);
         assert!(rt; Load::D.act(95) == Act::Insert);
         assert!(rt; Load::D.spread() == Spread::Latest);
+    }
+
+    /// The time that half of two calls don't exceed, if one took so long, and the other one second.
+    fn half(alloc: Global, nanos: u64) -> Option<u64> {
+        let Ok(mut latencies) = Latencies::new(alloc) else {
+            return None;
+        };
+        latencies.note(1_000_000_000);
+        latencies.note(nanos);
+        Some(latencies.percentile(5_000))
+    }
+
+    /// Times are at most one part in 32 too large.
+    #[test]
+    fn classes_are_narrow(rt: HostRuntime) {
+        assert!(rt; half(rt.alloc(), 0) == Some(0));
+        assert!(rt; half(rt.alloc(), 63) == Some(63));
+        assert!(rt; half(rt.alloc(), 64) == Some(65));
+        assert!(rt; half(rt.alloc(), 4_096) == Some(4_223));
+        assert!(rt; half(rt.alloc(), 999_999) == Some(1_015_807));
     }
 }

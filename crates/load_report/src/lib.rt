@@ -1,0 +1,13 @@
+//! What a load leaves behind: how long its calls took, and the lines of a trace.
+//!
+//! `Latencies` counts calls by how long they took, and answers percentiles that are at most one part in 32 above the
+//! true ones. `Lines` is text that is written word by word, as the lines of a trace that `bin/linearizable` reads.
+//!
+//! The crate stands on nothing.
+#![tactic(auto)]
+
+mod latencies;
+mod lines;
+
+pub use latencies::Latencies;
+pub use lines::Lines;
