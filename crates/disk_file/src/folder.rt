@@ -11,7 +11,7 @@ use crate::error::OpenError;
 use crate::history::Call;
 use crate::noted::Noted;
 use std::alloc::AllocError;
-use std::fs::{File, TryLockError};
+use std::fs::{File, TryLockError, read_dir, remove_file};
 use std::io;
 
 /// A folder that is locked: as long as it lives, no other process has it.
@@ -70,6 +70,24 @@ impl Folder {
         let bytes = noted.read_all(rt.alloc())?;
         let file = DiskFile::new(noted);
         Ok(Opened { bytes, file })
+    }
+
+    /// Removes a file, also from the disk. `Missing` if there is none.
+    pub fn remove_file(&self, rt: &HostRuntime, name: &str) -> Result<(), OpenError> {
+        let path = self.path_of(rt, name)?;
+        remove_file(rt, path.as_str())?;
+        self.file.sync_all()?;
+        Ok(())
+    }
+
+    /// Whether the name of a file or folder in it begins so. It reads all names, in any order.
+    pub fn has_name(&self, rt: &HostRuntime, front: &str) -> Result<bool, OpenError> {
+        for entry in read_dir(rt, self.path.as_str())? {
+            if entry?.file_name().starts_with(front) {
+                return Ok(true);
+            }
+        }
+        Ok(false)
     }
 
     /// Puts the name of a file on the disk, and then its bytes.

@@ -75,14 +75,14 @@ all_shown members ordered h = (
 
 -- ---- their order
 
-all_backups : (b : ℕ) (es : List ((ℕ × ℕ) × Replica)) → AllByRecursion (λ h. h.backup ≡ b) (map (holding_of b) es)
+pub all_backups : (b : ℕ) (es : List ((ℕ × ℕ) × Replica)) → AllByRecursion (λ h. h.backup ≡ b) (map (holding_of b) es)
 all_backups b [] = tt
 all_backups b (x ∷ xs) = (refl, all_backups b xs)
 
 later_backup : (x y : Holding) → x.backup < y.backup → holding_cmp x y ≡ Less
 later_backup x y later = rw (lt-ltb x.backup y.backup later) refl
 
-rising_append : (b : ℕ) (xs ys : List Holding) → AllByRecursion (λ h. h.backup ≡ b) xs
+pub rising_append : (b : ℕ) (xs ys : List Holding) → AllByRecursion (λ h. h.backup ≡ b) xs
     → AllByRecursion (λ h. suc b ≤ h.backup) ys → IsRising xs → IsRising ys → IsRising (xs ++ ys)
 unfolding IsStrictlySortedBy
 rising_append b [] ys here later front back = back

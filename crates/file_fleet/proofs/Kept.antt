@@ -114,7 +114,7 @@ module _ {D R : Type 0} (contents : D → List ℕ) (may_leave : D → List ℕ 
   }
 
   -- a backup that isn't out, under a journal that counts whole
-  under_whole : (span : Span) (i : Member D) → IsMember contents may_leave has_failed i → is_out i.backup ≡ false
+  pub under_whole : (span : Span) (i : Member D) → IsMember contents may_leave has_failed i → is_out i.backup ≡ false
       → span ≡ Whole → IsUnder may_leave span i
   under_whole span i member goes_on whole = record {
     whole = λ is. whole;

@@ -1,7 +1,7 @@
 mod Pictures
-mod Kept
+pub mod Kept
 mod States
-mod Held
+pub mod Held
 mod Others
 pub mod Inventory
 mod Records

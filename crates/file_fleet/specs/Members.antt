@@ -1,17 +1,18 @@
 -- The backups of a fleet, each with its file.
 use Rattle.std.specs.Prelude.{◌≡◌, ◌⊎◌, ℕ, ◌<◌, ◌==◌, Bool, true, false, List, length, Option, Some, None}
-use Rattle.std.specs.Prelude.{if◌then◌else◌}
+use Rattle.std.specs.Prelude.{⊤, if◌then◌else◌}
 use Rattle.std.specs.List.{slice_get}
 use Rattle.replica.specs.Op.{OpValue}
 use Rattle.replica.specs.Picture.{Picture, Replica, with_replica}
 use Rattle.replica.specs.Take.{effect, no_limit}
 use Rattle.take_journal.specs.Frames.{recovered}
 use Rattle.take_journal.specs.Journal.{device_of}
-use Rattle.file_backup.specs.Mirror.{IsBacked, is_out, journal_of, replicas_of}
+use Rattle.file_backup.specs.Mirror.{IsBacked, TellsFirst, TellsWhy, is_out, journal_of, replicas_of}
+use Rattle.file_backup.specs.declared.fault.BackupFault.{BackupFault}
 use Rattle.file_backup.specs.Replay.{Replicas}
 use Rattle.file_fleet.specs.Files.{Noted, ShowsUnder}
 use Rattle.file_fleet.specs.declared.registry.Span.{Span}
-use Rattle.file_fleet.specs.declared.registry.Span.TheVariants.{Whole}
+use Rattle.file_fleet.specs.declared.registry.Span.TheVariants.{First, Nothing, Whole}
 use Rattle.file_fleet.specs.declared.member.Member.{Member}
 use Rattle.file_fleet.specs.declared.members.Members.{Members}
 
@@ -77,6 +78,12 @@ pub record AreKept {D R : Type 0} (contents : D → List ℕ) (may_leave : D →
   pub each : (b : ℕ) (h : Member D) → slice_get members b ≡ Some h
       → IsMember contents may_leave has_failed h × IsUnder may_leave ((noted registry).span b) h
   pub named : (b : ℕ) (h : Member D) → slice_get members b ≡ Some h → (noted registry).file b ≡ h.id
+
+-- why a backup's file isn't opened of which so much counts
+abbrev pub TellsUnder : Span → BackupFault → List ℕ → Type 0
+TellsUnder Nothing fault file = ⊤
+TellsUnder Whole fault file = TellsWhy fault file
+TellsUnder (First n) fault file = TellsFirst n fault file
 
 -- the files show what the backups hold, unless the fleet is halted
 abbrev pub AreSafe : {D R : Type 0} → (D → List ℕ) → (D → List ℕ → Type 0) → (D → Bool) → (R → Noted) → (R → Type 0)

@@ -1,6 +1,6 @@
 //! One backup of a fleet.
 
-ghost use Rattle.std.specs.Prelude.{◌≡◌, ◌<◌, [], ◌∷◌, Err, OnErr, OnOk, length, None, Some, true, false, ℕ};
+ghost use Rattle.std.specs.Prelude.{◌≡◌, ◌<◌, [], ◌∷◌, Err, IfErr, OnErr, OnOk, length, None, Some, true, false, ℕ};
 ghost use Rattle.replica.specs.Op.{shown_op};
 ghost use Rattle.take_journal.specs.Crash.{HasVersion, LeftByMending};
 ghost use Rattle.take_journal.specs.Device.{AnyMoment, LeavesJust};
@@ -9,7 +9,7 @@ ghost use Rattle.take_journal.specs.Journal.{device_of, takes_more};
 ghost use Rattle.replica.specs.Take.{no_limit};
 ghost use Rattle.file_backup.specs.Mirror.{IsJournalOf, LeftByMaking, LeftByTake, is_out, journal_of};
 ghost use Rattle.file_backup.specs.Replay.{after_op};
-ghost use Rattle.file_fleet.specs.Members.{IsFresh, IsMember, IsUnder, device_at, replicas_at};
+ghost use Rattle.file_fleet.specs.Members.{IsFresh, IsMember, IsUnder, TellsUnder, device_at, replicas_at};
 ghost use Rattle.file_fleet.specs.Files.{ShowsUnder};
 ghost use Rattle.file_fleet.specs.declared.registry.Span.TheVariants.{First};
 
@@ -110,6 +110,9 @@ impl<D: Device> Member<D> {
         ensures under { OnOk result (IsUnder D.may_leave span self.new) }
         ensures id { self.new.id ≡ self.old.id }
 
+        // A file is named damaged only if no crash can have left it.
+        ensures refused { IfErr result (λ fault. TellsUnder span fault bytes.now) }
+
         // A crash at any moment of the call leaves a file of the same texts, which can be opened if this one can.
         ensures any_moment { AnyMoment D.clock D.left_since (LeftByMending bytes.now)
             (device_at self.old) (device_at self.new) }
@@ -132,6 +135,7 @@ impl<D: Device> Member<D> {
         ensures goes_on { OnOk result (is_out self.new.backup ≡ false) }
         ensures id { self.new.id ≡ self.old.id }
         ensures shows { OnOk result (ShowsUnder Span.Whole (replicas_at self.new) bytes.now) }
+        ensures refused { IfErr result (λ fault. TellsUnder Span.Whole fault bytes.now) }
         ensures any_moment { AnyMoment D.clock D.left_since (LeftByMending bytes.now)
             (device_at self.old) (device_at self.new) }
     {

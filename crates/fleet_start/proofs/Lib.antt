@@ -1,0 +1,5 @@
+pub mod Asked
+pub mod Begins
+pub mod Places
+pub mod Left
+pub mod Listing
