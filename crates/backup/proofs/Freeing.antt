@@ -36,7 +36,8 @@ after_freed a old new count is =
     let same : count ≡ new - old = omega (arith, is) in ap (λ (n : ℕ). after_takes n a) same
 
 -- the take that ended in the fault was counted, or its op was lost
-fault_takes : (t : Bool) (m f : FleetState) (n : ℕ) → n ≡ (unanswered f (if t then m else f)).takes → m.takes ≡ f.takes + 1
+fault_takes : (t : Bool) (m f : FleetState) (n : ℕ) → n ≡ (unanswered f (if t then m else f)).takes
+    → m.takes ≡ f.takes + 1
     → n + (if t then 0 else 1) ≡ f.takes + 1
 fault_takes true m f n is one = omega (arith, is, one)
 fault_takes false m f n is one = omega (arith, is)

@@ -120,7 +120,8 @@ some_held backups b x is ordered some = go x.replicas refl some
     go [] e more = absurd (omega (arith, more))
     go (k ∷ ks) e more =
         let among : IsAmong (holding_of b k) (holdings_of b x) =
-        subst (λ (rs : List ((ℕ × ℕ) × Replica)). IsAmong (holding_of b k) (map (holding_of b) rs)) (sym e) (inl refl) in
+        subst (λ (rs : List ((ℕ × ℕ) × Replica)). IsAmong (holding_of b k) (map (holding_of b) rs)) (sym e)
+        (inl refl) in
         let held = ((one_shown backups b x is ordered (holding_of b k)).0 among).1 in
         (k.0.0, k.0.1, subst (λ (r : Option Replica). IsSome r) (sym held) refl)
 

@@ -1,5 +1,6 @@
 -- The replicas of other masters among those that backups show.
-use Rattle.std.proofs.Common.{◌≡◌, ℕ, ◌+◌, ◌<◌, inl, inr, List, [], ◌∷◌, ◌++◌, map, true, zero, suc, length, length-append, get_or, arith}
+use Rattle.std.proofs.Common.{◌≡◌, ℕ, ◌+◌, ◌<◌, inl, inr, List, [], ◌∷◌, ◌++◌, map, true, zero, suc, length}
+use Rattle.std.proofs.Common.{length-append, get_or, arith}
 use Rattle.std.proofs.Common.{refl, sym, ap, subst, ◌∙◌}
 use Rattle.std.specs.Prelude.{filter, not, ◌==◌, Option, Some, None, IsSome}
 use Rattle.std.specs.List.{AllByRecursion}

@@ -179,7 +179,8 @@ impl MemoryFleet {
     /// Hands an op to a backup. It doesn't end in a fault, and nobody is answered yet.
     #[inline(always)]
     fn serve(&mut self, backup: u64, op: &Op<'_>) -> Result<(), TakeFault>
-        ensures serves { ServesUnanswered (fleet_state self.old) backup (shown_op op.now) result (fleet_state self.new) }
+        ensures serves { ServesUnanswered (fleet_state self.old) backup (shown_op op.now) result
+            (fleet_state self.new) }
         ensures asked { self.new.asked ≡ self.old.asked }
         ensures memory { result ≡ Err TakeFault.NoMemory → MayGrow (shown_act op.now.act) }
     {
@@ -319,8 +320,8 @@ impl Fleet for MemoryFleet {
 
     ghost state = { fleet_state };
 
-    /// Hands an op to a backup. Spent is answered before Wrong, and NoMemory only if the op fits, and never to a Close or
-    /// a Free. A take ends in a fault just if `fault_at` asked for that, and it wouldn't have been refused.
+    /// Hands an op to a backup. Spent is answered before Wrong, and NoMemory only if the op fits, and never to a Close
+    /// or a Free. A take ends in a fault just if `fault_at` asked for that, and it wouldn't have been refused.
     #[inline(always)]
     fn take(&mut self, backup: u64, op: &Op<'_>) -> Result<(), TakeFault>
         ensures gives { TakeGives (fleet_state self.old) backup (shown_op op.now) result (fleet_state self.new) }
@@ -344,8 +345,8 @@ impl Fleet for MemoryFleet {
         }
     }
 
-    /// Raises a master's least head. Spent is answered before NoMemory, which only the first raise of a master may be. It
-    /// ends in a fault just if `fault_at` asked for that, and it wouldn't have been refused.
+    /// Raises a master's least head. Spent is answered before NoMemory, which only the first raise of a master may be.
+    /// It ends in a fault just if `fault_at` asked for that, and it wouldn't have been refused.
     fn raise(&mut self, master: u64, id: u64) -> Result<(), TakeFault>
         ensures gives { RaiseGives (fleet_state self.old) master id result (fleet_state self.new) }
         ensures spent { (result ≡ Err TakeFault.Spent) ↔ ((fleet_state self.old).takes ≡ (fleet_state self.old).end) }

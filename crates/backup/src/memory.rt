@@ -18,7 +18,8 @@ use std::alloc::Global;
 /// How many freed replicas leave their memory for the next ones.
 const SPARES: usize = 8;
 
-/// A replica that is opened gets this much memory at first: the head that a pass commits stays short. A longer one moves.
+/// A replica that is opened gets this much memory at first: the head that a pass commits stays short. A longer one
+/// moves.
 const FIRST: usize = 16_384;
 
 /// The first of some memory that has so many bytes, and not many more.
@@ -86,8 +87,8 @@ impl MemoryBackup {
         }
     }
 
-    /// Memory for a replica that comes to so many bytes: that of a freed one that had about as much, if there is one. If
-    /// more is refused, it is what there is.
+    /// Memory for a replica that comes to so many bytes: that of a freed one that had about as much, if there is one.
+    /// If more is refused, it is what there is.
     fn room(&mut self, alloc: Global, len: usize) -> Vec<u8>
         ensures room { result.items ≡ [] }
         ensures same { self.new.replicas ≡ self.old.replicas }

@@ -11,5 +11,6 @@ after_failure call.Sync s = refl
 after_failure (call.Write at bytes) s = refl
 after_failure (call.Cut len) s = refl
 
-pub standing_failed : (asked : Call) (old new : List Event) → new ≡ outcome asked None ∷ old → standing new ≡ failed (standing old)
+pub standing_failed : (asked : Call) (old new : List Event) → new ≡ outcome asked None ∷ old
+    → standing new ≡ failed (standing old)
 standing_failed asked old new is = ap standing is ∙ after_failure asked (standing old)

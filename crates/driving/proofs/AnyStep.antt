@@ -5,7 +5,8 @@ use Rattle.std.specs.Prelude.{Result}
 use Rattle.master.specs.master_state.declared.step.Refusal.{Refusal}
 use Rattle.master.specs.master_state.declared.step.Refusal.TheVariants.{Spent}
 use Rattle.master.specs.master_state.declared.step.Step.{Step}
-use Rattle.master.specs.master_state.declared.step.Step.TheVariants.{Apply, Push, BeginRoll, Compact, BeginClean, Copy, Seal}
+use Rattle.master.specs.master_state.declared.step.Step.TheVariants.{Apply, Push, BeginRoll, Compact, BeginClean, Copy}
+use Rattle.master.specs.master_state.declared.step.Step.TheVariants.{Seal}
 use Rattle.master.specs.master_state.declared.step.Step.TheVariants.{Free}
 use Rattle.master.specs.master_state.declared.step.StepAnswer.{StepAnswer}
 use Rattle.master.specs.Keeps.{Keeps}

@@ -17,7 +17,8 @@ use Rattle.master.specs.master_rolls.Ends.{pass_left}
 use Rattle.master.specs.master_state.declared.config.Config.{Config}
 use Rattle.master.specs.master_state.declared.failover.Failover.{Failover}
 use Rattle.master.specs.master_state.declared.step.Step.{Step}
-use Rattle.master.specs.master_state.declared.step.Step.TheVariants.{Apply, Push, BeginRoll, Compact, BeginClean, Copy, Seal}
+use Rattle.master.specs.master_state.declared.step.Step.TheVariants.{Apply, Push, BeginRoll, Compact, BeginClean, Copy}
+use Rattle.master.specs.master_state.declared.step.Step.TheVariants.{Seal}
 use Rattle.master.specs.master_state.declared.step.Step.TheVariants.{Free}
 use Rattle.master.specs.master_state.declared.step.StepAnswer.{StepAnswer}
 use Rattle.master.specs.master_state.Budget.{is_ready, newest_digest}

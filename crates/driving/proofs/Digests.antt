@@ -30,7 +30,8 @@ use Rattle.master.specs.master_state.declared.failover.Failover.{Failover}
 use Rattle.master.specs.master_state.declared.failover.Part.{Part}
 use Rattle.master.specs.master_state.declared.failover.Part.TheVariants as part
 use Rattle.master.specs.master_state.declared.step.Step.{Step}
-use Rattle.master.specs.master_state.declared.step.Step.TheVariants.{Apply, Push, BeginRoll, Compact, BeginClean, Copy, Seal}
+use Rattle.master.specs.master_state.declared.step.Step.TheVariants.{Apply, Push, BeginRoll, Compact, BeginClean, Copy}
+use Rattle.master.specs.master_state.declared.step.Step.TheVariants.{Seal}
 use Rattle.master.specs.master_state.declared.step.Step.TheVariants.{Free}
 use Rattle.master.specs.master_state.Budget.{is_ready, survivors_of, victims_of}
 use Rattle.master.specs.master_state.Data.{MasterData}

@@ -10,7 +10,8 @@ use Rattle.master.specs.log_head.declared.head.Roll.{Roll}
 use Rattle.master.specs.log_head.declared.next.Next.{Next}
 use Rattle.master.specs.log_head.declared.next.Next.TheVariants as next
 use Rattle.master.specs.log_head.Head.{HeadValue, is_open}
-use Rattle.master.specs.log_head.Steps.{fresh_roll, in_force, with_closed_replica, with_new_replica, with_opened_replica}
+use Rattle.master.specs.log_head.Steps.{fresh_roll, in_force, with_closed_replica, with_new_replica}
+use Rattle.master.specs.log_head.Steps.{with_opened_replica}
 use Rattle.master.specs.log_laws.Heads.{Start}
 use Rattle.master.specs.master_failover.declared.mending.Mend.{Mend}
 use Rattle.master.specs.master_failover.declared.mending.Mend.TheVariants as mend

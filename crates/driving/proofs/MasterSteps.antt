@@ -20,7 +20,8 @@ use Rattle.master.specs.master_state.declared.step.Step.TheVariants.{Apply, Push
 use Rattle.master.specs.master_state.declared.step.StepAnswer.{StepAnswer}
 use Rattle.master.specs.master_state.declared.step.StepAnswer.TheVariants.{Applied}
 use Rattle.master.specs.master_state.Budget.{is_working}
-use Rattle.master.specs.master_state.Causes.{is_done, is_pushed, command_refusal, early_refusal, late_refusal, step_refusal}
+use Rattle.master.specs.master_state.Causes.{is_done, is_pushed, command_refusal, early_refusal, late_refusal}
+use Rattle.master.specs.master_state.Causes.{step_refusal}
 use Rattle.master.specs.master_state.Data.{MasterData}
 use Rattle.master.specs.master_state.Log.{log_of}
 use Rattle.master.specs.Keeps.{Keeps}

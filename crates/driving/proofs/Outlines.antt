@@ -11,7 +11,8 @@ use Rattle.master.specs.log_head.declared.next.Next.{Next}
 use Rattle.master.specs.log_head.declared.next.Next.TheVariants as next
 use Rattle.master.specs.log_head.Head.{HeadValue}
 use Rattle.master.specs.log_head.Steps.{fresh_head, lone_start}
-use Rattle.master.specs.log_head.Steps.{old_image, with_all_taken, with_closed_replica, with_new_replica, with_opened_replica}
+use Rattle.master.specs.log_head.Steps.{old_image, with_all_taken, with_closed_replica, with_new_replica}
+use Rattle.master.specs.log_head.Steps.{with_opened_replica}
 use Rattle.master.specs.log_head.Steps.{with_whole_replica}
 use Rattle.versioned_map.specs.declared.command.Record.{Record}
 use Rattle.master.specs.master_failover.declared.mending.Mend.{Mend}

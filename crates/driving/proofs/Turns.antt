@@ -8,7 +8,8 @@ use Rattle.std.specs.Option.{option_map, option_map_or}
 use Rattle.std.specs.Prelude.{Option, Some, None, IsSome, Result, Ok, is_none, is_some, not, ◌==◌, ◌&&◌}
 use Rattle.std.specs.Prelude.{if◌then◌else◌, unwrap_or}
 use Rattle.master.specs.cleaner.declared.pass.Pass.{Pass}
-use Rattle.master.specs.cleaner.Passes.{images_in, is_at_end, is_ready as is_ready_pass, next_seal as next_seal_of, rest_of}
+use Rattle.master.specs.cleaner.Passes.{images_in, is_at_end, is_ready as is_ready_pass, next_seal as next_seal_of}
+use Rattle.master.specs.cleaner.Passes.{rest_of}
 use Rattle.master.specs.cleaner.Passes.{survivor_ids}
 use Rattle.master.specs.cleaner.Seals.{first_lacking}
 use Rattle.master.specs.log_head.declared.head.Roll.{Roll}
@@ -27,7 +28,8 @@ use Rattle.master.specs.master_state.declared.failover.Failover.{Failover}
 use Rattle.master.specs.master_state.declared.step.Refusal.{Refusal}
 use Rattle.master.specs.master_state.declared.step.Refusal.TheVariants as refusal
 use Rattle.master.specs.master_state.declared.step.Step.{Step}
-use Rattle.master.specs.master_state.declared.step.Step.TheVariants.{Apply, Push, BeginRoll, Compact, BeginClean, Copy, Seal}
+use Rattle.master.specs.master_state.declared.step.Step.TheVariants.{Apply, Push, BeginRoll, Compact, BeginClean, Copy}
+use Rattle.master.specs.master_state.declared.step.Step.TheVariants.{Seal}
 use Rattle.master.specs.master_state.declared.step.Step.TheVariants.{Free}
 use Rattle.master.specs.master_state.declared.step.StepAnswer.{StepAnswer}
 use Rattle.master.specs.master_state.Causes.{copy_refusal}

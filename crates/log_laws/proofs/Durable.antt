@@ -2,7 +2,7 @@
 use Rattle.std.proofs.Common.{◌≡◌, ℕ, suc, ◌<◌, ◌≤◌, ◌⊎◌, inl, inr, Bool, true, false, cond, List, [], ◌∷◌, length, map}
 use Rattle.std.proofs.Common.{Some, refl, ap, subst, ◌∙◌, arith}
 use Rattle.std.specs.Prelude.{Option, None, slice_get, nat_lt}
-use Rattle.std.proofs.lemmas.Bool.{cases_lt}
+use Rattle.std.proofs.lemmas.Bool.{cases_lt, lt-ltb}
 use Rattle.std.proofs.lemmas.Bool.Decides.{nat_tests}
 use Rattle.std.proofs.lemmas.Option.{slice_get_within}
 use Rattle.entry.proofs.BagLemmas.{among_last, among_push}
@@ -57,9 +57,6 @@ without_none failed (b ∷ bs) each =
     ap (λ (t : Bool). cond t (without failed bs) (b ∷ without failed bs)) (each b (has_here b bs))
     ∙ ap (λ (l : List ℕ). b ∷ l) (without_none failed bs (λ c m. each c (has_there b c bs m)))
 
-pub passes : (m n : ℕ) → m < n → nat_lt m n ≡ true
-passes m n lt = grind (arith, nat_tests)
-
 -- ---- durable
 
 module _ (d : FailData) (p : Shown) (past : List TakenHead) (kept : IsKept d p)
@@ -87,7 +84,7 @@ module _ (d : FailData) (p : Shown) (past : List TakenHead) (kept : IsKept d p)
         let all = number_all (λ (b : ℕ). nat_lt place (d.counts b)) (d.took id) (λ c m.
         let le : everywhere d ≤ d.counts c = fewest_of (length us) d.counts (d.took id) c m in
         let near : place < d.counts c = omega arith in
-        passes place (d.counts c) near) in omega arith)
+        lt-ltb place (d.counts c) near) in omega arith)
   ]
 
   pub all_taken : AreTaken d past (durable_of d)

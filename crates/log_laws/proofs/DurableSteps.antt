@@ -1,5 +1,6 @@
 -- No event lowers the durable count.
 use Rattle.std.proofs.Common.{◌≡◌, ℕ, ◌≤◌, inl, inr, true, false, ◌∷◌, length, Some, refl, sym, ap, subst, ◌∙◌, arith}
+use Rattle.std.proofs.lemmas.Bool.{cases_Bool}
 use Rattle.log_laws.proofs.Counts.{before_le, before_rise}
 use Rattle.log_laws.specs.Shown.{Shown, Op, taken}
 use Rattle.log_laws.specs.Data.{Closes, FailData, new_of, is_failing, before, everywhere, taken_records}
@@ -10,7 +11,7 @@ use Rattle.log_laws.specs.Runs.{IsNext, World, Applies, Turns, TakesId, Ends, Me
 use Rattle.log_laws.specs.Runs.{DurableStays, DurableIsWithin}
 use Rattle.log_laws.proofs.Again.{recounted}
 use Rattle.log_laws.proofs.HeadOps.{extend_longer, everywhere_grows}
-use Rattle.log_laws.proofs.Lists.{both_ways, true_or_false}
+use Rattle.log_laws.proofs.Lists.{both_ways}
 use Rattle.log_laws.proofs.Opening.{everywhere_apart}
 use Rattle.log_laws.proofs.Applying.{records_grow}
 use Rattle.log_laws.proofs.States.{durable_taken}
@@ -20,7 +21,7 @@ use Rattle.log_laws.proofs.Rolling as rolls
 -- while no failover is open the count goes by what was taken, else it stays
 durable_from : (d e : FailData) → is_failing e.mode ≡ is_failing d.mode → e.frozen ≡ d.frozen
     → (is_failing d.mode ≡ false → taken_records d ≤ taken_records e) → durable_of d ≤ durable_of e
-durable_from d e same frozen grows = elim (true_or_false (is_failing d.mode)) as (λ _. durable_of d ≤ durable_of e) [
+durable_from d e same frozen grows = elim (cases_Bool (is_failing d.mode)) as (λ _. durable_of d ≤ durable_of e) [
   | inl fails ↦ (
       let old : durable_of d ≡ d.frozen = rw fails refl in
       let also : is_failing e.mode ≡ true = same ∙ fails in

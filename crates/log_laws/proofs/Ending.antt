@@ -2,7 +2,7 @@
 use Rattle.std.proofs.Common.{◌≡◌, ℕ, ◌<◌, ◌≤◌, ◌⊎◌, inl, inr, false, List, ◌++◌, length, Some, refl, sym, ap, subst}
 use Rattle.std.proofs.Common.{◌∙◌, arith}
 use Rattle.std.specs.Prelude.{None}
-use Rattle.std.proofs.lemmas.Bool.{cases_eq}
+use Rattle.std.proofs.lemmas.Bool.{cases_eq, cases_Bool}
 use Rattle.std.proofs.lemmas.List.{append-nil}
 use Rattle.std.proofs.lemmas.Option.{same_Some}
 use Rattle.entry.specs.declared.entry.Entry.{Entry}
@@ -20,16 +20,16 @@ use Rattle.log_laws.specs.Log.{Texts, IsLogged, IsHeadReplica, IsReplica, IsOthe
 use Rattle.log_laws.specs.Log.{IsStanding}
 use Rattle.log_laws.specs.Steps.{ended, EndsRoll, IsKnown}
 use Rattle.log_laws.specs.Laws.{EndingIsHeld, EndingIsStanding}
-use Rattle.log_laws.proofs.Lists.{both_ways, true_or_false, some_member, is_some}
+use Rattle.log_laws.proofs.Lists.{both_ways, some_member, is_some}
 use Rattle.log_laws.proofs.Replicas.{any_opening, any_whole, next_of, head_copy}
 use Rattle.log_laws.proofs.States.{after_all, take_none, third_is}
 
 -- a replica of the new head is on a backup that took it and hasn't failed
 pub known_new : (d : FailData) (p : Shown) → IsKnown d p → (n : Start) → new_of d.mode ≡ Some n → (b : ℕ) (r : Replica)
     → p.holds b n.id ≡ Some r → HasTaken d n.id b
-known_new d p known n new b r there = elim (true_or_false (has d.failed b)) as (λ _. HasTaken d n.id b) [
+known_new d p known n new b r there = elim (cases_Bool (has d.failed b)) as (λ _. HasTaken d n.id b) [
   | inl failed ↦ (let never : None ≡ Some r = sym (known.new b n failed new) ∙ there in absurd (cc))
-  | inr works ↦ elim (true_or_false (has (d.took n.id) b)) as (λ _. HasTaken d n.id b) [
+  | inr works ↦ elim (cases_Bool (has (d.took n.id) b)) as (λ _. HasTaken d n.id b) [
     | inl took ↦ took
     | inr away ↦ (let never : None ≡ Some r = sym (known.absent b n.id works away) ∙ there in absurd (cc))
   ]

@@ -2,6 +2,7 @@
 use Rattle.std.proofs.Common.{◌≡◌, ℕ, ◌≤◌, ◌⊎◌, inl, inr, true, false, length, Some, refl, sym, ap, subst, ◌∙◌, arith}
 use Rattle.std.specs.Prelude.{None}
 use Rattle.std.proofs.lemmas.Option.{same_Some}
+use Rattle.std.proofs.lemmas.Bool.{cases_Bool}
 use Rattle.entry.specs.Bag.{IsAmong}
 use Rattle.log_laws.specs.Ids.{has}
 use Rattle.log_laws.specs.Heads.{Start}
@@ -13,7 +14,7 @@ use Rattle.log_laws.specs.Data.{durable_of}
 use Rattle.log_laws.specs.Log.{Texts, IsLogged, IsReplica, IsOther, HoldsCopy, IsLeast, IsMirrored, IsStanding}
 use Rattle.log_laws.specs.Steps.{new_heads, failing, MayFail, mended, IsKnown}
 use Rattle.log_laws.specs.Laws.{FailingIsHeld, FailingIsStanding, MendedIsHeld, MendedIsStanding}
-use Rattle.log_laws.proofs.Lists.{true_or_false, has_fewer}
+use Rattle.log_laws.proofs.Lists.{has_fewer}
 use Rattle.log_laws.proofs.States.{settled_if}
 
 -- while no failover is open a new head is a roll's
@@ -152,9 +153,9 @@ module _ (d : FailData) (texts : Texts) (p : Shown) (log : IsLogged d texts) (mi
 
   -- a replica of the head is on a backup that took it
   known_head : (b : ℕ) (r : Replica) → p.holds b d.head.start.id ≡ Some r → HasTaken d d.head.start.id b
-  known_head b r there = elim (true_or_false (has d.failed b)) as (λ _. HasTaken d d.head.start.id b) [
+  known_head b r there = elim (cases_Bool (has d.failed b)) as (λ _. HasTaken d d.head.start.id b) [
     | inl failed ↦ (let never : None ≡ Some r = sym (known.head b failed repairs) ∙ there in absurd (cc))
-    | inr ok ↦ elim (true_or_false (has (d.took d.head.start.id) b)) as (λ _. HasTaken d d.head.start.id b) [
+    | inr ok ↦ elim (cases_Bool (has (d.took d.head.start.id) b)) as (λ _. HasTaken d d.head.start.id b) [
       | inl took ↦ took
       | inr away ↦ (let never : None ≡ Some r = sym (known.absent b d.head.start.id ok away) ∙ there in absurd (cc))
     ]

@@ -4,7 +4,7 @@ use Rattle.std.proofs.Common.{◌≡◌, ℕ, inl, inr, Bool, true, false, cond,
 use Rattle.std.proofs.Common.{ap, subst, ◌∙◌, arith}
 use Rattle.std.specs.Prelude.{Option, None, IsSome, ◌==◌, ◌&&◌}
 use Rattle.std.specs.Option.{option_map}
-use Rattle.std.proofs.lemmas.Bool.{cases_eq}
+use Rattle.std.proofs.lemmas.Bool.{cases_eq, cases_Bool}
 use Rattle.std.proofs.lemmas.Bool.Decides.{nat_tests}
 use Rattle.std.proofs.lemmas.Option.{same_Some}
 use Rattle.entry.specs.declared.entry.Entry.{Entry}
@@ -20,7 +20,7 @@ use Rattle.log_laws.specs.Laws.{Fits, ExtendsFits, OpensFits, ReplacesFits, Rais
 use Rattle.log_laws.specs.Laws.{SealsFits, FreesFits, FailingKnown}
 use Rattle.log_laws.proofs.Again.{recounted}
 use Rattle.log_laws.proofs.HeadOps.{extend_longer}
-use Rattle.log_laws.proofs.Lists.{both_ways, true_or_false, some_is, has_here, has_fewer, with_taken_same}
+use Rattle.log_laws.proofs.Lists.{both_ways, some_is, has_here, has_fewer, with_taken_same}
 use Rattle.log_laws.proofs.Lists.{taken_still, taken_either, count_same, count_other}
 use Rattle.log_laws.proofs.Pictures.{changed, unchanged, either}
 
@@ -102,7 +102,7 @@ module _ (d : FailData) (p : Shown) (known : IsKnown d p) (b s : ℕ) (x : Optio
 
 -- a backup that hasn't taken a segment after an op hadn't taken it before
 fewer_taken : (took : ℕ → List ℕ) (s b t c : ℕ) → has (with_taken took s b t) c ≡ false → has (took t) c ≡ false
-fewer_taken took s b t c away = elim (true_or_false (has (took t) c)) as (λ _. has (took t) c ≡ false) [
+fewer_taken took s b t c away = elim (cases_Bool (has (took t) c)) as (λ _. has (took t) c ≡ false) [
   | inl had ↦ absurd (both_ways (has (with_taken took s b t) c) (taken_still took s b t c had) away)
   | inr none ↦ none
 ]

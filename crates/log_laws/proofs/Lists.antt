@@ -2,7 +2,7 @@
 use Rattle.std.proofs.Common.{◌≡◌, ℕ, zero, suc, ◌+◌, ◌<◌, ◌≤◌, ◌⊎◌, inl, inr, Bool, true, false, cond, List, [], ◌∷◌}
 use Rattle.std.proofs.Common.{◌++◌, length, map, take, Some, refl, sym, ap, subst, ◌∙◌, arith}
 use Rattle.std.specs.Prelude.{Option, None, IsSome, ◌==◌, ◌||◌, nat_lt}
-use Rattle.std.proofs.lemmas.Bool.{cases_eq}
+use Rattle.std.proofs.lemmas.Bool.{cases_eq, cases_Bool}
 use Rattle.std.proofs.lemmas.Bool.Decides.{nat_tests}
 use Rattle.std.proofs.lemmas.List.{length-append}
 use Rattle.std.proofs.lemmas.Grind.{flat_map-append}
@@ -21,10 +21,6 @@ use Rattle.log_laws.specs.Steps.{with_taken, with_count}
 
 pub both_ways : (b : Bool) → b ≡ true → b ≡ false → ⊥
 both_ways b is isn't = let never : true ≡ false = sym is ∙ isn't in cc
-
-pub true_or_false : (b : Bool) → (b ≡ true) ⊎ (b ≡ false)
-true_or_false true = inl refl
-true_or_false false = inr refl
 
 pub has_here : (b : ℕ) (bs : List ℕ) → has (b ∷ bs) b ≡ true
 has_here b bs = let t : (b == b) ≡ true = grind (arith, nat_tests) in rw t refl
@@ -46,7 +42,7 @@ has_either b c bs is = elim (cases_eq c b) as (λ _. (c ≡ b) ⊎ (has bs c ≡
 
 -- one that isn't among more isn't among fewer
 pub has_fewer : (b c : ℕ) (bs : List ℕ) → has (b ∷ bs) c ≡ false → has bs c ≡ false
-has_fewer b c bs none = elim (true_or_false (has bs c)) as (λ _. has bs c ≡ false) [
+has_fewer b c bs none = elim (cases_Bool (has bs c)) as (λ _. has bs c ≡ false) [
   | inl there ↦ absurd (both_ways (has (b ∷ bs) c) (has_there b c bs there) none)
   | inr away ↦ away
 ]
@@ -180,9 +176,6 @@ count_within counts b n most le each c = elim (cases_eq c b) as (λ _. with_coun
       omega arith)
   | inr other ↦ (let is = count_other counts b n c other in let old = each c in omega arith)
 ]
-
-pub has_within : (m n : ℕ) → nat_lt m n ≡ true → m < n
-has_within m n is = grind (arith, nat_tests)
 
 -- one of those left is one of all, and hasn't failed
 pub without_has : (failed bs : List ℕ) (b : ℕ) → has (without failed bs) b ≡ true

@@ -2,7 +2,7 @@
 use Rattle.std.proofs.Common.{◌≡◌, ℕ, suc, ◌<◌, ◌≤◌, ◌⊎◌, inl, inr, Bool, true, false, cond, List, [], ◌∷◌, ◌++◌}
 use Rattle.std.proofs.Common.{length, Some, refl, sym, ap, subst, ◌∙◌, arith}
 use Rattle.std.specs.Prelude.{None, slice_get, nat_lt}
-use Rattle.std.proofs.lemmas.Bool.{cases_eq}
+use Rattle.std.proofs.lemmas.Bool.{cases_eq, lt-ltb, ltb-true}
 use Rattle.std.proofs.lemmas.List.{append-nil, map-append, length-map}
 use Rattle.std.proofs.lemmas.Grind.{flat_map-append}
 use Rattle.std.proofs.lemmas.Option.{same_Some, slice_get_within}
@@ -28,9 +28,9 @@ use Rattle.log_laws.specs.Runs.{IsNext}
 use Rattle.log_laws.specs.Steps.{with_taken, with_count, unit_now, applied, MayApply, rolling, IsRoll, ended}
 use Rattle.log_laws.specs.Steps.{EndsRoll, failing, mended, id_taken, IsFree}
 use Rattle.log_laws.proofs.Applying as commands
-use Rattle.log_laws.proofs.Durable.{number_all, passes}
+use Rattle.log_laws.proofs.Durable.{number_all}
 use Rattle.log_laws.proofs.LeftCounts.{number_fewer}
-use Rattle.log_laws.proofs.Lists.{with_taken_other, count_same, count_other, has_within, without_has}
+use Rattle.log_laws.proofs.Lists.{with_taken_other, count_same, count_other, without_has}
 use Rattle.log_laws.proofs.NewIds as ids
 use Rattle.log_laws.proofs.Rolling as rolls
 
@@ -117,8 +117,8 @@ next_past d e p o past kept is (inl op) =
       | inl same ↦ (
           let at : counts c ≡ op.to = ap counts same ∙ count_same d.counts op.b op.to in
           let was : d.counts c ≡ d.counts op.b = ap d.counts same in
-          let less : place < d.counts c = has_within place (d.counts c) before in
-          passes place (counts c) (omega arith))
+          let less : place < d.counts c = ltb-true place (d.counts c) before in
+          lt-ltb place (counts c) (omega arith))
       | inr other ↦ ap (nat_lt place) (count_other d.counts op.b op.to c other) ∙ before
     ]) in omega arith))
 next_past d e p o past kept is (inr (inl op)) =
@@ -138,7 +138,7 @@ next_past d e p o past kept is (inr (inl op)) =
           let all = number_all (λ (b : ℕ). nat_lt place (d.counts b)) (homes d id) (λ c m.
           let home = without_has d.failed (d.took id) c m in
           let whole = op.whole c home in
-          passes place (d.counts c) (omega arith)) in
+          lt-ltb place (d.counts c) (omega arith)) in
           let fewer = number_without (λ (b : ℕ). nat_lt place (d.counts b)) d.failed (d.took id) in
           let again = takers_again d.head (d.took id) (took id) d.counts place same in omega arith)
     ]))

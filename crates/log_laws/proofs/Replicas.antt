@@ -2,7 +2,7 @@
 use Rattle.std.proofs.Common.{◌≡◌, ℕ, ◌<◌, ◌≤◌, ◌⊎◌, inl, inr, true, false, ◌++◌, length, drop, Some, refl, sym, ap}
 use Rattle.std.proofs.Common.{subst, ◌∙◌, arith}
 use Rattle.std.specs.Prelude.{Option, IsSome, IfSome}
-use Rattle.std.proofs.lemmas.Bool.{cases_lt, cases_eq}
+use Rattle.std.proofs.lemmas.Bool.{cases_lt, cases_eq, cases_Bool}
 use Rattle.entry.specs.Bag.{IsAmong}
 use Rattle.log_laws.specs.Heads.{Start, digest_for, entries_of}
 use Rattle.log_laws.specs.Ids.{has}
@@ -13,7 +13,7 @@ use Rattle.log_laws.specs.Data.{everywhere}
 use Rattle.log_laws.specs.Log.{Texts, IsStart, IsLogged, IsCopy, IsCut, IsHeadReplica, IsReplica, HoldsCopy}
 use Rattle.log_laws.specs.Log.{IsMirrored}
 use Rattle.log_laws.proofs.Lengths.{listed_two}
-use Rattle.log_laws.proofs.Lists.{some_is, both_ways, true_or_false, front_shorter, fewest_of, fewest_units}
+use Rattle.log_laws.proofs.Lists.{some_is, both_ways, front_shorter, fewest_of, fewest_units}
 use Rattle.log_laws.proofs.States.{settled_if, front_rest}
 
 module _ (d : FailData) (texts : Texts) (log : IsLogged d texts) (least : ℕ) where
@@ -72,7 +72,7 @@ module _ (d : FailData) (texts : Texts) (log : IsLogged d texts) (least : ℕ) w
   -- under format 1 a replica of the head has all units then
   one_reach : AreWorking → AllWhole → (b : ℕ) (r : Replica) (is : IsHeadReplica d b r) → (d.config.format ≡ 2 → ⊥)
       → is.k < length d.head.units → ⊥
-  one_reach working all b r is one lt = elim (true_or_false (is_failing d.mode)) as (λ _. ⊥) [
+  one_reach working all b r is one lt = elim (cases_Bool (is_failing d.mode)) as (λ _. ⊥) [
     | inl fails ↦ one (log.two fails)
     | inr works ↦ elim is.reach as (λ _. ⊥) [
       | inl took ↦ (
@@ -89,7 +89,7 @@ module _ (d : FailData) (texts : Texts) (log : IsLogged d texts) (least : ℕ) w
         | inl lt ↦ elim (cases_eq d.config.format 2) as (λ _. IsCopy texts id r ⊎ IsCut d.config texts id r) [
           | inl two ↦ inr (record {
             two = two;
-            is_open = elim (true_or_false r.is_open) as (λ _. r.is_open ≡ true) [
+            is_open = elim (cases_Bool r.is_open) as (λ _. r.is_open ≡ true) [
               | inl opened ↦ opened
               | inr closed ↦ (let every = (is.shut closed).0 in absurd (omega arith))
             ];

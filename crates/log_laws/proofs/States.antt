@@ -4,6 +4,7 @@ use Rattle.std.proofs.Common.{subst, arith, drop, append_assoc}
 use Rattle.std.proofs.lemmas.List.{length-map, take_all, take-append-drop}
 use Rattle.std.proofs.lemmas.Grind.{flat_map-append}
 use Rattle.std.specs.Prelude.{Some, true, false}
+use Rattle.std.proofs.lemmas.Bool.{cases_Bool}
 use Rattle.entry.specs.declared.entry.Entry.{Entry}
 use Rattle.entry.specs.Meaning.{among}
 use Rattle.entry.proofs.BagLemmas.{among_left, among_right, among_either}
@@ -19,7 +20,6 @@ use Rattle.log_laws.specs.Data.{Mode, Calm, Rolls, Mends, Opens, Closes, Repairs
 use Rattle.log_laws.specs.Data.{is_failing, is_settled, Head, front_entries, FailData, front, state_after}
 use Rattle.log_laws.specs.Data.{state_of, taken_records, durable_of}
 use Rattle.log_laws.specs.Log.{Texts, IsBase, AreOfTablets, IsLogged, IsStanding}
-use Rattle.log_laws.proofs.Lists.{true_or_false}
 
 -- all records that there are
 pub after_all : (d : FailData) → state_after d (length d.history) ≡ state_of d
@@ -85,7 +85,7 @@ present_stands d texts standing base at =
 
 -- what is durable all backups of the head took
 pub durable_taken : (d : FailData) (texts : Texts) → IsStanding d texts → durable_of d ≤ taken_records d
-durable_taken d texts standing = elim (true_or_false (is_failing d.mode)) as (λ _. durable_of d ≤ taken_records d) [
+durable_taken d texts standing = elim (cases_Bool (is_failing d.mode)) as (λ _. durable_of d ≤ taken_records d) [
   | inl fails ↦ (
       let old : durable_of d ≡ d.frozen = rw fails refl in let le = standing.frozen fails in omega arith)
   | inr works ↦ (let old : durable_of d ≡ taken_records d = rw works refl in omega arith)

@@ -3,7 +3,7 @@ use Rattle.std.proofs.Common.{◌≡◌, ℕ, suc, ◌<◌, ◌≤◌, ◌⊎◌
 use Rattle.std.proofs.Common.{length, map, Some, refl, sym, ap, subst, ◌∙◌, arith}
 use Rattle.std.specs.Prelude.{Option, None, IsSome, IsSomeAnd, ◌&&◌, nat_lt, not}
 use Rattle.std.specs.List.{AllByRecursion}
-use Rattle.std.proofs.lemmas.Bool.{cases_lt, cases_eq}
+use Rattle.std.proofs.lemmas.Bool.{cases_lt, cases_eq, cases_Bool, and_parts, and_from}
 use Rattle.std.proofs.lemmas.Bool.Decides.{nat_tests}
 use Rattle.entry.specs.Bag.{IsAmong}
 use Rattle.entry.specs.Text.{Opening, listed_ids}
@@ -19,7 +19,7 @@ use Rattle.log_laws.specs.Log.{Texts, IsStart, IsLogged, IsCopy, NewIsOpened, Is
 use Rattle.log_laws.specs.Log.{IsMirrored}
 use Rattle.log_laws.specs.Sound.{IsOpenedHead, IsSurvivingChoice}
 use Rattle.log_laws.proofs.Lengths.{long_enough}
-use Rattle.log_laws.proofs.Lists.{true_or_false, some_is, is_some, some_member}
+use Rattle.log_laws.proofs.Lists.{some_is, is_some, some_member}
 use Rattle.log_laws.proofs.Replicas.{any_opening, bearing, Bearing, head_copy, next_of}
 use Rattle.log_laws.proofs.Newest.{any_below, any_found, any_there, greatest_below}
 use Rattle.log_laws.proofs.Choices.{held_by}
@@ -54,13 +54,6 @@ opens_is (Some r) is = go r.text.opening is where
   go None is = absurd (cc)
   go (Some o) is = refl
 
-both_true : (x y : Bool) → (x && y) ≡ true → (x ≡ true) × (y ≡ true)
-both_true true y is = (refl, is)
-both_true false y is = absurd (cc)
-
-make_true : (x y : Bool) → x ≡ true → y ≡ true → (x && y) ≡ true
-make_true x y one two = rw (one, two) refl
-
 not_less : (t least : ℕ) → not (nat_lt t least) ≡ true → least ≤ t
 not_less t least is = grind (arith, nat_tests)
 
@@ -74,19 +67,19 @@ module _ (d : FailData) (texts : Texts) (p : Shown) (some : 0 < d.config.replica
 
   left_given : (t : ℕ) → is_left p keep d.config.backups t ≡ true → IsHeadLeft p keep t
   left_given t is =
-      let parts = both_true (not (nat_lt t p.least)) (any_below (λ b. keep b && opens (p.holds b t)) d.config.backups)
+      let parts = and_parts (not (nat_lt t p.least)) (any_below (λ b. keep b && opens (p.holds b t)) d.config.backups)
       is in
       let at = any_found (λ b. keep b && opens (p.holds b t)) d.config.backups parts.1 in
-      let two = both_true (keep at.0) (opens (p.holds at.0 t)) at.2 in
+      let two = and_parts (keep at.0) (opens (p.holds at.0 t)) at.2 in
       (at.0, two.0, record { bears = opens_given (p.holds at.0 t) two.1; usable = not_less t p.least parts.0 })
 
   left_is : (t : ℕ) → IsHeadLeft p keep t → is_left p keep d.config.backups t ≡ true
   left_is t (b, is_kept, head) =
       let given = some_given (p.holds b t) (λ (r : Replica). IsSome r.text.opening) head.bears in
-      make_true (not (nat_lt t p.least)) (any_below (λ c. keep c && opens (p.holds c t)) d.config.backups)
+      and_from (not (nat_lt t p.least)) (any_below (λ c. keep c && opens (p.holds c t)) d.config.backups)
       (less_not t p.least head.usable)
       (any_there (λ c. keep c && opens (p.holds c t)) d.config.backups b (mir.bounded b t given.0 given.1)
-      (make_true (keep b) (opens (p.holds b t)) is_kept (opens_is (p.holds b t) head.bears)))
+      (and_from (keep b) (opens (p.holds b t)) is_kept (opens_is (p.holds b t) head.bears)))
 
   -- what a head that is held is
   abbrev At : ℕ → ℕ → Type 0
@@ -369,7 +362,7 @@ module _ (d : FailData) (texts : Texts) (p : Shown) (some : 0 < d.config.replica
       elim what.2 as (λ _. HeadFound) [
         | inl head ↦ (
             let same = head.0 in
-            elim (true_or_false what.0.is_open) as (λ _. HeadFound) [
+            elim (cases_Bool what.0.is_open) as (λ _. HeadFound) [
               | inl opened ↦ old_found left.0 what.0 head.1 left.1
                   (subst (λ (t : ℕ). p.holds left.0 t ≡ Some what.0) same what.1) opened (omega arith)
                   (λ t l. let le = newest t l in omega arith)

@@ -245,9 +245,10 @@ const RUNS: &[&[Call]] = &[
     COMPARED,
 ];
 
-/// A take for the second put ends in a fault of backup 2, and the master goes on without it. The head's other replica gets
-/// the put, and its lost one is replaced. Head 3 is opened on both backups that are left, the registry is raised to it, head 2
-/// is closed, and segment 1 is sealed anew. Until then no unit is taken, and no further record is durable.
+/// A take for the second put ends in a fault of backup 2, and the master goes on without it. The head's other replica
+/// gets the put, and its lost one is replaced. Head 3 is opened on both backups that are left, the registry is raised
+/// to it, head 2 is closed, and segment 1 is sealed anew. Until then no unit is taken, and no further record is
+/// durable.
 const FAILOVER: &[Call] = &[
     Call::Run(&[
         Push(2),

@@ -60,7 +60,8 @@ module _ (start stop : World) (steps : List Step) (kept : List ℕ) (will : List
   sound_left : IsSoundInBytes start.knows.config.master (log_of stop.knows) shown_last
   sound_left = subst (λ (n : ℕ). IsSoundInBytes n (log_of stop.knows) shown_last) of_master valid.sound
 
-  newest_left : IsNewestOpenedOrNone (IsOpenedHead (log_of stop.knows) start.knows.config.master shown_last) shown_last.least
+  newest_left : IsNewestOpenedOrNone (IsOpenedHead (log_of stop.knows) start.knows.config.master shown_last)
+      shown_last.least
       (newest_opened (log_of stop.knows))
   newest_left =
       subst (λ (n : ℕ). IsNewestOpenedOrNone (IsOpenedHead (log_of stop.knows) n shown_last) shown_last.least

@@ -50,7 +50,8 @@ origin_keeps old new (s ∷ ss) (a ∷ rest) run = origin_keeps run.0 new ss res
 
 -- ---- once nothing waits
 
-nothing_waits : (halted done : Bool) → (if halted then Some refusal.Halted else if done then Some refusal.Nothing else None)
+nothing_waits : (halted done : Bool) → (if halted then Some refusal.Halted else if done then Some refusal.Nothing else
+    None)
     ≡ Some refusal.Nothing → done ≡ true
 nothing_waits true done is = absurd (cc)
 nothing_waits false true is = refl

@@ -22,7 +22,8 @@ use Rattle.driving.specs.Rolls.{Advances, ArePushed, PushesUntil, GoesRolling, I
 use Rattle.driving.proofs.Losses.{push_lost}
 use Rattle.driving.proofs.MasterSteps.{nothing_waits}
 use Rattle.driving.proofs.Ops.{failed_counts, op_counts}
-use Rattle.replay.specs.Adopting.{HasRoomMade, LoadsOne, HasLoaded, LoadsAll, DeclinesOne, IsStuck, Stops, IsAdoptedOn, live_with}
+use Rattle.replay.specs.Adopting.{HasRoomMade, LoadsOne, HasLoaded, LoadsAll, DeclinesOne, IsStuck, Stops, IsAdoptedOn}
+use Rattle.replay.specs.Adopting.{live_with}
 use Rattle.driving.specs.master_core.master_state.Live.{object_bytes, with_bytes}
 
 -- ---- the fleet

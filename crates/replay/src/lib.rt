@@ -1,8 +1,8 @@
 //! A master that goes on with what a log stands for.
 //!
 //! `adopt` makes such a master from a rebuilt list, under a number that has no replicas. `seglets_needed` says how much
-//! memory that takes. The crates below (`claims`, `partition_replay`, `rebuilding`, `rebuild_threads`) say what a log is
-//! rebuilt to, and by which calls. This crate exports their names, too.
+//! memory that takes. The crates below (`claims`, `partition_replay`, `rebuilding`, `rebuild_threads`) say what a log
+//! is rebuilt to, and by which calls. This crate exports their names, too.
 #![tactic(auto)]
 
 mod adopting;

@@ -7,6 +7,7 @@ use Rattle.std.proofs.lemmas.Bool.Decides.{nat_tests}
 use Rattle.std.proofs.lemmas.List.Sums.{sum_by-append}
 use Rattle.std.proofs.lemmas.Option.{same_Some}
 use Rattle.std.proofs.Math.Seq.{drop-append_seam}
+use Rattle.std.proofs.lemmas.Bool.{cases_lt}
 use Rattle.entry.proofs.ListLemmas.{slice_get_left, slice_get_last}
 use Rattle.versioned_map.specs.declared.command.Record.{Record}
 use Rattle.counted_calls.specs.master.master_state.Data.{MasterData}
@@ -18,11 +19,6 @@ use Rattle.store_clients.specs.declared.client.Client.{Client}
 use Rattle.store_clients.specs.Clients.{Matches, IsClient, HasMade, IsSeatOf}
 use Rattle.store_clients.specs.Workloads.{HasServed, IsBack}
 use Rattle.store_clients.proofs.Matching.{matches_both}
-
-lt_or : (a b : ℕ) → (a < b) ⊎ (b ≤ a)
-lt_or a zero = inr (omega arith)
-lt_or zero (suc b) = inl (omega arith)
-lt_or (suc a) (suc b) = ⊎_elim (λ l. inl (omega (arith, l))) (λ l. inr (omega (arith, l))) (lt_or a b)
 
 -- ---- places of lists
 
@@ -89,7 +85,7 @@ fresh_at first (suc n) k l = ⊎_elim
     let e : k ≡ n = omega (arith, from, l) in
     ap (slice_get (fresh_seats first n ++ fresh_seat first n ∷ [])) (e ∙ sym (fresh_length first n))
     ∙ slice_get_last (fresh_seats first n) (fresh_seat first n) ∙ ap (λ i. Some (fresh_seat first i)) (sym e))
-    (lt_or k n)
+    (cases_lt k n)
 
 -- ---- counts
 
@@ -106,8 +102,8 @@ none_of n k (r ∷ rs) all from =
     let one : count_of k (r ∷ []) ≡ 0 = grind (arith, nat_tests) in
     omega (arith, both, one, rest)
 
--- The seats are those of a new store over the old history. Behind the first are the clients', which served, and all came
--- back known.
+-- The seats are those of a new store over the old history. Behind the first are the clients', which served, and all
+-- came back known.
 module _ (clients rounds first start : ℕ) (old more : List Record) (d : MasterData) (is : d.history ≡ old ++ more)
     (begun : start ≡ length old)
     (seats served final : List SeatValue) (fit : clients < 64) (fresh : seats ≡ fresh_seats first 64)
@@ -155,7 +151,7 @@ module _ (clients rounds first start : ℕ) (old more : List Record) (d : Master
       let none : count_of k more ≡ 0 = ⊎_elim
       (λ (below : k < 64). idle_seat k low below)
       (λ (from : 64 ≤ k). none_of 64 k more (subst (λ l. AreOfSeats 64 l) new_ones all) from)
-      (lt_or k 64) in
+      (cases_lt k 64) in
       omega (arith, count_is k 0 none)
 
   each_at : (k : ℕ) → 1 ≤ k → k ≤ clients → count_of k d.history ≡ count_of k old + 2 * rounds

@@ -23,10 +23,6 @@ is_batch (text ∷ texts) bytes some short is =
       starts = is;
     }
 
-pub on_ok : {T E A B : Type 0} (r : Result T E) → (A → B) → OnOk r A → OnOk r B
-on_ok (Ok _) f a = f a
-on_ok (Err _) f a = a
-
 pub some_texts : (xs : List (Vec ℕ Global)) → (length xs == 0) ≡ false → 0 < length (texts_of xs)
 some_texts [] empty = absurd (false≢true (sym empty))
 some_texts (x ∷ xs) empty = omega arith

@@ -45,8 +45,8 @@ fn finish<F: Fleet>(master: &mut Master<F>) -> Result<bool, Refusal>
 /// isn't short, or no pass may begin and no compaction gives back a seglet, it begins nothing. Steps in which a backup
 /// is lost count as made. After any other refusal, what was done stays done.
 ///
-/// Cost: that of a whole pass, and of what was under way. After 2^32 steps of what is under way it gives up, and answers
-/// false. No master needs as many.
+/// Cost: that of a whole pass, and of what was under way. After 2^32 steps of what is under way it gives up, and
+/// answers false. No master needs as many.
 pub fn make_room<F: Fleet>(
     master: &mut Master<F>,
     policy: &Policy,

@@ -18,4 +18,5 @@ returns-clause-short c =
 
 pub returns-clause-version : goal.returns-clause-version
 returns-clause-version c =
-    texts_version c.args.first.now c.deref.result.now c.texts_making.result c.requires.version c.texts_making.ensures.texts
+    texts_version c.args.first.now c.deref.result.now c.texts_making.result c.requires.version
+    c.texts_making.ensures.texts

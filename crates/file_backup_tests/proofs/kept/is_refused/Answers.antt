@@ -6,5 +6,6 @@ use Rattle.file_backup_tests.proofs.kept.is_refused.Goals as goal
 
 pub open-requires-clause-durable : goal.open-requires-clause-durable
 open-requires-clause-durable c =
-    subst (λ (d : MemoryDevice). LeavesJust c.args.row.now.file.now (memory_leaves d)) (sym c.new-registry.ensures.device)
+    subst (λ (d : MemoryDevice). LeavesJust c.args.row.now.file.now (memory_leaves d))
+    (sym c.new-registry.ensures.device)
     c.in-Ok.ensures.durable

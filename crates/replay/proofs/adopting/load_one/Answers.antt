@@ -58,7 +58,8 @@ returns-in_default g c =
             (ap g.F.Fleet.state c.in-Err.ensures.fleet),
         (
           c.in_default.not-Rolling,
-          load_not_nothing (shown_object c.args.object.now) now.knows after.knows c.in-Err.refusal c.in-Err.ensures.refused,
+          load_not_nothing (shown_object c.args.object.now) now.knows after.knows c.in-Err.refusal
+              c.in-Err.ensures.refused,
         ),
       );
     }

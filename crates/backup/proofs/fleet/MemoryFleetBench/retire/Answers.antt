@@ -11,7 +11,10 @@ use Rattle.division.proofs.Taking.{taken_front, taken_all}
 use Rattle.backup.proofs.fleet.MemoryFleetBench.retire.Goals as goal
 
 pub loop-spot-init : goal.loop-spot-init
-loop-spot-init c = record { freed = nothing_freed (fleet_state c.args.self.now); asked = after_none c.args.self.now.asked }
+loop-spot-init c = record {
+  freed = nothing_freed (fleet_state c.args.self.now);
+  asked = after_none c.args.self.now.asked;
+}
 
 pub loop-spot-preserved : goal.loop-spot-preserved
 loop-spot-preserved c = record {

@@ -18,7 +18,8 @@ returns-else-not-has_room-clause-others c =
 
 pub returns-in-Err-clause-named : goal.returns-in-Err-clause-named
 returns-in-Err-clause-named c = (
-  refused (Extend c.args.at c.args.bytes.now) refl c.args.self.now.replicas c.find.ensures.ordered c.args.place c.in-Err.field-0
+  refused (Extend c.args.at c.args.bytes.now) refl c.args.self.now.replicas c.find.ensures.ordered c.args.place
+      c.in-Err.field-0
       c.in-Err.ensures.absent,
   ap (λ (slots : Slots). found_in slots c.args.place) c.find.ensures.same,
 )

@@ -45,7 +45,8 @@ module _ {M : Type 1} {𝓤 : Ura M} (𝓛 : Logic 𝓤) (mem : Memory → SProp
   open 𝓛 use {H}
 
   module _ (κs : Lfts 3) (qs : Shares 3)
-      (bounds : AllOutlive (f.ended).signature.lifetimes (f.ended).signature.outlives κs) (a : Args f.signature κs) where
+      (bounds : AllOutlive (f.ended).signature.lifetimes (f.ended).signature.outlives κs)
+      (a : Args f.signature κs) where
     abbrev before : Val
     before = vptr a.0.ref_ptr.0 a.0.ref_ptr.1
 
@@ -74,7 +75,10 @@ module _ {M : Type 1} {𝓤 : Ura M} (𝓛 : Logic 𝓤) (mem : Memory → SProp
   walks : Walks 𝓛 f.ended stayed (WpFn 𝓤 H C Λ code.function) (f.clauses 𝓛 mem run)
   walks =
       walked 𝓛 f.ended stayed (f.clauses 𝓛 mem run) (WpFn 𝓤 H C Λ code.function) (λ κs. (shr_vals, (shr_vals, tt)))
-      (λ κs. (shr_Tells (named 0) κs.0 trail.the_row, (shr_Tells (named 1) κs.1.0 (noted.the_row (named_lft 3 2 tt κs)), tt)))
+      (λ κs. (
+        shr_Tells (named 0) κs.0 trail.the_row,
+        (shr_Tells (named 1) κs.1.0 (noted.the_row (named_lft 3 2 tt κs)), tt),
+      ))
       (λ κs qs bounds a g are. via 𝓤 _ (fst∗ 𝓤 _ (emp 𝓤)) (walk κs qs bounds a))
 
 meets : {M : Type 1} {𝓤 : Ura M} (𝓛 : Logic 𝓤) (mem : Memory → SProp 𝓤) (run : Routine → Fun 𝓤) (𝓣 : Tables 𝓤 𝓛.H)

@@ -46,7 +46,8 @@ module _ {M : Type 1} {𝓤 : Ura M} (𝓛 : Logic 𝓤) (mem : Memory → SProp
   open 𝓛 use {H}
 
   module _ (κs : Lfts 2) (qs : Shares 2)
-      (bounds : AllOutlive (f.ended).signature.lifetimes (f.ended).signature.outlives κs) (a : Args f.signature κs) where
+      (bounds : AllOutlive (f.ended).signature.lifetimes (f.ended).signature.outlives κs)
+      (a : Args f.signature κs) where
     abbrev lent : Val
     lent = vptr a.0.ref_ptr.0 a.0.ref_ptr.1
 
@@ -62,7 +63,8 @@ module _ {M : Type 1} {𝓤 : Ura M} (𝓛 : Logic 𝓤) (mem : Memory → SProp
         qed 𝓛 (raw (alive 𝓛 f.signature κs qs) ∷ ‵ passed ∷ []) ∵ enter ! C Λ code.function (lent ∷ []) _ $
         alloc_all ! (λ l. pass_all ! refl ((tt, tt), tt) $ sets ! (agg ! (no_more !)) refl (tt, tt) $
         returns ! (look_at ! 0 refl) $ free_all ! refl $
-        suffices ! _ (ends_at 𝓛 f.ended stayed (f.clauses 𝓛 mem run) bound (vstruct vnil) (record { what = shown_record a.0.now })
+        suffices ! _ (ends_at 𝓛 f.ended stayed (f.clauses 𝓛 mem run) bound (vstruct vnil)
+        (record { what = shown_record a.0.now })
         (tt, tt) (tt, tt)) $
         says ! refl $ pure_i ! (kept.the_row.own_val (record { what = shown_record a.0.now }) (vstruct vnil ∷ []))
         ((λ vss. (tt, tt)), tt) ((tt, (refl, tt)), tt) $

@@ -1,9 +1,10 @@
 use Rattle.std.proofs.Common.{◌∙◌, ◌++◌, [], ◌∷◌, arith, subst}
+use Rattle.std.proofs.lemmas.Result.{on_ok_weaker}
 use Rattle.take_journal.specs.Crash.{LeftByAppend}
 use Rattle.take_journal.specs.Device.{AnyMoment}
 use Rattle.take_journal.specs.Frames.{recovered}
 use Rattle.take_journal.specs.Journal.{StandsFor}
-use Rattle.take_journal.proofs.Batch.{is_batch, on_ok, texts_are}
+use Rattle.take_journal.proofs.Batch.{is_batch, texts_are}
 use Rattle.take_journal.proofs.journal.Journal.append.Goals as goal
 
 pub put-requires-clause-batch : goal.put-requires-clause-batch
@@ -16,7 +17,7 @@ returns-clause-acknowledged g c =
     let e =
     texts_are (c.args.text.now ∷ []) c.deref.result.now (c.requires.short, tt) (c.deref.ensures.value
     ∙ c.in_ok-frames.ensures) in
-    on_ok c.put.result
+    on_ok_weaker c.put.result
     (λ stands. (
       c.if-not-self.false,
       subst

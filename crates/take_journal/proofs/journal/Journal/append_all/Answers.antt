@@ -1,9 +1,10 @@
 use Rattle.std.proofs.Common.{◌∙◌, ◌++◌, subst, sym}
+use Rattle.std.proofs.lemmas.Result.{on_ok_weaker}
 use Rattle.take_journal.specs.Crash.{LeftByAppend}
 use Rattle.take_journal.specs.Device.{AnyMoment}
 use Rattle.take_journal.specs.Frames.{recovered, texts_of}
 use Rattle.take_journal.specs.Journal.{StandsFor}
-use Rattle.take_journal.proofs.Batch.{is_batch, on_ok, some_texts, texts_are}
+use Rattle.take_journal.proofs.Batch.{is_batch, some_texts, texts_are}
 use Rattle.take_journal.proofs.journal.Journal.append_all.Goals as goal
 
 pub put-requires-clause-batch : goal.put-requires-clause-batch
@@ -16,7 +17,7 @@ returns-clause-acknowledged g c =
     let e =
     texts_are (texts_of c.args.texts.now) c.deref.result.now c.requires.short (c.deref.ensures.value
     ∙ c.in_ok-frames.ensures) in
-    on_ok c.put.result
+    on_ok_weaker c.put.result
     (λ stands. (
       c.if-not-self.false,
       subst
