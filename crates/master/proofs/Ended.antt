@@ -32,7 +32,8 @@ use Rattle.images.specs.Image.{Image, closed_image}
 use Rattle.master_core.specs.master_state.Images.{with_closed, waiting_for, leaving}
 use Rattle.master_core.specs.master_state.Invariant.{AreApart, IsCore}
 use Rattle.master_core.specs.master_state.Ledger.{took_in}
-use Rattle.master_core.specs.master_state.Log.{image_of, images_of, find, entry_place, home, placed, spots_from, spots_in}
+use Rattle.master_core.specs.master_state.Log.{image_of, images_of, find, entry_place, home, placed, spots_from}
+use Rattle.master_core.specs.master_state.Log.{spots_in}
 use Rattle.master_core.specs.master_state.Log.{memory_of}
 use Rattle.master_core.specs.master_state.Steps.{pass_ended}
 use Rattle.master_core.proofs.master_rolls.Committed.{image_gone, image_stays}

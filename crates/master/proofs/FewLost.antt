@@ -1,5 +1,6 @@
 -- If fewer backups are lost than a segment has replicas, the head and the segments survive.
-use Rattle.std.proofs.Common.{◌≡◌, ℕ, zero, suc, ◌⊎◌, ◌<◌, ◌≤◌, inl, inr, Bool, true, false, List, [], ◌∷◌, ◌++◌, length}
+use Rattle.std.proofs.Common.{◌≡◌, ℕ, zero, suc, ◌⊎◌, ◌<◌, ◌≤◌, inl, inr, Bool, true, false, List, [], ◌∷◌, ◌++◌}
+use Rattle.std.proofs.Common.{length}
 use Rattle.std.proofs.Common.{take, max, refl, sym, ap, subst, ◌∙◌, arith}
 use Rattle.std.specs.Prelude.{Option, Some, None, IfSome, IsSome, is_none, ◌==◌, if◌then◌else◌}
 use Rattle.std.specs.Prelude.{option_to_list}
@@ -90,7 +91,10 @@ module _ (d : MasterData) (core : IsCore d) where
   -- the first homes are different backups
   apart_placed : (s n : ℕ) → n ≤ d.config.replicas → AreApart (placed d.config d.failed s n)
   apart_placed s zero le = tt
-  apart_placed s (suc n) le = (core_later d core s n n (omega arith) (omega (arith, le)), apart_placed s n (omega (arith, le)))
+  apart_placed s (suc n) le = (
+    core_later d core s n n (omega arith) (omega (arith, le)),
+    apart_placed s n (omega (arith, le)),
+  )
 
   module _ (keep : ℕ → Bool) (few : length (lost keep d.config.backups) < d.config.replicas) where
     -- one of the homes of a whole segment is kept
@@ -313,7 +317,8 @@ module _ (d : MasterData) (f : FleetState) (kept : IsWellKept d f) (keep : ℕ �
 
     head_there : IsHeadLeft (shown_for (log_of d) f) d.config.master keep newest_left.t
     head_there =
-        let counts = subst (λ (o : Option ℕ). IsNewestOpenedOrNone (IsOpenedHead (log_of d) d.config.master (shown_for (log_of d) f))
+        let counts = subst (λ (o : Option ℕ). IsNewestOpenedOrNone
+        (IsOpenedHead (log_of d) d.config.master (shown_for (log_of d) f))
         (f.least d.config.master) o) newest_left.newest (kept_is_sound (log_of d) (memory_of d) f kept.kept).1 in
         let home = newest_left.left in (
           home.0,
@@ -385,7 +390,8 @@ module _ (d : MasterData) (f : FleetState) (kept : IsWellKept d f) (keep : ℕ �
             let text = ap (λ (r : ModelReplica). r.text.opening) new.3 in
             new_left new.0 new.1 id (others_of new.0 new.2 (listed new.0 (sym left.bears ∙ text)))
         by_replica (inr (inr older)) =
-            let bears : IsSome (texts.text s).opening = subst IsSome older.opening (subst IsSome (sym left.bears) refl) in
+            let bears : IsSome (texts.text s).opening = subst IsSome older.opening
+            (subst IsSome (sym left.bears) refl) in
             let low = (older.bears bears).0 in
             let high = left.newest newest_left.t head_there in
             let above = newest_left.above in

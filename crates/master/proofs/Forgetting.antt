@@ -76,7 +76,8 @@ durable_within d f kept =
 module _ (d e : MasterData) (n : ℕ) (is : ForgetsTo n d e) where
   pub forgets_kept : (f : FleetState) → IsWellKept d f → IsCore e → IsWellKept e f
   forgets_kept f kept core =
-      subst (λ (m : MasterData). IsWellKept m f) (sym is.rest) (kept_then d e.forgotten f kept (subst IsCore is.rest core))
+      subst (λ (m : MasterData). IsWellKept m f) (sym is.rest)
+      (kept_then d e.forgotten f kept (subst IsCore is.rest core))
 
   pub forgets_near : (f : FleetState) → IsWellKept d f → may_forget n d ≤ 2 ^ 62 → may_forget n d ≤ e.forgotten + 1024
   forgets_near f kept few =

@@ -18,7 +18,8 @@ use Rattle.master_core.specs.master_state.declared.ledger.Posting.TheVariants as
 use Rattle.master_core.specs.master_state.declared.step.Refusal.{Refusal}
 use Rattle.master_core.specs.master_state.declared.step.Refusal.TheVariants as refusal
 use Rattle.master_core.specs.master_state.declared.step.Step.{Step}
-use Rattle.master_core.specs.master_state.declared.step.Step.TheVariants.{Apply, Push, BeginRoll, Compact, BeginClean, Copy, Seal}
+use Rattle.master_core.specs.master_state.declared.step.Step.TheVariants.{Apply, Push, BeginRoll, Compact, BeginClean}
+use Rattle.master_core.specs.master_state.declared.step.Step.TheVariants.{Copy, Seal}
 use Rattle.master_core.specs.master_state.declared.step.Step.TheVariants.{Free}
 use Rattle.master_core.specs.master_state.declared.step.StepAnswer.{StepAnswer}
 use Rattle.master_core.specs.master_state.Causes.{live_now, is_empty, step_refusal, unit_now}
@@ -27,7 +28,8 @@ use Rattle.master_core.specs.master_state.Images.{with_closed}
 use Rattle.master_core.specs.master_state.Invariant.{IsCore}
 use Rattle.master_core.specs.master_state.Ledger.{posted}
 use Rattle.master_core.specs.master_state.Log.{home}
-use Rattle.master_core.specs.master_state.Steps.{appended, closed_data, halted, ledger_after, pass_ended, pushed_data, roll_ended}
+use Rattle.master_core.specs.master_state.Steps.{appended, closed_data, halted, ledger_after, pass_ended, pushed_data}
+use Rattle.master_core.specs.master_state.Steps.{roll_ended}
 use Rattle.master_core.specs.master_state.Steps.{sealed_data, taken_data, Applies}
 use Rattle.master_core.specs.master_state.Waits.{next_seal}
 use Rattle.master_core.proofs.master_state.Refusals.{may_begin, unit_working, working_parts}

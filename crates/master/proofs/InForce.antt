@@ -18,7 +18,8 @@ use Rattle.master_core.specs.master_state.declared.failover.Part.{Part}
 use Rattle.master_core.specs.master_state.declared.failover.Part.TheVariants as part
 use Rattle.master_core.specs.master_state.Data.{MasterData}
 use Rattle.master_core.specs.master_state.Invariant.{IsFailover, IsCore}
-use Rattle.master_core.specs.master_state.Log.{is_opened, is_headless, in_force, calm_mode, new_start, failing_mode, mode_of}
+use Rattle.master_core.specs.master_state.Log.{is_opened, is_headless, in_force, calm_mode, new_start, failing_mode}
+use Rattle.master_core.specs.master_state.Log.{mode_of}
 use Rattle.master_core.specs.master_state.Log.{log_of}
 
 pub open_or : (h : HeadValue) → (is_opened h ≡ true) ⊎ (is_opened h ≡ false)

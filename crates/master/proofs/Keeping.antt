@@ -36,21 +36,26 @@ use Rattle.master_core.proofs.log_memory.OpsKeep.{op_fits}
 use Rattle.master_core.specs.master_state.declared.step.Refusal.{Refusal}
 use Rattle.master_core.specs.master_state.declared.step.Refusal.TheVariants as refusal
 use Rattle.master_core.specs.master_state.declared.step.Step.{Step}
-use Rattle.master_core.specs.master_state.declared.step.Step.TheVariants.{Apply, Push, BeginRoll, Compact, BeginClean, Copy, Seal}
+use Rattle.master_core.specs.master_state.declared.step.Step.TheVariants.{Apply, Push, BeginRoll, Compact, BeginClean}
+use Rattle.master_core.specs.master_state.declared.step.Step.TheVariants.{Copy, Seal}
 use Rattle.master_core.specs.master_state.declared.step.Step.TheVariants.{Free}
 use Rattle.master_core.specs.master_state.declared.step.StepAnswer.{StepAnswer}
-use Rattle.master_core.specs.master_state.declared.step.StepAnswer.TheVariants.{Applied, Opened, Extended, Closed, Rolling}
+use Rattle.master_core.specs.master_state.declared.step.StepAnswer.TheVariants.{Applied, Opened, Extended, Closed}
+use Rattle.master_core.specs.master_state.declared.step.StepAnswer.TheVariants.{Rolling}
 use Rattle.master_core.specs.master_state.declared.step.StepAnswer.TheVariants.{Compacted}
-use Rattle.master_core.specs.master_state.declared.step.StepAnswer.TheVariants.{Begun, Moved, Carried, Dropped, Sealed, Freed}
+use Rattle.master_core.specs.master_state.declared.step.StepAnswer.TheVariants.{Begun, Moved, Carried, Dropped, Sealed}
+use Rattle.master_core.specs.master_state.declared.step.StepAnswer.TheVariants.{Freed}
 use Rattle.master_core.specs.master_state.declared.step.StepAnswer.TheVariants.{Raised, Repaired}
 use Rattle.master_core.specs.master_state.declared.failover.Failover.{Failover}
 use Rattle.master_core.specs.master_state.declared.ledger.Posting.TheVariants as posting
 use Rattle.master_core.specs.master_state.Budget.{survivors_of}
-use Rattle.master_core.specs.master_state.Causes.{dead_segment, survivors_for, command_refusal, step_refusal, unit_now, is_empty}
+use Rattle.master_core.specs.master_state.Causes.{dead_segment, survivors_for, command_refusal, step_refusal, unit_now}
+use Rattle.master_core.specs.master_state.Causes.{is_empty}
 use Rattle.master_core.specs.master_state.Data.{MasterData}
 use Rattle.master_core.specs.master_state.Ledger.{forgotten, took_in, shut_in, posted}
 use Rattle.master_core.specs.master_state.Log.{home, mode_of, durable_now, log_of, memory_of}
-use Rattle.master_core.specs.master_state.Steps.{Applies, BeginsRoll, Compacts, BeginsPass, Copies, record_now, rolling_data}
+use Rattle.master_core.specs.master_state.Steps.{Applies, BeginsRoll, Compacts, BeginsPass, Copies, record_now}
+use Rattle.master_core.specs.master_state.Steps.{rolling_data}
 use Rattle.master_core.specs.master_state.Steps.{sealed_data, lost_data, halted, pushed_data}
 use Rattle.master_core.specs.master_failover.Mending.{mended_data, turned_data}
 use Rattle.master_core.specs.master_state.Waits.{next_seal}
@@ -340,7 +345,8 @@ module _ (old new : World) where
   steps_remember Copy (Ok answer) t = by_rest _ t.0.rest refl
   steps_remember Copy (Err r) t = by_nothing t.0
   steps_remember Push (Ok answer) (inl t) = by_rest (pushed_data old.knows t.push) t.rest (same_rest old.knows t.push).5
-  steps_remember Push (Ok answer) (inr t) = by_rest (mended_data old.knows t.mend) t.rest (mended_rest old.knows t.mend).5
+  steps_remember Push (Ok answer) (inr t) = by_rest (mended_data old.knows t.mend) t.rest
+      (mended_rest old.knows t.mend).5
   steps_remember Push (Err r) (inl t) = by_nothing t.1
   steps_remember Push (Err r) (inr t) = by_push r t.1
   steps_remember Seal (Ok answer) t =

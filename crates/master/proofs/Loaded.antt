@@ -37,7 +37,8 @@ use Rattle.master_core.specs.master_state.Ledger.{took_in}
 use Rattle.master_core.specs.master_state.Log.{placed, fail_config, opening_of, log_of, images_of, rest_now, memory_of}
 use Rattle.master_core.proofs.master_state.Imaging.{same_id, other_id, appended_own, appended_other}
 use Rattle.master_core.proofs.master_commands.HeadsInForce.{open_headed}
-use Rattle.master_core.proofs.master_commands.LoadedCore.{is_admitted, done_parts, pushed_open, pushed_calm, pushed_whole}
+use Rattle.master_core.proofs.master_commands.LoadedCore.{is_admitted, done_parts, pushed_open, pushed_calm}
+use Rattle.master_core.proofs.master_commands.LoadedCore.{pushed_whole}
 use Rattle.master_core.proofs.master_state.Refusals.{has_homes, open_parts, working_parts}
 use Rattle.master.specs.Invariant.{IsWellKept, IsWellLoaded}
 use Rattle.master.specs.Placed.{holders, IsPlaced}

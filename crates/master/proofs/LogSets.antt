@@ -32,7 +32,8 @@ use Rattle.master_core.specs.master_state.declared.failover.Part.TheVariants as 
 use Rattle.master_core.specs.master_state.Data.{MasterData}
 use Rattle.master_core.specs.master_state.Images.{new_image_or}
 use Rattle.master_core.specs.master_state.Invariant.{IsOpenPass, IsCore}
-use Rattle.master_core.specs.master_state.Log.{is_opened, is_headless, calm_mode, new_start, failing_mode, mode_of, log_of}
+use Rattle.master_core.specs.master_state.Log.{is_opened, is_headless, calm_mode, new_start, failing_mode, mode_of}
+use Rattle.master_core.specs.master_state.Log.{log_of}
 use Rattle.master_core.specs.master_state.Log.{image_of, images_of, memory_of, log_set_ids}
 use Rattle.master_core.proofs.master_state.Imaging.{same_id, ids_in}
 use Rattle.master.specs.Valid.{IsGivenUp}

@@ -9,7 +9,8 @@ use Rattle.master_core.specs.log_laws.Steps.{failing, MayFail, new_heads}
 use Rattle.master_core.specs.master_state.declared.failover.Failover.{Failover}
 use Rattle.master_core.specs.master_state.Data.{MasterData}
 use Rattle.master_core.specs.master_state.Ledger.{took_in, counts_in, shut_in}
-use Rattle.master_core.specs.master_state.Log.{calm_mode, durable_now, fail_config, in_force, is_headless, is_opened, log_of}
+use Rattle.master_core.specs.master_state.Log.{calm_mode, durable_now, fail_config, in_force, is_headless, is_opened}
+use Rattle.master_core.specs.master_state.Log.{log_of}
 use Rattle.master_core.specs.master_state.Log.{mode_of, opening_of}
 use Rattle.master_core.specs.master_state.Steps.{lost_data, may_lose, new_heads_in}
 use Rattle.master_core.proofs.master_state.LostCore.{Loses, loses}

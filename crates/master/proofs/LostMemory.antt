@@ -24,10 +24,12 @@ use Rattle.master_core.specs.master_state.declared.waiting.Waiting.{Waiting}
 use Rattle.master_core.specs.master_state.Budget.{victims_of, survivors_of, is_committing}
 use Rattle.master_core.specs.master_state.Data.{MasterData}
 use Rattle.master_core.specs.master_state.Invariant.{IsCore, IsRollOf}
-use Rattle.master_core.specs.master_state.Log.{home, entry_place, find, image_of, images_of, memory_of, position_of, rest_now}
+use Rattle.master_core.specs.master_state.Log.{home, entry_place, find, image_of, images_of, memory_of, position_of}
+use Rattle.master_core.specs.master_state.Log.{rest_now}
 use Rattle.master_core.specs.master_state.Log.{place_in, spots_from, spots_in, working}
 use Rattle.master_core.specs.master_state.Steps.{less_by, lost_data, lost_image, lost_waiting, may_lose, still_waits}
-use Rattle.master_core.proofs.master_state.Homes.{home_before, home_behind, homes_apart, place_in_none, place_in_some, working_many}
+use Rattle.master_core.proofs.master_state.Homes.{home_before, home_behind, homes_apart, place_in_none, place_in_some}
+use Rattle.master_core.proofs.master_state.Homes.{working_many}
 use Rattle.master_core.proofs.master_state.Imaging.{ids_in, other_id}
 use Rattle.master_core.proofs.master_state.LogIds.{no_segment}
 use Rattle.master_core.proofs.master_state.LostCore.{Loses, loses, find_lost, image_then, lost_recount, roll_not_closed}

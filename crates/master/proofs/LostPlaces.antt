@@ -23,7 +23,8 @@ use Rattle.master_core.specs.master_state.Ledger.{took_in, counts_in, shut_in}
 use Rattle.master_core.specs.master_state.Log.{home, is_headless, is_opened, place_in, placed, working}
 use Rattle.master_core.specs.master_state.Steps.{halted, less_by, lost_data, lost_image, lost_waiting, may_lose}
 use Rattle.master_core.specs.master_state.Steps.{place_of, still_waits}
-use Rattle.master_core.proofs.master_state.Homes.{without_more, working_many, homes_apart, placed_without, home_before, home_behind}
+use Rattle.master_core.proofs.master_state.Homes.{without_more, working_many, homes_apart, placed_without, home_before}
+use Rattle.master_core.proofs.master_state.Homes.{home_behind}
 use Rattle.master_core.proofs.master_state.Homes.{place_in_at, place_in_none, place_in_some}
 use Rattle.master_core.proofs.master_state.LostCore.{Loses, loses, lost_recount, lost_within, none_less}
 use Rattle.master.specs.Placed.{closed_by, closed_now, IsPlaced}

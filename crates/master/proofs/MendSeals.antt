@@ -30,7 +30,8 @@ use Rattle.master_core.specs.master_state.Budget.{survivors_of}
 use Rattle.master_core.specs.master_state.Data.{MasterData}
 use Rattle.master_core.specs.master_state.Invariant.{IsCore}
 use Rattle.master_core.specs.master_state.Ledger.{took_in}
-use Rattle.master_core.specs.master_state.Log.{home, placed, is_opened, is_headless, image_of, images_of, log_of, memory_of}
+use Rattle.master_core.specs.master_state.Log.{home, placed, is_opened, is_headless, image_of, images_of, log_of}
+use Rattle.master_core.specs.master_state.Log.{memory_of}
 use Rattle.master_core.proofs.master_state.Imaging.{ids_in}
 use Rattle.master_core.proofs.master_state.LogIds.{closed_rise}
 use Rattle.master_core.proofs.master_state.Refusals.{sizes_of}

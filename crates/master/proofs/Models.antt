@@ -30,7 +30,8 @@ use Rattle.master_core.specs.master_state.Budget.{victims_of, survivors_of, is_c
 use Rattle.master_core.specs.master_state.Data.{MasterData}
 use Rattle.master_core.specs.master_state.Index.{LiesFound}
 use Rattle.master_core.specs.master_state.Invariant.{IsCore, IsOpenPass}
-use Rattle.master_core.specs.master_state.Log.{log_of, state_now, image_of, images_of, find, position_of, entry_place, rest_now}
+use Rattle.master_core.specs.master_state.Log.{log_of, state_now, image_of, images_of, find, position_of, entry_place}
+use Rattle.master_core.specs.master_state.Log.{rest_now}
 use Rattle.master_core.specs.master_state.Log.{memory_of}
 use Rattle.master_core.proofs.master_state.Finding.{each_of, found_place}
 use Rattle.master_core.proofs.master_state.LogIds.{older_image}

@@ -37,8 +37,10 @@ use Rattle.master_core.specs.master_state.declared.failover.Failover.{Failover}
 use Rattle.master_core.specs.master_state.declared.ledger.Posting.{Posting}
 use Rattle.master_core.specs.master_state.declared.ledger.Posting.TheVariants as posting
 use Rattle.master_core.specs.master_state.declared.step.StepAnswer.{StepAnswer}
-use Rattle.master_core.specs.master_state.declared.step.StepAnswer.TheVariants.{Applied, Opened, Extended, Closed, Rolling}
-use Rattle.master_core.specs.master_state.declared.step.StepAnswer.TheVariants.{Compacted, Begun, Moved, Carried, Dropped}
+use Rattle.master_core.specs.master_state.declared.step.StepAnswer.TheVariants.{Applied, Opened, Extended, Closed}
+use Rattle.master_core.specs.master_state.declared.step.StepAnswer.TheVariants.{Rolling}
+use Rattle.master_core.specs.master_state.declared.step.StepAnswer.TheVariants.{Compacted, Begun, Moved, Carried}
+use Rattle.master_core.specs.master_state.declared.step.StepAnswer.TheVariants.{Dropped}
 use Rattle.master_core.specs.master_state.declared.step.StepAnswer.TheVariants.{Sealed, Freed, Raised, Repaired}
 use Rattle.master_core.specs.master_state.Data.{MasterData}
 use Rattle.master_core.specs.master_state.Images.{with_closed}

@@ -21,7 +21,8 @@ module _ (d : MasterData) (core : IsCore d) (at : IsPlaced d) (calm : d.failover
   listed : (s : ℕ) → IsAmong s (head_of d.head).start.others → d.config.replicas ≤ length (homes (log_of d) s)
   listed s among =
       let there = closed_in d core s (inl among) in
-      let many = (none_is_lacking d.config.replicas d.closed (head_of d.head).start.others).0 (core.whole calm) s among in
+      let many = (none_is_lacking d.config.replicas d.closed (head_of d.head).start.others).0
+      (core.whole calm) s among in
       let count = ap length (homes_of d at s there)
       ∙ placed_length d.config d.failed s (replicas_of d.closed s) in
       omega (arith, many, count)

@@ -10,10 +10,11 @@ use Rattle.log_head.specs.Steps.{with_new_replica, with_closed_replica, old_imag
 use Rattle.master_core.specs.master_state.declared.ledger.Posting.{Posting}
 use Rattle.master_core.specs.master_state.Data.{MasterData}
 use Rattle.master_core.specs.master_state.Images.{with_closed}
-use Rattle.master_core.specs.master_state.Steps.{pass_ended, roll_ended, closed_data, taken_data, ledger_after, pushed_data}
+use Rattle.master_core.specs.master_state.Steps.{pass_ended, roll_ended, closed_data, taken_data, ledger_after}
+use Rattle.master_core.specs.master_state.Steps.{pushed_data}
 
--- the configuration, the history, what was loaded, the bytes of the live objects and what is forgotten are the same, and
--- so is whether a backup failed
+-- the configuration, the history, what was loaded, the bytes of the live objects and what is forgotten are the same,
+-- and so is whether a backup failed
 abbrev pub SameRest : MasterData → MasterData → Type 0
 SameRest e d = (e.config ≡ d.config) × (e.history ≡ d.history) × (e.is_halted ≡ d.is_halted)
     × (e.origin ≡ d.origin) × (e.live ≡ d.live) × (e.forgotten ≡ d.forgotten)

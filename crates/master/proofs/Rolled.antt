@@ -35,7 +35,8 @@ use Rattle.master_core.specs.master_state.Budget.{victims_of, survivors_of, is_r
 use Rattle.master_core.specs.master_state.Data.{MasterData}
 use Rattle.master_core.specs.master_state.Invariant.{IsCore}
 use Rattle.master_core.specs.master_state.Loading.{IsBare}
-use Rattle.master_core.specs.master_state.Log.{is_opened, log_of, state_now, images_of, find, entry_place, rest_now, memory_of}
+use Rattle.master_core.specs.master_state.Log.{is_opened, log_of, state_now, images_of, find, entry_place, rest_now}
+use Rattle.master_core.specs.master_state.Log.{memory_of}
 use Rattle.master_core.specs.master_state.Steps.{listed_in, start_now, rolling_data, next_now, BeginsRoll, MayRollNow}
 use Rattle.master_core.proofs.master_commands.HeadsInForce.{open_opened, open_calm}
 use Rattle.master_core.proofs.master_commands.LoadedCore.{rolling_bare}

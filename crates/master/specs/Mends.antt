@@ -23,7 +23,8 @@ use Rattle.master_core.specs.master_failover.Mending.{IsNextMend, mended_data, s
 use Rattle.master_core.specs.master_state.declared.step.Refusal.{Refusal}
 use Rattle.master_core.specs.master_state.declared.step.Refusal.TheVariants as refusal
 use Rattle.master_core.specs.master_state.declared.step.StepAnswer.{StepAnswer}
-use Rattle.master_core.specs.master_state.declared.step.StepAnswer.TheVariants.{Opened, Extended, Closed, Raised, Repaired}
+use Rattle.master_core.specs.master_state.declared.step.StepAnswer.TheVariants.{Opened, Extended, Closed, Raised}
+use Rattle.master_core.specs.master_state.declared.step.StepAnswer.TheVariants.{Repaired}
 use Rattle.master_core.specs.master_state.Budget.{may_turn}
 use Rattle.master_core.specs.master_state.Data.{MasterData}
 use Rattle.master_core.specs.master_state.Log.{log_of, memory_of}

@@ -8,15 +8,18 @@ use Rattle.replica.specs.declared.op.TakeFault.TheVariants as take_fault
 use Rattle.master_core.specs.master_state.declared.step.Refusal.{Refusal}
 use Rattle.master_core.specs.master_state.declared.step.Refusal.TheVariants as refusal
 use Rattle.master_core.specs.master_state.declared.step.Step.{Step}
-use Rattle.master_core.specs.master_state.declared.step.Step.TheVariants.{Apply, Push, BeginRoll, Compact, BeginClean, Copy, Seal}
+use Rattle.master_core.specs.master_state.declared.step.Step.TheVariants.{Apply, Push, BeginRoll, Compact, BeginClean}
+use Rattle.master_core.specs.master_state.declared.step.Step.TheVariants.{Copy, Seal}
 use Rattle.master_core.specs.master_state.declared.step.Step.TheVariants.{Free}
 use Rattle.master_core.specs.master_state.declared.step.StepAnswer.{StepAnswer}
-use Rattle.master_core.specs.master_state.Causes.{command_refusal, roll_refusal, compact_refusal, push_refusal, clean_refusal}
+use Rattle.master_core.specs.master_state.Causes.{command_refusal, roll_refusal, compact_refusal, push_refusal}
+use Rattle.master_core.specs.master_state.Causes.{clean_refusal}
 use Rattle.master_core.specs.master_state.Causes.{copy_refusal}
 use Rattle.master_core.specs.master_state.Causes.{seal_refusal, free_refusal}
 use Rattle.master_core.specs.master_state.Log.{log_of}
 use Rattle.master_core.specs.master_state.Budget.{may_turn}
-use Rattle.master_core.specs.master_state.Steps.{Applies, BeginsRoll, Compacts, BeginsPass, Copies, halted, may_lose, lost_data}
+use Rattle.master_core.specs.master_state.Steps.{Applies, BeginsRoll, Compacts, BeginsPass, Copies, halted, may_lose}
+use Rattle.master_core.specs.master_state.Steps.{lost_data}
 use Rattle.master_core.specs.master_failover.declared.mending.Mend.{Mend}
 use Rattle.master_core.specs.master_failover.declared.mending.Mend.TheVariants as mend
 use Rattle.master_core.specs.master_failover.Mending.{IsNextMend, turned_data}
@@ -74,8 +77,8 @@ abbrev pub IsStuck : World → Refusal → World → Type 0
 IsStuck old r new = IsNextMend old.knows mend.Turn × (may_turn old.knows ≡ false) × (r ≡ refusal.Halted)
     × (new ≡ record old { knows = halted old.knows })
 
--- The new head might be opened, and its first Open ended in a fault. It may have been taken, so the head has its id, and
--- the master stays halted.
+-- The new head might be opened, and its first Open ended in a fault. It may have been taken, so the head has its id,
+-- and the master stays halted.
 abbrev pub FailsTurn : World → Refusal → World → Type 0
 FailsTurn old r new = IsNextMend old.knows mend.Turn × (may_turn old.knows ≡ true) × (r ≡ refusal.Halted)
     × (new.knows ≡ halted (turned_data old.knows))

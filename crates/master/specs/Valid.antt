@@ -14,7 +14,8 @@ use Rattle.master_core.specs.master_state.Causes.{is_done}
 use Rattle.master_core.specs.master_state.Config.{config_fault}
 use Rattle.master_core.specs.master_state.Data.{MasterData}
 use Rattle.master_core.specs.master_state.Kept.{AreFewKept}
-use Rattle.master_core.specs.master_state.Log.{opening_of, log_of, state_now, durable_now, image_of, memory_of, IsIndexed}
+use Rattle.master_core.specs.master_state.Log.{opening_of, log_of, state_now, durable_now, image_of, memory_of}
+use Rattle.master_core.specs.master_state.Log.{IsIndexed}
 use Rattle.master_core.specs.master_state.Invariant.{AreWhole}
 use Rattle.master.specs.Placed.{IsPlaced}
 use Rattle.master.specs.Survive.{SurvivesFew}
@@ -46,7 +47,8 @@ pub record IsValid (d : MasterData) (f : FleetState) : Type 0 where
   -- whatever backups are left, they hold a prefix that has each durable command, or a loss is named
   pub sound : IsSoundInBytes d.config.master (log_of d) (shown_for (log_of d) f)
   -- the newest head that was opened on all its backups
-  pub newest : IsNewestOpenedOrNone (IsOpenedHead (log_of d) d.config.master (shown_for (log_of d) f)) (f.least d.config.master)
+  pub newest : IsNewestOpenedOrNone (IsOpenedHead (log_of d) d.config.master (shown_for (log_of d) f))
+      (f.least d.config.master)
       (newest_opened (log_of d))
   -- a segment's replicas go to its homes
   pub placed : IsPlaced d

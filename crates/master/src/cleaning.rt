@@ -44,8 +44,8 @@ impl<F: Fleet> Master<F> {
         self.core.pass.is_some()
     }
 
-    /// The step that is under way: an open failover goes on, then an open pass, then a roll, and then what waits is freed.
-    /// `None` if nothing is. Nothing changes, and it takes no memory.
+    /// The step that is under way: an open failover goes on, then an open pass, then a roll, and then what waits is
+    /// freed. `None` if nothing is. Nothing changes, and it takes no memory.
     pub fn pending_step(&self) -> Option<Step>
         ensures { result ≡ pending_step self.now.knows }
     {

@@ -11,13 +11,14 @@
 //! (`specs/Left.antt`). What a master knows is `master_core`'s, and the fleet is `replica`'s.
 //!
 //! `Loading` is a master that isn't one yet. It loads what a recovery rebuilt, and then its history begins with that
-//! (`specs/Loading.antt`). `Master::retire` frees what other masters left on the backups, and `Master::forget` the memory
-//! of the first records that are durable.
+//! (`specs/Loading.antt`). `Master::retire` frees what other masters left on the backups, and `Master::forget` the
+//! memory of the first records that are durable.
 #![tactic(auto)]
 
 mod cleaning;
 mod commands;
 mod laws;
+mod listing;
 mod loading;
 mod master;
 mod mending;
@@ -33,8 +34,8 @@ pub use loading::Loading;
 pub use master::Master;
 pub use master_core;
 pub use master_core::{
-    Config, ConfigFault, Core, KeyHasher, PassFault, Refusal, Secret, Step, StepAnswer, Survivors,
-    Tally,
+    Config, ConfigFault, Core, KeyHasher, ObjectList, PassFault, Refusal, Secret, Step, StepAnswer,
+    Survivors, Tally,
 };
 pub use segment::{Segment, SegmentFault, read_segment};
 pub use segments::{Role, SegmentRow};

@@ -36,8 +36,8 @@ use std::marker::Model;
 ///
 /// - What holds: `show_valid`, after each step. Stop after any step, drop the master, lose backups: a recovery finds
 ///   each durable command, or names the head or the segment that is lost.
-/// - Refusals: each step names its own (`Refusal`), and then nothing has changed. After a fault of a backup that may have
-///   taken the op. If the refusal is `Lost`, the master goes on without it, and pushes end the failover; if it is
+/// - Refusals: each step names its own (`Refusal`), and then nothing has changed. After a fault of a backup that may
+///   have taken the op. If the refusal is `Lost`, the master goes on without it, and pushes end the failover; if it is
 ///   `Halted`, the master takes no further step, and a recovery goes on.
 /// - Cost: a command hashes its key, looks it up, and copies its unit to the end of the head; it scans nothing. An
 ///   object takes its entry in a segment and a place in the index, and each command a record in the history until the
@@ -131,7 +131,8 @@ impl<F: Fleet> Master<F> {
         self.core.head().id()
     }
 
-    /// The bytes of the live objects, each 23 and those of its key and its value. `u64::MAX` stands for as many or more.
+    /// The bytes of the live objects, each 23 and those of its key and its value. `u64::MAX` stands for as many or
+    /// more.
     pub fn live(&self) -> u64
         ensures { result ≡ self.now.knows.live }
     {

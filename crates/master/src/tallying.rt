@@ -16,8 +16,8 @@ use master_core::{Tally, image_len_of, kept_bytes_of, opening_len_of, recount, t
 use replica::Fleet;
 
 impl<F: Fleet> Master<F> {
-    /// How many bytes of a closed segment's objects and tombstones are kept, or `None` if no closed segment has this id.
-    /// It takes no memory, and looks at no entry if the segment was counted since the last commit of a pass.
+    /// How many bytes of a closed segment's objects and tombstones are kept, or `None` if no closed segment has this
+    /// id. It takes no memory, and looks at no entry if the segment was counted since the last commit of a pass.
     pub fn kept_bytes(&self, id: u64) -> Option<usize>
         ensures { result ≡ option_map (λ (es : List Entry). kept_bytes self.now.knows id)
             (segment_of self.now.knows.closed id) }

@@ -24,3 +24,5 @@ pub mod LiveObjects
 pub mod LiveCore
 pub mod SizeWalk
 pub mod SizeOrder
+pub mod ObjectWalk
+pub mod ObjectOrder

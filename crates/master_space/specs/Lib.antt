@@ -1,2 +1,3 @@
 pub mod Choosing
 pub mod Counting
+pub mod Objects

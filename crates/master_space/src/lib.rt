@@ -4,7 +4,7 @@
 //! copies the kept entries of some segments, its victims, into new segments, its survivors (`copy`), and hands these to
 //! backups (`seal_op`). The roll that begins when the pass is ready commits it (`master_rolls`). `choose` says which
 //! victims the next pass takes, and `next_step` which step a cleaner takes next (`specs/Choosing.antt`). `sorted_sizes`
-//! lists the sizes of the live objects.
+//! lists the sizes of the live objects, and `sorted_objects` the live objects of a table (`specs/Objects.antt`).
 #![tactic(auto)]
 
 mod candidates;
@@ -14,6 +14,7 @@ mod compacting;
 mod copying;
 mod counts;
 mod keeping;
+mod objects;
 mod pending;
 mod sizes;
 mod victims;
@@ -22,5 +23,7 @@ pub use choosing::{choose, next_step};
 pub use cleaning::{begin_clean, copy, freed, seal_op, sealed, to_free, to_seal};
 pub use compacting::compact_segment;
 pub use counts::{image_len_of, kept_bytes_of, opening_len_of, recount, tally_of};
+pub use object_list::ObjectList;
+pub use objects::sorted_objects;
 pub use pending::pending_step;
 pub use sizes::sorted_sizes;

@@ -16,7 +16,8 @@ use Rattle.master_core.specs.master_state.declared.step.Refusal.{Refusal}
 use Rattle.master_core.specs.master_state.Data.{MasterData}
 use Rattle.master_core.specs.master_state.Invariant.{IsCore}
 use Rattle.master_core.specs.master_state.Log.{home}
-use Rattle.master_core.specs.master_state.Steps.{taken_data, backup_of, ledger_after, pushed_data, refusal_of, failed_data}
+use Rattle.master_core.specs.master_state.Steps.{taken_data, backup_of, ledger_after, pushed_data, refusal_of}
+use Rattle.master_core.specs.master_state.Steps.{failed_data}
 use Rattle.master_core.proofs.master_state.Posted.{posted_core}
 use Rattle.master_core.proofs.master_rolls.Taken.{taken_images}
 use Rattle.master.specs.Invariant.{StaysServed}

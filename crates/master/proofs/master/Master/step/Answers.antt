@@ -2,7 +2,8 @@ use Rattle.std.proofs.Common.{IfOk, IfErr, Ok, Err}
 use Rattle.std.specs.Prelude.{Result}
 use Rattle.master_core.specs.master_state.declared.step.Refusal.{Refusal}
 use Rattle.master_core.specs.master_state.declared.step.Step.{Step}
-use Rattle.master_core.specs.master_state.declared.step.Step.TheVariants.{Apply, Push, BeginRoll, Compact, BeginClean, Copy, Seal}
+use Rattle.master_core.specs.master_state.declared.step.Step.TheVariants.{Apply, Push, BeginRoll, Compact, BeginClean}
+use Rattle.master_core.specs.master_state.declared.step.Step.TheVariants.{Copy, Seal}
 use Rattle.master_core.specs.master_state.declared.step.Step.TheVariants.{Free}
 use Rattle.master_core.specs.master_state.declared.step.StepAnswer.{StepAnswer}
 use Rattle.master.specs.Steps.{Accepts, Declines, Steps}
