@@ -7,6 +7,7 @@ use Rattle.std.proofs.lemmas.List.Sums.{count_by-le-length}
 use Rattle.std.proofs.lemmas.List.{length-drop, length-take-le}
 use Rattle.std.proofs.lemmas.Option.{get_or_from_slice_get, same_Some, slice_get_within}
 use Rattle.std.proofs.Math.Seq.{drop-length, take-length}
+use Rattle.std.proofs.lemmas.Bool.{cases_lt}
 use Rattle.replica.specs.Picture.{FleetState}
 use Rattle.store_step.specs.master.log_laws.Data.{durable_of}
 use Rattle.store_step.specs.master.master_state.Log.{log_of}
@@ -28,7 +29,6 @@ use Rattle.locked_log.specs.Held.{Held, StateValue, held, made_since}
 use Rattle.locked_log.specs.Made.{IsMade}
 use Rattle.locked_log.specs.Renews.{IsPaused, PausedValue, seat_again, AreSeatsAgain, IsOpenedAgain, AreFiled}
 use Rattle.locked_log.specs.States.{IsState}
-use Rattle.locked_log.proofs.Forgot.{lt_or}
 use Rattle.locked_log.proofs.Counting.{in_book, get_before, get_last, count_mine, count_other}
 use Rattle.locked_log.proofs.Writing.{row_push}
 
@@ -290,7 +290,7 @@ pub settled_below : (start forgotten bound n : ℕ) (book : List Account) (recor
 settled_below start forgotten bound n book records low early late place since below waits = ⊎_elim
     (λ (l : place < forgotten). early place since l waits)
     (λ (u : forgotten ≤ place). late place since (omega (arith, u, since, below, low)) waits)
-    (lt_or place forgotten)
+    (cases_lt place forgotten)
 
 -- what a seat owns, it can settle
 pub owned_open : (start : ℕ) (book : List Account) (records : List Record) (n : ℕ) (m : SeatValue) (place : ℕ)
@@ -304,7 +304,7 @@ owned_open start book records n m place settled known owned = ⊎_elim
       owned.1,
     )))
     (λ (u : n ≤ place). u)
-    (lt_or place n)
+    (cases_lt place n)
 
 all_drop : (n k : ℕ) (rs : List Record) → AreOfSeats n rs → AreOfSeats n (drop k rs)
 all_drop n zero rs all = all

@@ -62,7 +62,8 @@ module _ (s t : Held) (m : SeatValue) (command : Command) (place : ℕ) (reply :
     }
 
     pub writes : (what : Record) (n : SeatValue) → Counts s m command place reply t
-        → what ≡ record_by m.number command reply → t.row ≡ slice_set s.row (place - s.start) (Some what) → t.is_refused ≡ false → n ≡ noted m (told place what)
+        → what ≡ record_by m.number command reply → t.row ≡ slice_set s.row (place - s.start) (Some what)
+        → t.is_refused ≡ false → n ≡ noted m (told place what)
         → AppliesHeld s m command (Ok (place, reply)) t n
     writes what n counted is row refused seat = record {
       counts = counted;
@@ -183,7 +184,8 @@ module _ {F : Type 0} (state : F → FleetState) (v x : StateValue F) (same : v 
           applies = loses s t m command place reply made st_at known off_at gives_at begun_at n counted row_at flag
               unnoted_is;
           lasts = filed_lasts s t m command place reply counted begun_at keeps_at (ap length row_at) (λ on. flag);
-          valid = filed s t m command place reply counted begun_at made st_at keeps_at valid kept_at room_at false off_at
+          valid = filed s t m command place reply counted begun_at made st_at keeps_at valid kept_at room_at false
+              off_at
               row_at (λ c. absurd (both c));
         }
       where

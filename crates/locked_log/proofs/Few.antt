@@ -6,7 +6,8 @@ use Rattle.std.proofs.lemmas.List.{length-drop}
 use Rattle.std.proofs.lemmas.List.Sums.{count_by-le-length}
 use Rattle.versioned_map.specs.declared.command.Record.{Record}
 use Rattle.store_step.specs.master.master_state.declared.config.Config.{Config}
-use Rattle.store_step.specs.master.master_state.Config.{config_fault, has_backups, has_step, has_seglet, has_segment, has_budget}
+use Rattle.store_step.specs.master.master_state.Config.{config_fault, has_backups, has_step, has_seglet, has_segment}
+use Rattle.store_step.specs.master.master_state.Config.{has_budget}
 use Rattle.store_step.specs.master.master_state.Config.{has_tablets, has_history}
 use Rattle.store_step.proofs.of_master.master_state.Refusals.{passes}
 use Rattle.store_step.specs.master.Valid.{IsValid}

@@ -1,6 +1,8 @@
 -- Records that are forgotten under the lock.
-use Rattle.std.proofs.Common.{◌≡◌, ◌≤◌, ◌<◌, ◌⊎◌, inl, inr, ⊎_elim, ℕ, zero, suc, List, refl, sym, ap, ◌∙◌, subst, arith}
+use Rattle.std.proofs.Common.{◌≡◌, ◌≤◌, ◌<◌, ◌⊎◌, inl, inr, ⊎_elim, ℕ, zero, suc, List, refl, sym, ap, ◌∙◌, subst}
+use Rattle.std.proofs.Common.{arith}
 use Rattle.std.specs.Prelude.{max}
+use Rattle.std.proofs.lemmas.Bool.{cases_lt}
 use Rattle.replica.specs.Picture.{FleetState}
 use Rattle.versioned_map.specs.declared.command.Record.{Record}
 use Rattle.store_step.specs.master.log_laws.Data.{durable_of}
@@ -18,11 +20,6 @@ use Rattle.locked_log.specs.States.{IsState, Lasts}
 use Rattle.locked_log.specs.Steps.{ForgetsHeld}
 use Rattle.locked_log.proofs.Stepped.{moved_lasts, moved_state}
 
-pub lt_or : (a b : ℕ) → (a < b) ⊎ (b ≤ a)
-lt_or a zero = inr (omega arith)
-lt_or zero (suc b) = inl (omega arith)
-lt_or (suc a) (suc b) = ⊎_elim (λ l. inl (omega (arith, l))) (λ l. inr (omega (arith, l))) (lt_or a b)
-
 -- what was looked at from the first place on that isn't forgotten and has a cell
 pub settled_from : (start forgotten from n : ℕ) (book : List Account) (records : List Record)
     → from ≤ max forgotten start → IsSettled start book records forgotten → IsSettled from book records n
@@ -30,7 +27,7 @@ pub settled_from : (start forgotten from n : ℕ) (book : List Account) (records
 settled_from start forgotten from n book records low early late place since below waits = ⊎_elim
     (λ (l : place < from). early place since (omega (arith, l, low, since)) waits)
     (λ (u : from ≤ place). late place u below waits)
-    (lt_or place from)
+    (cases_lt place from)
 
 -- what a forgetting under the lock ensures
 pub record Forgot (s : Held) (result : ℕ) (t : Held) (made : Made) : Type 0 where
@@ -47,7 +44,7 @@ module _ {F : Type 0} (state : F → FleetState) (v : StateValue F) (made : Made
   now_settled place since below waits = ⊎_elim
       (λ (l : place < v.master.knows.forgotten). st.settled place since l waits)
       (λ (u : v.master.knows.forgotten ≤ place). settled place since (omega (arith, u, below, forgets.most)) waits)
-      (lt_or place v.master.knows.forgotten)
+      (cases_lt place v.master.knows.forgotten)
 
   pub forgot_here : (result : ℕ) → result ≡ e.knows.forgotten → Forgot (held state v) result (record {
     world = world state e;

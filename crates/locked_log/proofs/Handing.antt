@@ -1,12 +1,14 @@
 -- A record that a seat asks for again, from what the calls of the body ensure.
-use Rattle.std.proofs.Common.{◌≡◌, ◌≤◌, ◌<◌, ◌⊎◌, inl, inr, ◌∙◌, ⊎_elim, ap, sym, subst, arith, ℕ, zero, suc, Bool, false, List, Ok, Err}
+use Rattle.std.proofs.Common.{◌≡◌, ◌≤◌, ◌<◌, ◌⊎◌, inl, inr, ◌∙◌, ⊎_elim, ap, sym, subst, arith, ℕ, zero, suc, Bool}
+use Rattle.std.proofs.Common.{false, List, Ok, Err}
 use Rattle.std.specs.Prelude.{Result, slice_get}
 use Rattle.replica.specs.Picture.{FleetState}
 use Rattle.versioned_map.specs.declared.command.Record.{Record}
 use Rattle.versioned_map.specs.declared.command.Reply.{Reply}
 use Rattle.history_row.specs.Receipts.{Told}
 use Rattle.store_seat.specs.declared.fault.CallFault.{CallFault}
-use Rattle.store_seat.specs.declared.fault.CallFault.TheVariants.{Refused, Unsure, SeatUnknown, CellRefused, NotYours, CellsSpent}
+use Rattle.store_seat.specs.declared.fault.CallFault.TheVariants.{Refused, Unsure, SeatUnknown, CellRefused, NotYours}
+use Rattle.store_seat.specs.declared.fault.CallFault.TheVariants.{CellsSpent}
 use Rattle.store_seat.specs.Accounts.{account, Knows}
 use Rattle.store_seat.specs.Made.{Made}
 use Rattle.store_seat.specs.Claims.{Owns, Hands, Claims}

@@ -1,5 +1,6 @@
 -- A step that the master says is next is never refused because nothing waits.
-use Rattle.std.proofs.Common.{◌≡◌, ◌⊎◌, ℕ, inl, inr, ⊎_elim, Bool, true, false, cond, Option, Some, None, List, refl, sym}
+use Rattle.std.proofs.Common.{◌≡◌, ◌⊎◌, ℕ, inl, inr, ⊎_elim, Bool, true, false, cond, Option, Some, None, List, refl}
+use Rattle.std.proofs.Common.{sym}
 use Rattle.std.proofs.Common.{ap, ◌∙◌, subst}
 use Rattle.std.specs.Prelude.{◌+◌, ◌^◌, ◌==◌, not, nat_lt, length, is_none, is_some}
 use Rattle.std.specs.Option.{option_and_then, option_map_or}
@@ -11,12 +12,15 @@ use Rattle.store_step.specs.master.log_head.Head.{is_open}
 use Rattle.store_step.specs.master.log_laws.Heads.{fewest}
 use Rattle.store_step.specs.master.master_state.declared.failover.Failover.{Failover}
 use Rattle.store_step.specs.master.master_state.declared.step.Refusal.{Refusal}
-use Rattle.store_step.specs.master.master_state.declared.step.Refusal.TheVariants.{Halted, Rolling, Nothing, Full, SegmentsSpent, Pass}
+use Rattle.store_step.specs.master.master_state.declared.step.Refusal.TheVariants.{Halted, Rolling, Nothing, Full}
+use Rattle.store_step.specs.master.master_state.declared.step.Refusal.TheVariants.{SegmentsSpent, Pass}
 use Rattle.store_step.specs.master.master_state.declared.step.Refusal.TheVariants.{NoMemory}
 use Rattle.store_step.specs.master.master_state.declared.step.Step.{Step}
-use Rattle.store_step.specs.master.master_state.declared.step.Step.TheVariants.{Push, BeginRoll, BeginClean, Copy, Seal, Free}
+use Rattle.store_step.specs.master.master_state.declared.step.Step.TheVariants.{Push, BeginRoll, BeginClean, Copy, Seal}
+use Rattle.store_step.specs.master.master_state.declared.step.Step.TheVariants.{Free}
 use Rattle.store_step.specs.master.master_state.Budget.{is_working, may_roll, may_clean}
-use Rattle.store_step.specs.master.master_state.Causes.{step_refusal, clean_refusal, victims_fault, survivors_for, space_refusal}
+use Rattle.store_step.specs.master.master_state.Causes.{step_refusal, clean_refusal, victims_fault, survivors_for}
+use Rattle.store_step.specs.master.master_state.Causes.{space_refusal}
 use Rattle.store_step.specs.master.master_state.Causes.{is_pushed, is_done}
 use Rattle.store_step.specs.master.master_space.Choosing.{chosen, may_begin_next, pass_step, step_without, next_step}
 use Rattle.store_step.specs.master.master_state.Data.{MasterData}
@@ -63,7 +67,8 @@ not_idle_before_roll false false false false e = absurd (cc)
 space : (d : MasterData) (ids : List ℕ) → space_refusal d ids ≡ Some Nothing → ⊥
 space d ids = go (nat_lt 4 (survivors_for d ids)) (not (may_clean d (length ids) (survivors_for d ids)))
     (nat_lt (2 ^ 62 + 1) (d.next + survivors_for d ids)) where
-      go : (a b c : Bool) → cond a (Some (Pass PassFault.TooMuch)) (cond b (Some Full) (cond c (Some SegmentsSpent) None))
+      go : (a b c : Bool) → cond a (Some (Pass PassFault.TooMuch))
+          (cond b (Some Full) (cond c (Some SegmentsSpent) None))
           ≡ Some Nothing → ⊥
       go true b c e = absurd (cc)
       go false true c e = absurd (cc)

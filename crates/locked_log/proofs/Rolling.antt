@@ -7,7 +7,8 @@ use Rattle.versioned_map.specs.declared.command.Reply.{Reply}
 use Rattle.store_step.specs.master.master_state.Causes.{command_refusal}
 use Rattle.store_step.specs.master.master_state.declared.step.Refusal.TheVariants as refusal
 use Rattle.store_seat.specs.declared.fault.CallFault.{CallFault}
-use Rattle.store_seat.specs.declared.fault.CallFault.TheVariants.{Refused, Unsure, SeatUnknown, CellRefused, NotYours, CellsSpent}
+use Rattle.store_seat.specs.declared.fault.CallFault.TheVariants.{Refused, Unsure, SeatUnknown, CellRefused, NotYours}
+use Rattle.store_seat.specs.declared.fault.CallFault.TheVariants.{CellsSpent}
 use Rattle.store_seat.specs.declared.log.Applied.{Applied}
 use Rattle.store_seat.specs.Seats.{SeatValue}
 use Rattle.locked_log.specs.Applies.{AppliesHeld, Counts, Enters, WaitsForRoll}

@@ -5,7 +5,8 @@ use Rattle.versioned_map.specs.declared.command.Command.{Command}
 use Rattle.versioned_map.specs.declared.command.Record.{Record}
 use Rattle.versioned_map.specs.declared.command.Reply.{Reply}
 use Rattle.store_seat.specs.declared.fault.CallFault.{CallFault}
-use Rattle.store_seat.specs.declared.fault.CallFault.TheVariants.{Refused, Unsure, SeatUnknown, CellRefused, NotYours, CellsSpent}
+use Rattle.store_seat.specs.declared.fault.CallFault.TheVariants.{Refused, Unsure, SeatUnknown, CellRefused, NotYours}
+use Rattle.store_seat.specs.declared.fault.CallFault.TheVariants.{CellsSpent}
 use Rattle.store_seat.specs.Calls.{AppliesSeat}
 use Rattle.store_seat.specs.Seats.{SeatValue, told, answered}
 use Rattle.history_row.specs.Receipts.{Told}

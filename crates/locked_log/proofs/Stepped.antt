@@ -1,5 +1,6 @@
 -- A step that is no command adds no record.
-use Rattle.std.proofs.Common.{◌≡◌, ◌⊎◌, ℕ, inl, inr, Bool, true, false, List, [], drop, Option, Some, None, refl, sym, ap, ◌∙◌}
+use Rattle.std.proofs.Common.{◌≡◌, ◌⊎◌, ℕ, inl, inr, Bool, true, false, List, [], drop, Option, Some, None, refl, sym}
+use Rattle.std.proofs.Common.{ap, ◌∙◌}
 use Rattle.std.proofs.Common.{subst, arith}
 use Rattle.std.specs.Prelude.{Result, Ok, Err, ◌==◌, not, length, is_some, if◌then◌else◌}
 use Rattle.std.proofs.lemmas.List.{append-nil}
@@ -13,7 +14,8 @@ use Rattle.store_step.specs.master.log_laws.Shown.{Op}
 use Rattle.store_step.specs.master.master_state.declared.step.Refusal.{Refusal}
 use Rattle.store_step.specs.master.master_state.declared.step.Refusal.TheVariants as refusal
 use Rattle.store_step.specs.master.master_state.declared.step.Step.{Step}
-use Rattle.store_step.specs.master.master_state.declared.step.Step.TheVariants.{Apply, Push, BeginRoll, Compact, BeginClean, Copy, Seal}
+use Rattle.store_step.specs.master.master_state.declared.step.Step.TheVariants.{Apply, Push, BeginRoll, Compact}
+use Rattle.store_step.specs.master.master_state.declared.step.Step.TheVariants.{BeginClean, Copy, Seal}
 use Rattle.store_step.specs.master.master_state.declared.step.Step.TheVariants.{Free}
 use Rattle.store_step.specs.master.master_state.declared.step.StepAnswer.{StepAnswer}
 use Rattle.store_step.specs.master.master_space.Choosing.{chosen, may_begin_next, pass_step, step_without, next_step}

@@ -1,12 +1,14 @@
 -- What refuses the steps that a call makes.
-use Rattle.std.proofs.Common.{◌≡◌, ◌⊎◌, ◌∙◌, refl, sym, ap, subst, inl, inr, ℕ, Bool, true, false, cond, Option, Some, None}
+use Rattle.std.proofs.Common.{◌≡◌, ◌⊎◌, ◌∙◌, refl, sym, ap, subst, inl, inr, ℕ, Bool, true, false, cond, Option, Some}
+use Rattle.std.proofs.Common.{None}
 use Rattle.std.proofs.Common.{List}
 use Rattle.std.proofs.lemmas.Option.{same_Some}
 use Rattle.std.specs.Prelude.{Result, Ok, Err, IfSome}
 use Rattle.std.specs.Result.{result_err}
 use Rattle.entry.specs.declared.entry.Entry.{Entry}
 use Rattle.versioned_map.specs.declared.command.Command.{Command}
-use Rattle.store_step.specs.master.master_state.Causes.{early_refusal, late_refusal, unit_refusal, unit_now, command_refusal}
+use Rattle.store_step.specs.master.master_state.Causes.{early_refusal, late_refusal, unit_refusal, unit_now}
+use Rattle.store_step.specs.master.master_state.Causes.{command_refusal}
 use Rattle.store_step.specs.master.master_state.Causes.{roll_refusal, is_done}
 use Rattle.store_step.specs.master.master_state.Data.{MasterData}
 use Rattle.store_step.specs.master.master_state.declared.step.Refusal.{Refusal}

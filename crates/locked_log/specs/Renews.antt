@@ -32,8 +32,8 @@ paused_at master seats = record {
   start = length master.knows.history;
 }
 
--- The master is valid, and has not forgotten a record from `start` on. These records are of seats that the book has, and
--- no first number is above the durable count.
+-- The master is valid, and has not forgotten a record from `start` on. These records are of seats that the book has,
+-- and no first number is above the durable count.
 pub record IsPaused (w : World) (book : List Account) (start : ℕ) : Type 0 where
   pub valid : IsValid w.knows w.fleet
   pub within : start ≤ length w.knows.history

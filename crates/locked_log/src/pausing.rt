@@ -58,8 +58,8 @@ impl<F: Fleet> Model for Paused<F> {
 }
 
 impl<F: Fleet> Paused<F> {
-    /// What a first store with so many seats, 1 to 64, begins with: none of them has a record to settle. What is durable
-    /// counts as shown to each. If memory runs out, the master comes back as it was.
+    /// What a first store with so many seats, 1 to 64, begins with: none of them has a record to settle. What is
+    /// durable counts as shown to each. If memory runs out, the master comes back as it was.
     pub fn over(
         alloc: Global,
         master: Master<F>,

@@ -81,8 +81,8 @@ fn refile<F: Fleet, B: Naming>(
 
 impl<F: Fleet, B: Naming> Store<F, B> {
     /// Makes the store that goes on where one was paused, over the same master, and its seats. Each seat is there under
-    /// its number and with its first number, and can settle what it could settle before. The mark begins anew. If memory
-    /// runs out, what was paused comes back as it was. It copies nothing of a record.
+    /// its number and with its first number, and can settle what it could settle before. The mark begins anew. If
+    /// memory runs out, what was paused comes back as it was. It copies nothing of a record.
     pub fn renew(
         alloc: Global,
         blank: Blank,

@@ -6,7 +6,8 @@ use Rattle.versioned_map.specs.declared.command.Record.{Record}
 use Rattle.versioned_map.specs.declared.command.Reply.{Reply}
 use Rattle.history_row.specs.Receipts.{Told}
 use Rattle.store_seat.specs.declared.fault.CallFault.{CallFault}
-use Rattle.store_seat.specs.declared.fault.CallFault.TheVariants.{Refused, Unsure, SeatUnknown, CellRefused, NotYours, CellsSpent}
+use Rattle.store_seat.specs.declared.fault.CallFault.TheVariants.{Refused, Unsure, SeatUnknown, CellRefused, NotYours}
+use Rattle.store_seat.specs.declared.fault.CallFault.TheVariants.{CellsSpent}
 use Rattle.store_seat.specs.Seats.{SeatValue, record_by, told, answered}
 use Rattle.store_seat.specs.Stops.{StopsPush}
 

@@ -51,6 +51,15 @@ impl<L: Log<B>, B: Naming> Shared<L, B> {
         state.into_inner()
     }
 
+    /// Takes the log and the mark out, for whoever shares them again with another log around this one.
+    pub fn into_parts(self) -> (L, Mark)
+        ensures mark { result.1 ≡ self.mark }
+        ensures named { (result.1.shared.table_id ≡ B.table) × (result.1.shared.table_id.words ≡ 1) }
+    {
+        let Shared { state, mark, of: _ } = self;
+        (state.into_inner(), mark)
+    }
+
     /// The greatest place to which any seat raised the mark. It waits for nobody, and takes no memory.
     pub fn mark(&self, seat: &mut Seat<B>) -> u64
         ensures value { (seat.old.mark.seen ≤ result) × (seat.old.mark.raised ≤ result) }

@@ -168,7 +168,8 @@ fn asks<F: Fleet, B: Naming, R: Wait>(
     }
 }
 
-/// Makes the call of this command. Whether it is answered as wanted, and the fleet is asked for so many takes meanwhile.
+/// Makes the call of this command. Whether it is answered as wanted, and the fleet is asked for so many takes
+/// meanwhile.
 fn takes<F: Fleet, B: Naming, R: Wait>(
     rt: &R,
     alloc: Global,

@@ -36,7 +36,8 @@ const CONDITIONS: &[(usize, Act)] = &[
 ];
 
 /// A put and a delete hand one unit to each of two replicas. A get, a put whose condition fails and a delete of nothing
-/// hand over nothing, and are answered by the one step that applies them. The first put opens the first head before that.
+/// hand over nothing, and are answered by the one step that applies them. The first put opens the first head before
+/// that.
 const TAKEN: &[(usize, Act)] = &[
     (0, Act::Takes(Do::Put(b"a", b"x", If::Any), 0, ("ok", 1), 4)),
     (0, Act::Takes(Do::Put(b"a", b"x", If::Any), 1, ("ok", 2), 2)),
@@ -203,8 +204,8 @@ const OVERTAKEN: &[(usize, Act)] = &[
     (0, Act::Overtakes(1)),
 ];
 
-/// A backup fails in a put's first push, and the put pushes the failover to its end. Later another fails, and no further
-/// one may: the master is halted.
+/// A backup fails in a put's first push, and the put pushes the failover to its end. Later another fails, and no
+/// further one may: the master is halted.
 const FAILED_OVER: &[(usize, Act)] = &[
     (0, Act::Calls(Do::Put(b"a", b"x", If::Any), 0, ("ok", 1))),
     (0, Act::Faults(1)),
@@ -297,8 +298,8 @@ const LOOKED: &[(usize, Act)] = &[
     (0, Act::Looks(15)),
 ];
 
-/// A store over a master with three gets and a put, which isn't durable, has two cells. What is durable counts as shown,
-/// and no earlier record is settled. Two calls find a cell each, and a third finds none, which leaves no record.
+/// A store over a master with three gets and a put, which isn't durable, has two cells. What is durable counts as
+/// shown, and no earlier record is settled. Two calls find a cell each, and a third finds none, which leaves no record.
 const SHARED: &[(usize, Act)] = &[
     (0, Act::Counts(3, 0)),
     (0, Act::Settles(3, None)),
@@ -320,8 +321,8 @@ const SHARED: &[(usize, Act)] = &[
 ];
 
 /// The history keeps 1,500 records. Seat 1 leaves its second without an answer, which holds all later ones: after 1,498
-/// gets of seat 0 the history is full, and nothing is forgotten. Once the record is settled, a block is forgotten, though
-/// seat 2 never calls, and calls go on.
+/// gets of seat 0 the history is full, and nothing is forgotten. Once the record is settled, a block is forgotten,
+/// though seat 2 never calls, and calls go on.
 const FORGOTTEN: &[(usize, Act)] = &[
     (1, Act::Calls(Do::Put(b"a", b"x", If::Any), 0, ("ok", 1))),
     (1, Act::Limits(0)),

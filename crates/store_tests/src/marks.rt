@@ -8,7 +8,8 @@ use std::thread::Threads;
 use store_clients::locked_log::{CleanTurn, Naming, Receipt, Seat, Store};
 
 /// Whether the last seat raises the mark by the receipt in one thread and seat 0 reads it in another, while a push of a
-/// third waits and holds the lock. A body that waits for the lock reaches the limit of turns, and the push isn't let go.
+/// third waits and holds the lock. A body that waits for the lock reaches the limit of turns, and the push isn't let
+/// go.
 pub fn is_free<F: Fleet + Send, B: Naming + Send + Sync, R: Threads + Wait + Sync>(
     rt: &R,
     store: &Store<F, B>,

@@ -1,4 +1,5 @@
-//! Stores that are renewed: days of one master, each in a store of its own, which goes on where the last one was paused.
+//! Stores that are renewed: days of one master, each in a store of its own, which goes on where the last one was
+//! paused.
 
 ghost use Rattle.std.specs.Prelude.{◌≡◌, ◌≤◌, ◌+◌, [], length};
 ghost use Rattle.history_row.specs.Rows.{IsRowOf};

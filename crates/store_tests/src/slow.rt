@@ -71,8 +71,8 @@ impl Watch {
         self.is_poor.store(1, Ordering::SeqCst);
     }
 
-    /// Whether there were so many takes at least since another thread was expected, and it limited the fleet between two
-    /// of them.
+    /// Whether there were so many takes at least since another thread was expected, and it limited the fleet between
+    /// two of them.
     pub fn has_let_in(&self, takes: u64) -> bool {
         let before = self.expected_at.load(Ordering::SeqCst);
         let limited_at = self.limited_at.load(Ordering::SeqCst);

@@ -17,7 +17,8 @@ use store_clients::locked_log::{Blank, Naming, Receipt, Row, Seat, Store};
 use store_clients::master::{Look, Master, Shown};
 
 /// The size of a store: how many seats it has, 1 to 64, and how many cells; how many records the history of its master
-/// keeps; and how many gets the master served before, with a put behind them that is no longer pushed, or 0 for neither.
+/// keeps; and how many gets the master served before, with a put behind them that is no longer pushed, or 0 for
+/// neither.
 pub type Size = (u64, u64, u64, u64);
 
 /// How many were answered as wanted up to the first that was not; the place behind the last receipt that the row told;

@@ -1,4 +1,5 @@
-use Rattle.std.proofs.Common.{◌≡◌, ◌<◌, ℕ, ◌+◌, ◌-◌, arith, List, Option, Some, length, get_or, sym, ap, ◌∙◌, subst, rules, refl}
+use Rattle.std.proofs.Common.{◌≡◌, ◌<◌, ℕ, ◌+◌, ◌-◌, arith, List, Option, Some, length, get_or, sym, ap, ◌∙◌, subst}
+use Rattle.std.proofs.Common.{rules, refl}
 use Rattle.std.specs.Prelude.{slice_get, slice_set}
 use Rattle.versioned_map.specs.declared.command.Record.{Record}
 use Rattle.history_row.specs.Receipts.{Told}

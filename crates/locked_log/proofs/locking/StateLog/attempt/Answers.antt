@@ -11,7 +11,8 @@ use Rattle.locked_log.proofs.locking.StateLog.attempt.Goals as goal
 
 pub returns-then-not-waits_for_roll-clause-seat : goal.returns-then-not-waits_for_roll-clause-seat
 returns-then-not-waits_for_roll-clause-seat g c =
-    makes_of _ _ c.args.seat.now c.enter_held.new.seat c.args.command.now c.enter_held.result c.enter_held.ensures.enters
+    makes_of _ _ c.args.seat.now c.enter_held.new.seat c.args.command.now c.enter_held.result
+    c.enter_held.ensures.enters
     (λ waits. let yes = c.waits_for_roll.ensures.1 waits in
     let no = c.if-not-waits_for_roll.true in cc)
 

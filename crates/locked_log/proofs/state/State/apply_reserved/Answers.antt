@@ -155,7 +155,8 @@ done-took : (g : Over) (c : goal.Else-not-file g)
 done-took g c =
     let known : Knows c.args.self.now.book c.args.seat.now = c.knows.ensures.0 (search rules) in
     let asked = shown_command c.view_command-view.result in
-    subst (λ (k : Command). Done (held g.F.Fleet.state c.args.self.now) c.args.seat.now k (Ok (c.in-Ok.applied.0, c.in-Ok.applied.1))
+    subst (λ (k : Command). Done (held g.F.Fleet.state c.args.self.now) c.args.seat.now k
+    (Ok (c.in-Ok.applied.0, c.in-Ok.applied.1))
     (record {
       world = world g.F.Fleet.state c.apply_command.new.master;
       book = c.file.new.book.items;

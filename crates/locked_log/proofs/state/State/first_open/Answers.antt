@@ -12,5 +12,12 @@ returns-clause-settled g c =
     subst (λ (y : StateValue _). IsSettled y.start y.book y.master.knows.history c.max-first.result) c.self.view_is
     (settled_below g.B.Labels.start s.master.knows.forgotten c.bound-least.result c.max-first.result s.book.items
     s.master.knows.history
-    (omega (arith, c.max-first.ensures, c.max-kept.ensures, c.min-open_at.ensures, c.forgotten.ensures, c.start.ensures))
+    (omega (
+      arith,
+      c.max-first.ensures,
+      c.max-kept.ensures,
+      c.min-open_at.ensures,
+      c.forgotten.ensures,
+      c.start.ensures,
+    ))
     c.self.invariant.settled late)
