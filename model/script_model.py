@@ -62,16 +62,18 @@ class Options:
     forget: bool = False
     # Whether keys and values are any bytes, each behind its length.
     raw: bool = False
+    # Whether the run goes on behind a bad line.
+    keep_going: bool = False
 
 
 def options_of(words):
     """The options of words such as --segment=4096 and --forget. For a --live of 0 they have the greatest limit."""
-    flags = {"forget", "raw"}
-    names = {option.name for option in fields(Options)} - flags
+    flags = {"--forget": "forget", "--raw": "raw", "--keep-going": "keep_going"}
+    names = {option.name for option in fields(Options)} - {*flags.values()}
     numbers = {}
     for word in words:
-        if word[2:] in flags:
-            numbers[word[2:]] = True
+        if word in flags:
+            numbers[flags[word]] = True
             continue
         match = re.fullmatch(r"--([a-z]+)=([0-9]+)", word)
         if not match or match[1] not in names:
@@ -213,6 +215,7 @@ LINES = {
     "log": (),
     "room": (),
     "segments": (),
+    "list": (number_word,),
     "live": (),
     "hex": (number_word,),
     "will": (),
@@ -303,9 +306,14 @@ def raw_parts(name, text):
     return parts
 
 
+def is_too_long(line, raw):
+    """Whether the line has more bytes than a line may have."""
+    return len(line) > (2**21 if raw else 0) + 4096
+
+
 def parse(line, backups, raw=False):
     """A line's name and what follows it, or None if it is a bad line, whatever stands before it."""
-    if len(line) > (2**21 if raw else 0) + 4096:
+    if is_too_long(line, raw):
         return None
     if line[:1] in (b"", b"#"):
         return ("idle",)
@@ -342,20 +350,28 @@ def later_options(later, line):
 
 
 def parsed_lines(script, options):
-    """The lines of a script up to the first bad one, for which None stands."""
+    """The lines of a script. None stands for a bad one. It is the last, unless the run keeps going and the line isn't too long."""
     later = options
     for line in lines_of(script, options.raw):
         parsed = parse(line, options.backups, options.raw)
-        later = later_options(later, parsed) if parsed else later
-        if config_fault(later):
+        after = later_options(later, parsed) if parsed else later
+        if config_fault(after):
             parsed = None
+        later = after if parsed else later
         yield parsed
-        if parsed is None:
+        if parsed is None and (not options.keep_going or is_too_long(line, options.raw)):
             return
 
 
+def bad_line(number):
+    """What is reported of a bad line."""
+    return f"ramlog: bad line {number}\n"
+
+
 # How the last row begins of the answers with many rows.
-LAST_ROWS = {"recover": ("recovered ", "refused ", "stopped"), "will": ("partitions ", "refused ")}
+LAST_ROWS = {
+    "recover": ("recovered ", "refused ", "stopped"), "list": ("listed ", "refused "), "will": ("partitions ", "refused "),
+}
 
 
 # A row of `segments`.
@@ -1830,6 +1846,13 @@ class Store:
         lines += [f"{id_} waiting 0 0 {len(counted.holders(id_))}\n" for id_ in master.waiting]
         yield "".join(lines), 0, self
 
+    def line_list(self, table):
+        yield REFUSED, 1, self
+        raw, live = self.options.raw, self.master.live
+        rows = [f"{table} {shown(key, raw)} {live[owner, key].version} {shown(live[owner, key].value, raw)}\n"
+                for owner, key in sorted(live) if owner == table]
+        yield "".join(rows) + f"listed {len(rows)}\n", 0, self
+
     def line_live(self):
         limit = "none" if self.options.live == NO_LIMIT else self.options.live
         yield f"live {self.master.live_bytes()} {limit}\n", 0, self
@@ -1969,13 +1992,14 @@ def undisturbed(script, options):
     """How the run of a script ends if no memory is refused."""
     if config_fault(options):
         return Run(2, "", f"ramlog: bad configuration {config_fault(options)}\n")
-    store, output = Store.new(options), []
+    store, output, errors = Store.new(options), [], ""
     for place, parsed in enumerate(parsed_lines(script, options), 1):
         if parsed is None:
-            return Run(2, "".join(output), f"ramlog: bad line {place}\n")
+            errors += bad_line(place)
+            continue
         answer, store = store.answered(parsed)
         output.append(answer)
-    return Run(0, "".join(output), "")
+    return Run(2 if errors else 0, "".join(output), errors)
 
 
 def explain(script, options, run, most):
@@ -1983,21 +2007,20 @@ def explain(script, options, run, most):
     found = []
     # Stores that fit the output so far, each with the length of that and the refusals that it takes.
     fitting = {(Store.new(options), 0, 0)}
-    lines = [*parsed_lines(script, options)]
+    lines, errors = [*parsed_lines(script, options)], ""
     for place in range(len(lines) + 1):
         done = [refusals for _, length, refusals in fitting if length == len(run.output)]
-        if run.status == 1 and run.errors == NO_MEMORY and (place < len(lines) or not lines):
+        if run.status == 1 and run.errors == errors + NO_MEMORY and (place < len(lines) or not lines):
             # Memory ran out at the start, or for this line's own text or ids.
             found += [refusals + 1 for refusals in done if refusals < most]
         if place == len(lines):
-            if run.status == 0 and run.errors == "":
+            if (run.status, run.errors) == (2 if errors else 0, errors):
                 found += done
             break
         parsed = lines[place]
         if parsed is None:
-            if run.status == 2 and run.errors == f"ramlog: bad line {place + 1}\n":
-                found += done
-            break
+            errors += bad_line(place + 1)
+            continue
         fitting = {
             (after, length + len(answer), refusals + refused)
             for store, length, refusals in fitting

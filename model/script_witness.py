@@ -17,7 +17,7 @@ import re
 from dataclasses import dataclass, field
 
 from script_model import (ANY_LINES, BLOCK, DOWN_LINES, NO_LIMIT, STEPS, Command, Fleet, Object, Run, Store, Undetermined, answers_of,
-                          client_key, config_fault, is_too_big, later_options, make_will, name_of, object_len, options_of,
+                          bad_line, client_key, config_fault, is_too_big, later_options, make_will, name_of, object_len, options_of,
                           parsed_lines, place, seglets_needed, undisturbed, whole_seglets)
 from script_orders import orders_of
 
@@ -147,6 +147,11 @@ class Map:
     def rows(self):
         return [f"{it.table} {it.key.decode()} {it.version} {it.value.decode()}" for it in self.objects()]
 
+    def may_list(self, table, rows):
+        """Whether these may be the rows of a table. A client's key of which nothing is known yet may have any row or none."""
+        unknown = tuple(f"{owner} {key.decode()} " for owner, key in self.crowd.before) if self.crowd else ()
+        return [it for it in rows if not it.startswith(unknown)] == [it for it in self.rows() if it.startswith(f"{table} ")]
+
     def live_bytes(self):
         return sum(map(object_len, self.objects()))
 
@@ -195,6 +200,8 @@ class Witness:
                 return f"{line[0]} printed {answer[-1]}, and fewer backups than {self.replicas} are lost"
         elif line[0] == "recover" and answer and answer != ["stopped"]:
             return self.wrong_table(answer)
+        elif line[0] == "list" and answer and not is_refused:
+            return self.wrong_list(line[1], answer)
         return None
 
     def halt(self, line):
@@ -264,6 +271,13 @@ class Witness:
     def maps(self):
         """The map without the line that was stopped or halted, and with it, if one was."""
         return [it for it in (self.answered, self.stopped) if it]
+
+    def wrong_list(self, table, answer):
+        # A halted master holds what the line that met the fault has put, too.
+        is_whole = answer[-1] == f"listed {len(answer) - 1}"
+        if is_whole and any(it.may_list(table, answer[:-1]) for it in self.maps()):
+            return None
+        return f"list {table} printed {answer}, and the map is one of {[it.rows() for it in self.maps()]}, but for clients"
 
     def wrong_table(self, answer):
         found = next(filter(None, (it.found(answer[:-1]) for it in self.maps())), None)
@@ -517,6 +531,10 @@ class Follower:
     def may_lose(self, line, answer):
         return answer == [f"lost {line[1]}"]
 
+    def may_list(self, _, answer):
+        # The witness judges the rows.
+        return not answer[-1].startswith("refused ")
+
     def may_live(self, _, answer):
         limit = "none" if self.options.live == NO_LIMIT else self.options.live
         # A halted master counts what the line that met the fault has put, too.
@@ -595,8 +613,8 @@ def wrong_run(words, script, run):
     follower, lines, status, errors = Follower(options), [], 0, ""
     for number, parsed in enumerate(parsed_lines(script, options), 1):
         if parsed is None:
-            status, errors = 2, f"ramlog: bad line {number}\n"
-            break
+            status, errors = 2, errors + bad_line(number)
+            continue
         lines.append(parsed)
     printed = []
     for line, answer in answers_of(lines, run.output):

@@ -165,13 +165,13 @@ def output_goes_in_blocks(program):
 class Terminal:
     """The program at a terminal, which shows no input."""
 
-    def __init__(self, program):
+    def __init__(self, program, **streams):
         self.screen, keys = pty.openpty()
         modes = termios.tcgetattr(keys)
         modes[1] &= ~termios.OPOST
         modes[3] &= ~termios.ECHO
         termios.tcsetattr(keys, termios.TCSANOW, modes)
-        self.process = subprocess.Popen([program], stdin=keys, stdout=keys)
+        self.process = subprocess.Popen([program], stdin=keys, stdout=keys, **streams)
         os.close(keys)
 
     def type(self, text):
@@ -244,6 +244,42 @@ def a_terminal_shows_why(program):
         finally:
             os.close(screen)
             os.close(keys)
+
+
+def a_pipe_goes_on_if_asked(program):
+    """With the word --keep-going each bad line is named at once and skipped, and the lines behind it are answered."""
+    bad = b"ramlog: bad line 2\n"
+    want(run(program, b"put 1 a x\nput 1 a\nget 1 a\n"), (b"ok 1\n", bad, 2))
+    for words in (["--keep-going"], ["--step=1", "--keep-going"], ["--keep-going", "--step", "1"]):
+        want(run(program, b"put 1 a x\nput 1 a\nget 1 a\n", words), (b"ok 1\n1 x\n", bad, 2))
+    why = b"ramlog: put has a table, a key and a value\n"
+    want(run(program, b"\nput 1 a\nget 1 a", ["--keep-going", "--explain"]), (b"none\n", bad + why, 2))
+    # The last line is bad, and has no line feed.
+    want(run(program, b"get 1 a\nput 1 a", ["--keep-going"]), (b"none\n", bad, 2))
+    want(run(program, b"get 1 a\n", ["--keep-going"]), (b"none\n", b"", 0))
+    # A line that is too long ends the run all the same.
+    want(run(program, b"get 1 a\n" + 4097 * b"x" + b"\nget 1 a\n", ["--keep-going"]), (b"none\n", bad, 2))
+    with subprocess.Popen([program, "--keep-going"], stdin=subprocess.PIPE, stdout=subprocess.PIPE, stderr=subprocess.PIPE) as it:
+        for line, stream, said in ((b"get 1 a\n", it.stdout, b"none\n"), (b"get\n", it.stderr, bad), (b"log\n", it.stdout, b"log 1\n")):
+            it.stdin.write(line)
+            it.stdin.flush()
+            want(stream.readline(), said)
+        it.stdin.close()
+        want(it.wait(SECONDS), 2)
+
+
+def a_terminal_goes_on(program):
+    """A bad line that is typed doesn't end the run."""
+    with Terminal(program, stderr=subprocess.PIPE) as it:
+        it.type(b"put 1 a x\n")
+        want(it.read(5), b"ok 1\n")
+        it.type(b"gets\n")
+        want(it.process.stderr.readline(), b"ramlog: bad line 2\n")
+        it.type(b"get 1 a\n")
+        want(it.read(4), b"1 x\n")
+        it.type(b"\x04")
+        want(it.process.wait(SECONDS), 2)
+        it.process.stderr.close()
 
 
 def an_end_is_not_asked_for_again(program):
@@ -511,7 +547,8 @@ def the_largest_configuration_is_served(program):
 
 TESTS = [
     help_is_printed, version_is_printed, words_are_text, lines_have_limits, a_reader_fails, a_writer_fails,
-    input_comes_in_parts, pipes_show_each_answer, output_goes_in_blocks, a_terminal_shows_each_answer, a_terminal_shows_why, a_pipe_is_told_why_if_asked, any_bytes_come_back, an_end_is_not_asked_for_again,
+    input_comes_in_parts, pipes_show_each_answer, output_goes_in_blocks, a_terminal_shows_each_answer, a_terminal_shows_why, a_pipe_is_told_why_if_asked, a_pipe_goes_on_if_asked, a_terminal_goes_on,
+    any_bytes_come_back, an_end_is_not_asked_for_again,
     memory_is_taken_and_given_back, survivors_take_a_segment_each, forgotten_records_leave_their_memory, large_tables_are_recovered, workers_recover_in_threads,
     a_call_ends_a_long_failover,
     a_whole_segment_is_compacted_and_cleaned, many_segments_and_objects_are_served, the_largest_configuration_is_served,

@@ -138,6 +138,7 @@ def random_commands(program):
             for table in (1, 2, 3):
                 found = store.get_many([key for key, t in shadow.keys if t == table], table=table)
                 want(found, [shadow.held.get(place) for place in shadow.keys if place[1] == table])
+                want(store.list(table), [row for row in shadow.table() if row.table == table])
             store.crash()
             for backup in draw.sample(range(3), draw.randint(0, 2)):
                 store.lose(backup)
@@ -169,6 +170,22 @@ def batches(program):
         want((store.get(b"d"), [e.number for e in store.get_many([b"d"], table=9)]), (None, [12]))
 
 
+def a_table_is_listed(program):
+    """A list has all objects of its table in the order of their keys, whatever they are made of."""
+    with ramlog.Store(program, tables=2) as store:
+        want(store.list(), [])
+        keys = [b"b", b"a", b"\xff", b"\x00", b"a b", b"a\n", b"ab", b"B"]
+        versions = dict(zip(keys, store.put_many([(key, key + b":") for key in keys])))
+        store.put(b"a", b"other", table=2)
+        want(store.list(), [(1, key, versions[key], key + b":") for key in sorted(keys)])
+        want([(row.key, row.value) for row in store.list(table=2)], [(b"a", b"other")])
+        for key in keys[1:]:
+            store.delete(key)
+        want([row.key for row in store.list()], [b"b"])
+        want((store.list(table=3), store.list(table=2 ** 64 - 1)), ([], []))
+        want_refused(12, store.list, table=-1)
+
+
 def pipes_fill_up(program):
     """Batches whose lines and answers are each longer than a pipe holds."""
     with ramlog.Store(program, segment=1048576, seglet=65536, seglets=1024) as store:
@@ -179,6 +196,7 @@ def pipes_fill_up(program):
         long = bytes(range(256)) * 1000
         version = store.put(b"long", long)
         want(store.get(b"long"), (version, long))
+        want([entry.value for entry in store.list()], [value for _, value in pairs] + [long])
         store.crash()
         want([entry.value for entry in store.recover()], [value for _, value in pairs] + [long])
 
@@ -232,7 +250,7 @@ def up_and_down(program):
         want_refused(15, store.seglets_needed)
         store.crash()
         for call, words in ((store.crash, ()), (store.get, (b"k",)), (store.put, (b"k", b"v")), (store.settle, ()),
-                            (store.tend, (1,)), (store.room, ()), (store.live, ())):
+                            (store.tend, (1,)), (store.room, ()), (store.live, ()), (store.list, ())):
             want_refused(0, call, *words)
         for backup in range(3):
             store.lose(backup)
@@ -419,7 +437,7 @@ def every_method_says_what_it_does(_):
             want((name, bool(getattr(ramlog.Store, name).__doc__)), (name, True))
 
 
-TESTS = [words_are_read_as_written, random_commands, conditions, batches, pipes_fill_up, bad_arguments, refusals, up_and_down,
+TESTS = [words_are_read_as_written, random_commands, conditions, batches, a_table_is_listed, pipes_fill_up, bad_arguments, refusals, up_and_down,
          a_next_master_gets_more_memory, calls_may_be_unsure, a_halted_master_is_followed_by_another, a_failed_backup_is_made_good, upkeep,
          a_program_that_ends, a_program_that_ends_in_a_batch, bad_options, a_call_that_is_cut_off, answers_of_another_program,
          threads_share_a_store, the_example_runs, every_method_says_what_it_does]

@@ -276,7 +276,7 @@ class _Answers:
                 self.entries.append(it)
                 continue
             entries, self.entries = self.entries, []
-            if it.startswith(b"recovered ") and int(it.split(b" ")[1]) == len(entries):
+            if it.startswith((b"recovered ", b"listed ")) and int(it.split(b" ")[1]) == len(entries):
                 return entries
             return _refusal(it, False)
 
@@ -384,6 +384,13 @@ class Store:
         None for a key without one, and a `Refused` in the place of one that was refused."""
         found = self._all([_line(b"get", table, key) for key in keys], _Answers.object, False)
         return [None if it is False else it for it in found]
+
+    def list(self, table: int = 1) -> List[Entry]:
+        """All objects of a table, in the order of their keys' bytes. A table that isn't there has none. Unlike what `get` sees, an object
+        need not be durable: one that a call put which was `Unsure` may be among them.
+
+        Raises `Refused` (0 Down if there is no master, 5 NoMemory)."""
+        return self._all([b"list %d\n" % _number(table, "NoTablet")], _Answers.table)[0]
 
     # Upkeep.
 

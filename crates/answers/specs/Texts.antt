@@ -53,9 +53,12 @@ hex_text bytes = flat_map hex_digits bytes ++ 10 ∷ []
 abbrev pub object_text : Object → List ℕ
 object_text o = decimal o.key.table ++ 32 ∷ o.key.bytes ++ 32 ∷ decimal o.version ++ 32 ∷ o.value ++ 10 ∷ []
 
--- a line for each object, in order, and a line with their number
+-- a line for each object, in order, and a line with these words and their number
+abbrev pub objects_text : List ℕ → List Object → List ℕ
+objects_text words os = flat_map object_text os ++ words ++ decimal (length os) ++ 10 ∷ []
+
 abbrev pub rebuilt_text : Rebuilt → List ℕ
-rebuilt_text r = flat_map object_text r.objects ++ codes "recovered " ++ decimal (length r.objects) ++ 10 ∷ []
+rebuilt_text r = objects_text (codes "recovered ") r.objects
 
 -- words and two numbers: those of an op's backup and segment, for example
 abbrev pub op_text : List ℕ → ℕ → ℕ → List ℕ
@@ -184,6 +187,7 @@ answer_text (answer.Counted clients rounds calls) = codes "clients " ++ decimal 
 answer_text (answer.Log ids) = log_text ids
 answer_text (answer.Room used free) = room_text used free
 answer_text (answer.Segments rows) = flat_map segment_text rows
+answer_text (answer.Listed objects) = objects_text (codes "listed ") objects
 answer_text (answer.Live bytes most) = live_text bytes most
 answer_text (answer.Needs needed) = needs_text needed
 answer_text (answer.Seglets seglets) = codes "seglets " ++ decimal seglets ++ 10 ∷ []

@@ -3,7 +3,7 @@
 ghost use Rattle.std.specs.Prelude.{◌≡◌, ◌<◌, ◌+◌, ◌≤◌, ◌++◌, ◌∷◌, [], codes, drop, length, false, IfSome};
 ghost use Rattle.std.specs.Fmt.{decimal, digit_glyph};
 ghost use Rattle.tablet_will.specs.Parts.{partitions_of};
-ghost use Rattle.answers.specs.Texts.{answer_text, hex_digits, hex_text, object_text, rebuilt_text, reply_text};
+ghost use Rattle.answers.specs.Texts.{answer_text, hex_digits, hex_text, object_text, objects_text, reply_text};
 ghost use Rattle.answers.specs.Texts.{part_text, place_text, will_text, take_fault_text};
 ghost use Rattle.recovery.specs.master.cleaner.Passes.{survivor_ids};
 ghost use Rattle.answers.specs.Texts.{asked_text, begun_text, cleaned_text, op_text, log_text, room_text, spaced_text};
@@ -23,6 +23,7 @@ use entry::{ObjectRef, Row, Version};
 use history::{ReplyRef, view_reply};
 use itoa::write_digits;
 use recovery::master::{Refusal, Reply, SegmentRow, StepAnswer, Survivors};
+use recovery::replay::Objects;
 use recovery::{Rebuilt, RecoveryFault};
 use replica::{Label, Labels, TakeFault};
 use std::fmt::{Display, Write as _};
@@ -76,6 +77,8 @@ pub enum Answer {
     Room(u64, u64),
     /// The master's segments: first those that have an image, by rising id, then those that wait to be freed.
     Segments(Row<SegmentRow>),
+    /// The live objects of a table, in the order of their keys' bytes.
+    Listed(Objects),
     /// How many bytes all live objects have together, and how many puts may make them. `u64::MAX` bytes stand for as
     /// many or more, and as the second number for no limit.
     Live(u64, u64),
@@ -120,7 +123,7 @@ pub fn write_answer<W: Write>(writer: &mut W, answer: &Answer) -> Result<(), Wri
         Answer::Stopped => hand(writer, b"stopped\n"),
         Answer::Crashed => hand(writer, b"crashed\n"),
         Answer::Lost(backup) => write_number(writer, b"lost ", *backup, b'\n'),
-        Answer::Recovered(rebuilt) => write_rebuilt(writer, rebuilt),
+        Answer::Recovered(rebuilt) => write_objects(writer, &rebuilt.objects, b"recovered "),
         Answer::NotRecovered(fault) => write_refused(writer, fault),
         Answer::NotRetired(fault) => write_take_fault(writer, *fault),
         Answer::NumbersSpent => hand(writer, b"refused NumbersSpent\n"),
@@ -134,6 +137,7 @@ pub fn write_answer<W: Write>(writer: &mut W, answer: &Answer) -> Result<(), Wri
         Answer::Log(ids) => write_log(writer, ids.as_slice()),
         Answer::Room(used, free) => write_room(writer, *used, *free),
         Answer::Segments(rows) => write_segments(writer, rows.as_slice()),
+        Answer::Listed(objects) => write_objects(writer, objects, b"listed "),
         Answer::Live(bytes, most) => write_live(writer, *bytes, *most),
         Answer::Needs(needed) => write_needs(writer, *needed),
         Answer::Seglets(seglets) => write_number(writer, b"seglets ", *seglets, b'\n'),
@@ -688,13 +692,18 @@ fn write_object<W: Write>(writer: &mut W, object: &ObjectRef<'_>) -> Result<(), 
     }
 }
 
-/// Writes a line for each object, in order, and a line with their number.
+/// Writes a line for each object, in order, and a line with these words and their number.
 #[inline(never)]
-fn write_rebuilt<W: Write>(writer: &mut W, rebuilt: &Rebuilt) -> Result<(), WriteFailed>
-    ensures { IsHanded (W.contents writer.old) (W.contents writer.new) (rebuilt_text rebuilt.now) result }
+fn write_objects<W: Write>(
+    writer: &mut W,
+    objects: &Objects,
+    words: &[u8],
+) -> Result<(), WriteFailed>
+    requires { length words.now ≤ 20 }
+    ensures { IsHanded (W.contents writer.old) (W.contents writer.new) (objects_text words.now objects.now) result }
 {
-    for object in rebuilt.objects.iter() {
+    for object in objects.iter() {
         write_object(writer, &object)?;
     }
-    write_number(writer, b"recovered ", rebuilt.objects.len() as u64, b'\n')
+    write_number(writer, words, objects.len() as u64, b'\n')
 }

@@ -6,7 +6,7 @@ use Rattle.answers.specs.declared.answer.Answer.TheVariants as answer
 use Rattle.cluster.specs.declared.node.Node.{Node}
 use Rattle.cluster.specs.declared.node.Node.TheVariants.{Up, Down, Changing}
 use Rattle.cluster.specs.Served.{is_up}
-use Rattle.cluster.specs.Shows.{ShowsDigest, ShowsImage, ShowsLive, ShowsRoom, ShowsSegments}
+use Rattle.cluster.specs.Shows.{ShowsDigest, ShowsImage, ShowsLive, ShowsObjects, ShowsRoom, ShowsSegments}
 use Rattle.cluster.specs.Waits.{MakesOpen, MakesRoom}
 use Rattle.cluster.proofs.Standing.{is_down_some}
 
@@ -34,6 +34,11 @@ pub segments_down : (node : Node) → is_up node ≡ false → ShowsSegments nod
 segments_down (Up m) down = absurd (cc)
 segments_down (Down fleet) down = refl
 segments_down Changing down = refl
+
+pub objects_down : (node : Node) (table : ℕ) → is_up node ≡ false → ShowsObjects node table answer.Down
+objects_down (Up m) table down = absurd (cc)
+objects_down (Down fleet) table down = refl
+objects_down Changing table down = refl
 
 pub live_down : (node : Node) → is_up node ≡ false → ShowsLive node answer.Down
 live_down (Up m) down = absurd (cc)

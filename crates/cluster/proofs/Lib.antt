@@ -3,6 +3,7 @@ pub mod Commands
 pub mod Rolls
 pub mod WhatIsLeft
 pub mod Willed
+pub mod Listed
 pub mod Steps
 pub mod Tries
 pub mod ByHand

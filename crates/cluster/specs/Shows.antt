@@ -1,11 +1,13 @@
 -- What a line shows of a node's own master.
 use Rattle.std.specs.Prelude.{◌≡◌, ◌⊎◌, ℕ, List, IsSome, Option, Some, None}
 use Rattle.std.specs.Option.{option_map}
+use Rattle.entry.specs.declared.entry.Object.{Object}
 use Rattle.entry.specs.Text.{text_of}
 use Rattle.answers.specs.driving.master.log_head.Head.{digest_of}
 use Rattle.answers.specs.driving.master.master_state.declared.step.Refusal.TheVariants.{NoMemory}
 use Rattle.answers.specs.driving.master.master_state.Budget.{used_seglets, free_seglets}
-use Rattle.answers.specs.driving.master.master_state.Log.{image_of}
+use Rattle.answers.specs.driving.master.master_state.Log.{image_of, state_now}
+use Rattle.answers.specs.driving.master.master_space.Objects.{AreObjectsOf}
 use Rattle.answers.specs.driving.master.Segments.{segment_rows}
 use Rattle.answers.specs.declared.answer.Answer.{Answer}
 use Rattle.answers.specs.declared.answer.Answer.TheVariants as answers
@@ -28,6 +30,14 @@ abbrev pub ShowsSegments : Node → Answer → Type 0
 ShowsSegments (Up m) answer =
     (answer ≡ answers.Segments (segment_rows m.knows)) ⊎ (answer ≡ answers.Refused NoMemory)
 ShowsSegments node answer = answer ≡ answers.Down
+
+-- the live objects that the node's master has of the table; or memory ran out
+abbrev pub ShowsObjects : Node → ℕ → Answer → Type 0
+ShowsObjects (Up m) table answer =
+    ((objects : List Object) × AreObjectsOf (state_now m.knows).contents table objects
+    × (answer ≡ answers.Listed objects))
+    ⊎ (answer ≡ answers.Refused NoMemory)
+ShowsObjects node table answer = answer ≡ answers.Down
 
 -- how many bytes the live objects of the node's master have together, and how many puts may make them
 abbrev pub ShowsLive : Node → Answer → Type 0

@@ -2,11 +2,12 @@
 use Rattle.std.specs.Prelude.{◌≡◌, ◌⊎◌, ◌↔◌, ℕ, suc, ◌<◌, List, ◌∷◌, map, Bool, true, false}
 use Rattle.std.specs.Prelude.{Option, Some, None, Result, Ok, Err, slice_get}
 use Rattle.std.specs.Option.{option_map}
+use Rattle.entry.specs.declared.entry.Object.{Object}
 use Rattle.entry.specs.Meaning.{IsMeaning, among, contents_of}
 use Rattle.entry.specs.Text.{text_of}
 use Rattle.lines.specs.Grammar.{LineValue, Idle, Put, New, Cas, Get, Del, Compact, Roll, BeginRoll, Push, Log, Room}
 use Rattle.lines.specs.Grammar.{Hex, Stop, Fault, Crash, Lose, Will, Recover, Holdings, Clean, Begin, Copy, Seal, Free}
-use Rattle.lines.specs.Grammar.{Clients, Format, LiveBytes, Needs, Seglets, Segments, Tend}
+use Rattle.lines.specs.Grammar.{Clients, Format, Listing, LiveBytes, Needs, Seglets, Segments, Tend}
 use Rattle.lines.specs.declared.line.ReplayOrder.{ReplayOrder}
 use Rattle.backup.specs.Inventory.{AreRising}
 use Rattle.answers.specs.driving.master.cleaner.declared.survivors.Survivors.{Survivors}
@@ -35,6 +36,7 @@ use Rattle.answers.specs.driving.master.Steps.{Steps}
 use Rattle.answers.specs.driving.master.World.{World}
 use Rattle.answers.specs.driving.master.master_state.Budget.{used_seglets, free_seglets}
 use Rattle.answers.specs.driving.master.master_state.Log.{image_of}
+use Rattle.answers.specs.driving.master.master_space.Objects.{AreObjectsOf}
 use Rattle.answers.specs.driving.master.declared.segments.SegmentRow.{SegmentRow}
 use Rattle.answers.specs.driving.master.Segments.{segment_rows}
 use Rattle.answers.specs.claims.declared.rebuilt.Rebuilt.{Rebuilt}
@@ -196,6 +198,7 @@ shows (Hex segment) = true
 shows Log = true
 shows Holdings = true
 shows Segments = true
+shows (Listing table) = true
 shows Will = true
 shows _ = false
 
@@ -213,6 +216,10 @@ IsRoomAt config life used free = (d : MasterData) × (f : FleetState) × HasLive
 abbrev pub AreSegmentsAt : Config → Life → List SegmentRow → Type 0
 AreSegmentsAt config life rows = (d : MasterData) × (f : FleetState) × HasLived config life d f
     × (rows ≡ segment_rows d)
+
+-- these are the objects of the table in the versioned map after this life, in the order of their keys' bytes
+abbrev pub AreListedAt : Life → ℕ → List Object → Type 0
+AreListedAt life table objects = AreObjectsOf (after life.opening (commands_of life.history)).contents table objects
 
 -- all live objects of a master that has lived this life have this many bytes together
 abbrev pub IsLiveAt : Config → Life → ℕ → Type 0
@@ -339,6 +346,7 @@ is_for_master (Tend steps) = true
 is_for_master Log = true
 is_for_master Room = true
 is_for_master Segments = true
+is_for_master (Listing table) = true
 is_for_master LiveBytes = true
 is_for_master Will = true
 is_for_master (Hex segment) = true
@@ -382,6 +390,8 @@ Tells config life at line (answer.Room used free) next = (at.left ≡ None) × (
     × IsRoomAt config (life_to life at.made) used free × (next ≡ at)
 Tells config life at line (answer.Segments rows) next = (at.left ≡ None) × (line ≡ Segments)
     × AreSegmentsAt config (life_to life at.made) rows × (next ≡ at)
+Tells config life at line (answer.Listed objects) next = (at.left ≡ None)
+    × ((table : ℕ) × (line ≡ Listing table) × AreListedAt (life_to life at.made) table objects) × (next ≡ at)
 Tells config life at line (answer.Live bytes most) next = (at.left ≡ None) × (line ≡ LiveBytes)
     × IsLiveAt config (life_to life at.made) bytes × (most ≡ config.most_live) × (next ≡ at)
 Tells config life at line (answer.Will parts limits) next = (at.left ≡ None) × (line ≡ Will)

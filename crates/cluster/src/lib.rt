@@ -8,6 +8,7 @@
 #![tactic(auto)]
 
 mod forgetting;
+mod listing;
 mod node;
 mod tended;
 mod tried;

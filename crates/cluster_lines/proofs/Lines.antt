@@ -3,7 +3,7 @@ use Rattle.std.proofs.Common.{◌≡◌, ℕ, sym, subst}
 use Rattle.std.specs.Prelude.{Option, Some, IfSome}
 use Rattle.lines.specs.Grammar.{LineValue, Idle, Put, New, Cas, Get, Del, Compact, Roll, BeginRoll, Push, Log, Room}
 use Rattle.lines.specs.Grammar.{Hex, Stop, Fault, Crash, Lose, Will, Recover, Holdings, Clean, Begin, Copy, Seal, Free}
-use Rattle.lines.specs.Grammar.{Clients, Format, LiveBytes, Needs, Seglets, Segments, Tend}
+use Rattle.lines.specs.Grammar.{Clients, Format, Listing, LiveBytes, Needs, Seglets, Segments, Tend}
 use Rattle.versioned_map.specs.declared.command.Command.{Command}
 use Rattle.versioned_map.specs.declared.command.Command.TheVariants as command
 use Rattle.versioned_map.specs.declared.command.If.TheVariants.{Any, Absent, Version}
@@ -38,6 +38,7 @@ command_makes tend old (Hex segment) new a command asks makes = absurd (cc)
 command_makes tend old Log new a command asks makes = absurd (cc)
 command_makes tend old Room new a command asks makes = absurd (cc)
 command_makes tend old Segments new a command asks makes = absurd (cc)
+command_makes tend old (Listing table) new a command asks makes = absurd (cc)
 command_makes tend old LiveBytes new a command asks makes = absurd (cc)
 command_makes tend old Holdings new a command asks makes = absurd (cc)
 command_makes tend old Will new a command asks makes = absurd (cc)
@@ -80,6 +81,7 @@ module _ (number : ℕ) where
   line_unraised tend old Log new a is below = same_node number old new is.0
   line_unraised tend old Room new a is below = same_node number old new is.0
   line_unraised tend old Segments new a is below = same_node number old new is.0
+  line_unraised tend old (Listing table) new a is below = same_node number old new is.0
   line_unraised tend old LiveBytes new a is below = same_node number old new is.0
   line_unraised tend old Holdings new a is below = same_node number old new is.0
   line_unraised tend old Will new a is below = same_node number old new is

@@ -2,14 +2,14 @@
 use Rattle.std.specs.Prelude.{◌≡◌, ℕ, IfSome}
 use Rattle.lines.specs.Grammar.{LineValue, Idle, Roll, BeginRoll, Compact, Push, Clean, Begin, Copy, Seal, Free, Will}
 use Rattle.lines.specs.Grammar.{Recover, Hex, Log, Room, Stop, Fault, Crash, Lose, Holdings as HoldingsLine, Clients}
-use Rattle.lines.specs.Grammar.{Format, LiveBytes, Needs, Seglets, Segments, Tend}
+use Rattle.lines.specs.Grammar.{Format, Listing, LiveBytes, Needs, Seglets, Segments, Tend}
 use Rattle.versioned_map.specs.declared.command.Command.{Command}
 use Rattle.cluster.specs.master.master_state.declared.step.Step.TheVariants as step
 use Rattle.cluster.specs.answers.declared.answer.Answer.{Answer}
 use Rattle.cluster.specs.declared.node.Node.{Node}
 use Rattle.cluster.specs.Served.{AsksFault, LimitsFleet, LosesMaster, LosesOne, MakesClean, MakesRoll}
 use Rattle.cluster.specs.Served.{MakesStep, MakesTend, ShowsFleet}
-use Rattle.cluster.specs.Shows.{ShowsDigest, ShowsImage, ShowsLive, ShowsRoom, ShowsSegments}
+use Rattle.cluster.specs.Shows.{ShowsDigest, ShowsImage, ShowsLive, ShowsObjects, ShowsRoom, ShowsSegments}
 use Rattle.cluster.specs.Tended.{MakesTended, steps_behind}
 use Rattle.cluster.specs.Told.{command_of}
 use Rattle.cluster_lines.specs.Clients.{MakesClients}
@@ -35,6 +35,7 @@ MakesLine tend old (Hex segment) new answer = (new ≡ old) × ShowsImage old se
 MakesLine tend old Log new answer = (new ≡ old) × ShowsDigest old answer
 MakesLine tend old Room new answer = (new ≡ old) × ShowsRoom old answer
 MakesLine tend old Segments new answer = (new ≡ old) × ShowsSegments old answer
+MakesLine tend old (Listing table) new answer = (new ≡ old) × ShowsObjects old table answer
 MakesLine tend old LiveBytes new answer = (new ≡ old) × ShowsLive old answer
 MakesLine tend old HoldingsLine new answer = (new ≡ old) × ShowsFleet old answer
 MakesLine tend old Will new answer = new ≡ old

@@ -35,6 +35,7 @@ pub(crate) const AFTER_HELP: &str = "Lines of a script:
   segments     Shows the segments, one a line: 'ID ROLE LENGTH KEPT REPLICAS', where ROLE is head, opening, closed, victim
                or survivor, and KEPT is its kept bytes of objects and tombstones; and 'ID waiting 0 0 LEFT' for one that
                left the log, with LEFT replicas to be freed
+  list T       Shows the live objects of table T, in the order of their keys' bytes: 'T K VERSION VALUE' .., 'listed N'
   live         Shows the bytes of the live objects, 23 + key + value each, and their limit: 'live BYTES N' or
                'live BYTES none'
   hex ID       Shows the bytes of segment ID in the master's memory, in hexadecimal
@@ -106,6 +107,9 @@ Exit status:
   2  A line is bad, the words are no options, or the options don't fit each other
 Standard error says which, as in 'ramlog: bad line 3'. If it is a terminal, or if --explain is among the options, a
 second line says why a line is bad, or which options disagree.
+A script ends at its first bad line. If --keep-going is among the options, or if the script is typed at a terminal, each
+bad line is named on standard error and skipped, and the status is 2 at the end. A line that is too long ends the script
+all the same.
 
 Example:
   printf 'put 1 a x\\nput 1 b y\\ncrash\\nrecover\\n' | ramlog";

@@ -6,7 +6,7 @@ use Rattle.std.specs.Fmt.{decimal}
 use Rattle.lines.specs.Grammar.{LineValue, words_of}
 use Rattle.lines.specs.Grammar.{Idle, Put, New, Cas, Get, Del, Compact, Roll, BeginRoll, Push, Log, Room, LiveBytes, Needs}
 use Rattle.lines.specs.Grammar.{Hex, Stop, Fault, Format, Seglets, Crash, Lose, Will, Recover, Holdings}
-use Rattle.lines.specs.Grammar.{Clean, Begin, Copy, Seal, Free, Clients, Tend, Segments}
+use Rattle.lines.specs.Grammar.{Clean, Begin, Copy, Seal, Free, Clients, Listing, Tend, Segments}
 use Rattle.lines.specs.declared.line.ReplayOrder.{ReplayOrder}
 use Rattle.lines.specs.declared.line.ReplayOrder.TheVariants.{Forward, Reverse, Threads}
 use Rattle.lines.specs.Words.{AreWordsOf, ReadsWords}
@@ -53,6 +53,7 @@ line_of ws =
     (cond (are_named (codes "log") ws) Log
     (cond (are_named (codes "room") ws) Room
     (cond (are_named (codes "segments") ws) Segments
+    (cond (are_named (codes "list") ws) (Listing (number_at 1 ws))
     (cond (are_named (codes "live") ws) LiveBytes
     (cond (are_named (codes "needs") ws) Needs
     (cond (are_named (codes "hex") ws) (Hex (number_at 1 ws))
@@ -72,7 +73,7 @@ line_of ws =
     (cond (are_named (codes "free") ws) Free
     (cond (are_named (codes "tend") ws) (Tend (number_at 1 ws))
     (cond (are_named (codes "clients") ws) (Clients (number_at 1 ws) (number_at 2 ws) (number_at 3 ws))
-    Idle))))))))))))))))))))))))))))))
+    Idle)))))))))))))))))))))))))))))))
 
 pub line_is : (words : List (List ℕ)) (line : LineValue) → AreWordsOf words line → line_of words ≡ line
 line_is words Idle are = absurd are
@@ -91,6 +92,7 @@ line_is words Push are = ap line_of are.spelled
 line_is words Log are = ap line_of are.spelled
 line_is words Room are = ap line_of are.spelled
 line_is words Segments are = ap line_of are.spelled
+line_is words (Listing n) are = ap line_of are.spelled ∙ ap Listing (value n are.limits)
 line_is words LiveBytes are = ap line_of are.spelled
 line_is words Needs are = ap line_of are.spelled
 line_is words (Hex n) are = ap line_of are.spelled ∙ ap Hex (value n are.limits)

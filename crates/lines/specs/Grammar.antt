@@ -29,6 +29,7 @@ pub data LineValue : Type 0 where
   Log : LineValue
   Room : LineValue
   Segments : LineValue
+  Listing : (table : ℕ) → LineValue
   LiveBytes : LineValue
   Needs : LineValue
   Hex : (segment : ℕ) → LineValue
@@ -68,6 +69,7 @@ shown_line line.Push = Push
 shown_line line.Log = Log
 shown_line line.Room = Room
 shown_line line.Segments = Segments
+shown_line (line.List table) = Listing table
 shown_line line.Live = LiveBytes
 shown_line line.Needs = Needs
 shown_line (line.Hex segment) = Hex segment
@@ -116,6 +118,7 @@ words_of Push = codes "push" ∷ []
 words_of Log = codes "log" ∷ []
 words_of Room = codes "room" ∷ []
 words_of Segments = codes "segments" ∷ []
+words_of (Listing table) = codes "list" ∷ decimal table ∷ []
 words_of LiveBytes = codes "live" ∷ []
 words_of Needs = codes "needs" ∷ []
 words_of (Hex segment) = codes "hex" ∷ decimal segment ∷ []
@@ -163,6 +166,7 @@ IsLine Push = Unit {0}
 IsLine Log = Unit {0}
 IsLine Room = Unit {0}
 IsLine Segments = Unit {0}
+IsLine (Listing table) = table < 2 ^ 64
 IsLine LiveBytes = Unit {0}
 IsLine Needs = Unit {0}
 IsLine (Hex segment) = segment < 2 ^ 64

@@ -16,6 +16,7 @@ abbrev pub shape_text : Shape → List ℕ
 shape_text shape.Key = codes " has a table and a key"
 shape_text shape.Value = codes " has a table, a key and a value"
 shape_text shape.Version = codes " has a table, a key, a version and a value"
+shape_text shape.Table = codes " has the number of a table"
 shape_text shape.Segment = codes " has the number of a segment"
 shape_text shape.Segments = codes " has the numbers of one segment or more"
 shape_text shape.Ops = codes " has a number of ops"

@@ -37,6 +37,7 @@ pub record IsNoLongName (word : List ℕ) : Type 0 where
   pub get : word ≢ codes "get"
   pub del : word ≢ codes "del"
   pub hex : word ≢ codes "hex"
+  pub list : word ≢ codes "list"
   pub compact : word ≢ codes "compact"
   pub stop : word ≢ codes "stop"
   pub lose : word ≢ codes "lose"

@@ -37,6 +37,10 @@ pub enum Line<'a> {
     Room,
     /// Show the segments of the master, with what each is to it and how many of its bytes are kept.
     Segments,
+    /// Show the live objects of a table, in the order of their keys' bytes, and how many there are.
+    List {
+        table: u64,
+    },
     /// Show the bytes of the live objects, and their limit.
     Live,
     /// Show how many seglets a new master needs for the table that a recovery would find now.

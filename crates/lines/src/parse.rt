@@ -64,6 +64,7 @@ fn parse_words(mut words: Words<'_>) -> Option<Line<'_>>
         name if is(name, "cas") => cas(words),
         name if is(name, "del") => del(words),
         name if is(name, "hex") => hex(words),
+        name if is(name, "list") => list(words),
         name if is(name, "compact") => compact(words),
         name if is(name, "stop") => stop(words),
         name if is(name, "lose") => lose(words),
@@ -162,6 +163,16 @@ fn hex(words: Words<'_>) -> Option<Line<'_>>
 {
     let segment = only_number(words)?;
     Some(Line::Hex { segment })
+}
+
+/// The word behind `list` as a table.
+#[tactic(auto, using(crate::proofs::Spelling::decimal_is_word))]
+#[inline(never)]
+fn list(words: Words<'_>) -> Option<Line<'_>>
+    ensures { ReadsWords (codes "list" ∷ words.entry) result }
+{
+    let table = only_number(words)?;
+    Some(Line::List { table })
 }
 
 /// The word behind `compact` as the number of a segment.

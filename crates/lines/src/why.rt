@@ -21,6 +21,7 @@ const COMMANDS: &[(&str, Shape)] = &[
     ("log", Shape::Alone),
     ("room", Shape::Alone),
     ("segments", Shape::Alone),
+    ("list", Shape::Table),
     ("live", Shape::Alone),
     ("needs", Shape::Alone),
     ("hex", Shape::Segment),
@@ -122,9 +123,12 @@ fn wrong_word(rest: Option<&[u8]>, shape: Shape) -> Option<Reason>
             ],
         ),
         Shape::Key => wrong_of(rest, &[WordKind::Number, WordKind::Key]),
-        Shape::Segment | Shape::Ops | Shape::Backup | Shape::Seglets | Shape::Steps => {
-            wrong_of(rest, &[WordKind::Number])
-        }
+        Shape::Table
+        | Shape::Segment
+        | Shape::Ops
+        | Shape::Backup
+        | Shape::Seglets
+        | Shape::Steps => wrong_of(rest, &[WordKind::Number]),
         Shape::Fault => wrong_of(rest, &[WordKind::Number, WordKind::Any]),
         Shape::Segments => wrong_number(rest),
         Shape::Clients => wrong_of(

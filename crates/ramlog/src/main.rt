@@ -23,8 +23,19 @@ const EXPLAIN: &str = "--explain";
 /// The word by which keys and values are any bytes, each behind its length. It may stand anywhere.
 const RAW: &str = "--raw";
 
+/// The word by which a bad line is reported and skipped, also if standard input is no terminal. It may stand anywhere.
+const KEEP_GOING: &str = "--keep-going";
+
 /// How many bytes the program reads or writes at once.
 const BLOCK: usize = 65_536;
+
+/// Which of the words above the command line has.
+#[derive(Clone, Copy)]
+struct Flags {
+    explains: bool,
+    is_raw: bool,
+    keeps_going: bool,
+}
 
 /// Writes the line of a fault to standard error, and answers the exit status.
 fn fail(rt: &HostRuntime, fault: ScriptFault) -> ExitCode {
@@ -63,16 +74,18 @@ fn refuse(rt: &HostRuntime, error: &Error) -> ExitCode {
 }
 
 /// Runs the program from standard input to standard output. It writes in blocks, and writes what it answered before it
-/// waits for more input. With `is_raw` keys and values are any bytes. If it `explains`, or at a terminal, a second line of
-/// the errors says why. `threads` and `rt` are one handle, but only a parameter with these bounds can start threads.
+/// waits for more input. If it `explains`, or if the errors go to a terminal, a second line of the errors says why. If it
+/// keeps going, or if the lines come from a terminal, a bad line is skipped. `threads` and `rt` are one handle, but only a
+/// parameter with these bounds can start threads.
 fn run<H: Threads + Wait + Sync>(
     threads: &H,
     rt: &HostRuntime,
     words: &[&str],
-    is_raw: bool,
-    explains: bool,
+    flags: Flags,
 ) -> Result<u8, Error> {
-    let mut errors = ErrorOutput::new(rt.stderr().lock(), explains || rt.stderr().is_terminal());
+    let explains = flags.explains || rt.stderr().is_terminal();
+    let keeps_going = flags.keeps_going || rt.stdin().is_terminal();
+    let mut errors = ErrorOutput::new(rt.stderr().lock(), explains);
     let Ok(mut reader) = BufReader::with_capacity(rt.alloc(), BLOCK, UntilEnd::new(rt.reader()))
     else {
         return Ok(report(&ScriptFault::NoMemory, &mut errors));
@@ -84,32 +97,38 @@ fn run<H: Threads + Wait + Sync>(
         threads,
         rt.alloc(),
         words,
-        is_raw,
+        flags.is_raw,
+        keeps_going,
         &mut reader,
         &mut writer,
         &mut errors,
     )
 }
 
-/// Runs the program with these words. `--explain` and `--raw` are none that the options know.
+/// Runs the program with these words. The options know none of the words of `Flags`.
 fn run_arguments<H: Threads + Wait + Sync>(
     threads: &H,
     rt: &HostRuntime,
     arguments: &[String],
 ) -> ExitCode {
     let mut words = Vec::new(rt.alloc());
-    let mut explains = false;
-    let mut is_raw = false;
+    let mut flags = Flags {
+        explains: false,
+        is_raw: false,
+        keeps_going: false,
+    };
     for argument in arguments {
         if argument.as_str() == EXPLAIN {
-            explains = true;
+            flags.explains = true;
         } else if argument.as_str() == RAW {
-            is_raw = true;
+            flags.is_raw = true;
+        } else if argument.as_str() == KEEP_GOING {
+            flags.keeps_going = true;
         } else if words.push(argument.as_str()).is_err() {
             return fail(rt, ScriptFault::NoMemory);
         }
     }
-    match run(threads, rt, words.as_slice(), is_raw, explains) {
+    match run(threads, rt, words.as_slice(), flags) {
         Ok(status) => ExitCode::from(status),
         Err(error) => refuse(rt, &error),
     }

@@ -4,6 +4,7 @@ use Rattle.versioned_map.specs.declared.command.Reply.{Reply}
 use Rattle.versioned_map.specs.declared.command.Reply.TheVariants as reply
 use Rattle.answers.specs.claims.declared.rebuilt.Rebuilt.{Rebuilt}
 use Rattle.std.specs.Fmt.{decimal}
+use Rattle.entry.specs.declared.entry.Object.{Object}
 use Rattle.answers.specs.declared.answer.Answer.{Answer}
 use Rattle.answers.specs.declared.answer.Answer.TheVariants as answer
 use Rattle.answers.specs.Texts.{answer_text, reply_text}
@@ -14,6 +15,7 @@ use Rattle.raw_answers.specs.Texts.{raw_reply_text, told_text}
 pub told_plain : (a : Answer) → told_text false a ≡ answer_text a
 told_plain (answer.Reply r) = refl
 told_plain (answer.Recovered r) = refl
+told_plain (answer.Listed os) = refl
 told_plain _ = refl
 
 -- a number and a byte, and what is behind them
@@ -35,10 +37,12 @@ counted_later bytes n last is =
 
 -- an answer without a value or a key has its usual text
 pub told_other : (a : Answer) → ((r : Reply) → a ≡ answer.Reply r → ⊥) → ((r : Rebuilt) → a ≡ answer.Recovered r → ⊥)
+    → ((os : List Object) → a ≡ answer.Listed os → ⊥)
     → told_text true a ≡ answer_text a
-told_other (answer.Reply r) reply_not rebuilt_not = absurd (reply_not r refl)
-told_other (answer.Recovered r) reply_not rebuilt_not = absurd (rebuilt_not r refl)
-told_other _ reply_not rebuilt_not = refl
+told_other (answer.Reply r) reply_not rebuilt_not listed_not = absurd (reply_not r refl)
+told_other (answer.Recovered r) reply_not rebuilt_not listed_not = absurd (rebuilt_not r refl)
+told_other (answer.Listed os) reply_not rebuilt_not listed_not = absurd (listed_not os refl)
+told_other _ reply_not rebuilt_not listed_not = refl
 
 -- and so has a reply
 pub reply_other : (r : Reply) → ((version : ℕ) (value : List ℕ) → r ≡ reply.Found version value → ⊥)

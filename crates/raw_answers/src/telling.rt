@@ -1,14 +1,14 @@
 //! Writes answers as a script with raw bytes prints them.
 
-ghost use Rattle.std.specs.Prelude.{◌≡◌, ◌++◌, ◌∷◌, [], false, true};
+ghost use Rattle.std.specs.Prelude.{◌≡◌, ◌≤◌, ◌++◌, ◌∷◌, [], false, length, true};
 ghost use Rattle.std.specs.Fmt.{decimal};
 ghost use Rattle.answers.specs.Errors.{IsHanded};
 ghost use Rattle.entry.specs.View.{shown_object};
 ghost use Rattle.history.specs.View.{shown_reply};
 ghost use Rattle.raw_lines.specs.Raw.{counted};
-ghost use Rattle.raw_answers.specs.Texts.{raw_object_text, raw_rebuilt_text, raw_reply_text, reply_in, told_text};
+ghost use Rattle.raw_answers.specs.Texts.{raw_object_text, raw_objects_text, raw_reply_text, reply_in, told_text};
 
-use answers::recovery::Rebuilt;
+use answers::replay::Objects;
 use answers::{Answer, WriteFailed, hand, write_answer, write_number, write_reply};
 use entry::{ObjectRef, Version};
 use history::{ReplyRef, view_reply};
@@ -54,7 +54,8 @@ fn write_raw<W: Write>(writer: &mut W, answer: &Answer) -> Result<(), WriteFaile
 {
     match answer {
         Answer::Reply(reply) => write_raw_reply(writer, &view_reply(reply)),
-        Answer::Recovered(rebuilt) => write_raw_rebuilt(writer, rebuilt),
+        Answer::Recovered(rebuilt) => write_raw_objects(writer, &rebuilt.objects, b"recovered "),
+        Answer::Listed(objects) => write_raw_objects(writer, objects, b"listed "),
         other => write_answer(writer, other),
     }
 }
@@ -103,13 +104,19 @@ fn write_raw_object<W: Write>(writer: &mut W, object: &ObjectRef<'_>) -> Result<
     write_raw_value(writer, object.version, object.value)
 }
 
-/// Writes a line for each object, in order, and a line with their number.
+/// Writes a line for each object, in order, and a line with these words and their number.
 #[inline(never)]
-fn write_raw_rebuilt<W: Write>(writer: &mut W, rebuilt: &Rebuilt) -> Result<(), WriteFailed>
-    ensures { IsHanded (W.contents writer.old) (W.contents writer.new) (raw_rebuilt_text rebuilt.now) result }
+fn write_raw_objects<W: Write>(
+    writer: &mut W,
+    objects: &Objects,
+    words: &[u8],
+) -> Result<(), WriteFailed>
+    requires { length words.now ≤ 20 }
+    ensures { IsHanded (W.contents writer.old) (W.contents writer.new)
+        (raw_objects_text words.now objects.now) result }
 {
-    for object in rebuilt.objects.iter() {
+    for object in objects.iter() {
         write_raw_object(writer, &object)?;
     }
-    write_number(writer, b"recovered ", rebuilt.objects.len() as u64, b'\n')
+    write_number(writer, words, objects.len() as u64, b'\n')
 }

@@ -1,5 +1,6 @@
 -- What is behind the name of a line with a key.
-use Rattle.std.proofs.Common.{◌≡◌, ◌≢◌, ◌∙◌, ◌<◌, ◌≤◌, ◌+◌, ◌-◌, ◌^◌, ◌++◌, ◌∷◌, [], ap, sym, refl, ℕ, List, length, take, drop, codes}
+use Rattle.std.proofs.Common.{◌≡◌, ◌≢◌, ◌∙◌, ◌<◌, ◌≤◌, ◌+◌, ◌-◌, ◌^◌, ◌++◌, ◌∷◌, [], ap, sym, refl, ℕ, List, length}
+use Rattle.std.proofs.Common.{take, drop, codes}
 use Rattle.std.proofs.Common.{append_assoc, arith, subst, Option, None, Some}
 use Rattle.std.specs.List.{All}
 use Rattle.std.proofs.lemmas.List.Elements.{All-nil, All-cons}
@@ -108,7 +109,8 @@ module _ (rest mid : List ℕ) (n : ℕ) (small : n < 2 ^ 64) (read : rest ≡ d
   value_no_key lacks = λ table key value also key_is short is. lacks key _ key_is (behind_table table _ also is)
 
   pub version_no_key : ((key more : List ℕ) → IsKey key → mid ≢ counted key ++ 32 ∷ more) → HasNoVersionRest rest
-  version_no_key lacks = λ table key version value also key_is fits short is. lacks key _ key_is (behind_table table _ also is)
+  version_no_key lacks = λ table key version value also key_is fits short is. lacks key _ key_is
+      (behind_table table _ also is)
 
   -- behind the key
   module _ (last key : List ℕ) (key_is : IsKey key) (read_key : mid ≡ counted key ++ 32 ∷ last) where

@@ -1,5 +1,6 @@
 -- A text is cut in one way alone.
-use Rattle.std.proofs.Common.{◌≡◌, ◌≢◌, ◌⊎◌, ◌∙◌, ◌+◌, ◌%◌, ◌<◌, ◌≤◌, ◌^◌, ◌++◌, ◌∷◌, [], ap, sym, refl, subst, ℕ, suc, List}
+use Rattle.std.proofs.Common.{◌≡◌, ◌≢◌, ◌⊎◌, ◌∙◌, ◌+◌, ◌%◌, ◌<◌, ◌≤◌, ◌^◌, ◌++◌, ◌∷◌, [], ap, sym, refl, subst, ℕ, suc}
+use Rattle.std.proofs.Common.{List}
 use Rattle.std.proofs.Common.{length, take, drop, ◌-◌, length-append, append_assoc, append-nil, arith, inl, inr}
 use Rattle.std.specs.List.{All}
 use Rattle.std.specs.Fmt.{decimal}

@@ -1,5 +1,6 @@
 -- No text is that of a line without a key and of another line.
-use Rattle.std.proofs.Common.{◌≡◌, ◌∙◌, ◌++◌, ◌∷◌, [], ap, sym, refl, subst, ℕ, List, length, codes, true, false, inl, inr, arith}
+use Rattle.std.proofs.Common.{◌≡◌, ◌∙◌, ◌++◌, ◌∷◌, [], ap, sym, refl, subst, ℕ, List, length, codes, true, false, inl}
+use Rattle.std.proofs.Common.{inr, arith}
 use Rattle.std.specs.List.{All, slice_split}
 use Rattle.std.proofs.lemmas.List.Elements.{All-nil, All-cons}
 use Rattle.std.proofs.lemmas.List.Splits.{slice_split_at}
@@ -24,7 +25,8 @@ three a b c first second third = All-cons IsNoSpace a (b ∷ c ∷ []) first
 
 -- the line of a text that begins with this name: none that has no key
 module _ (a b c : ℕ) (first : IsNoSpace a) (second : IsNoSpace b) (third : IsNoSpace c) (some : 35 ≡ a → ⊥)
-    (keyed : (words : List (List ℕ)) (line : LineValue) → AreWordsOf ((a ∷ b ∷ c ∷ []) ∷ words) line → HasNoKey line → ⊥)
+    (keyed : (words : List (List ℕ)) (line : LineValue) → AreWordsOf ((a ∷ b ∷ c ∷ []) ∷ words) line
+    → HasNoKey line → ⊥)
     (text rest : List ℕ) (is : text ≡ (a ∷ b ∷ c ∷ []) ++ 32 ∷ rest) where
   cut : slice_split is_space text ≡ (a ∷ b ∷ c ∷ []) ∷ slice_split is_space rest
   cut = ap (slice_split is_space) is

@@ -1,5 +1,5 @@
--- How a line is written in a script with raw bytes: a key or a value as its length in decimal digits, a colon, and so many
--- bytes of any kind. Lines without a key are written as in any script.
+-- How a line is written in a script with raw bytes: a key or a value as its length in decimal digits, a colon, and so
+-- many bytes of any kind. Lines without a key are written as in any script.
 use Rattle.std.specs.Prelude.{◌≡◌, ◌⊎◌, ◌<◌, ◌≤◌, ◌^◌, ℕ, Bool, true, false, List, [], ◌∷◌, ◌++◌, length, codes}
 use Rattle.std.specs.Fmt.{decimal}
 use Rattle.lines.specs.Keys.{IsKey}

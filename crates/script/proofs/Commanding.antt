@@ -1,7 +1,7 @@
 -- Which lines have a command, and which lines a session doesn't take.
 use Rattle.std.proofs.Common.{◌≡◌, ◌≤◌, ℕ, List, ◌∷◌, ◌++◌, Bool, true, false, ap, inl, inr, length, length-append, refl}
 use Rattle.std.proofs.Common.{subst, arith}
-use Rattle.std.specs.Prelude.{None}
+use Rattle.std.specs.Prelude.{None, IfErr, Result, Ok, Err}
 use Rattle.std.specs.Fmt.{decimal}
 use Rattle.lines.specs.Reading.{IsLineText}
 use Rattle.raw_lines.specs.Raw.{HasNoKey, IsKeyLine, SaysIn}
@@ -14,6 +14,8 @@ use Rattle.next_master.specs.cluster.Told.{command_of}
 use Rattle.lines.specs.Grammar.{IsLine, LineValue, Says, Idle, Put, New, Cas, Get, Del}
 use Rattle.script.specs.Runs.{Allows, IsOfFleet}
 use Rattle.script.specs.Turns.{HasValue, RefusesLine}
+use Rattle.next_master.specs.answers.declared.answer.Answer.{Answer}
+use Rattle.script.specs.declared.session.LineFault.{LineFault}
 use Rattle.script.specs.declared.session.LineFault.TheVariants as line_fault
 use Rattle.script.specs.declared.session.Session.{Session}
 
@@ -34,6 +36,7 @@ has_no_command line.Push other = refl
 has_no_command line.Log other = refl
 has_no_command line.Room other = refl
 has_no_command line.Segments other = refl
+has_no_command (line.List table) other = refl
 has_no_command (line.Hex segment) other = refl
 has_no_command (line.Stop takes) other = refl
 has_no_command (line.Fault takes taken) other = refl
@@ -66,6 +69,11 @@ command_of_fleet backups (command.Del table key) = tt
 
 pub no_backup : (s : Session) (l : LineValue) → RefusesLine s l line_fault.NoBackup → Allows s l → ⊥
 no_backup s l (backup, is, none) allows = none (subst (Allows s) is allows).0
+
+-- a line that wasn't run left the session as it is
+pub left_as_it_is : (r : Result Answer LineFault) (s : Session) → IfErr r (λ (f : LineFault). s ≡ s)
+left_as_it_is (Ok answer) s = tt
+left_as_it_is (Err f) s = refl
 
 -- a text says one line, which isn't taken
 pub says_none : (s : Session) (other l : LineValue) → other ≡ l → (Allows s l → ⊥) → Allows s other → ⊥

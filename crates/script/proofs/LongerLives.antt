@@ -17,7 +17,8 @@ use Rattle.next_master.specs.cluster.Lives.{Life, life_to, Left, IsLeftBy, IsLef
 use Rattle.next_master.specs.master.master_state.declared.step.Refusal.{Refusal}
 use Rattle.next_master.specs.cluster.Told.{IsRecordAt, IsIn, IsCause, IsImageAt, IsPushedAt, IsRecoveredAt, IsUnadopted}
 use Rattle.next_master.specs.cluster.Told.{Tells}
-use Rattle.next_master.specs.cluster.Told.{IsStepOf, IsRunAt, RollRuns, CleanRuns, TendRuns, IsStepRefusal, IsDigestAt, AreSegmentsAt}
+use Rattle.next_master.specs.cluster.Told.{IsStepOf, IsRunAt, RollRuns, CleanRuns, TendRuns, IsStepRefusal, IsDigestAt}
+use Rattle.next_master.specs.cluster.Told.{AreListedAt, AreSegmentsAt}
 use Rattle.next_master.specs.cluster.Told.{IsLiveAt, IsRoomAt}
 use Rattle.next_master.specs.cluster.Told.{IsNeededAt, IsWillAt, AreHeldAt}
 
@@ -55,6 +56,7 @@ module _ (config : Config) (life : Life) where
   rises at line (answer.Log ids) next t = as_before at next t.3
   rises at line (answer.Room used free) next t = as_before at next t.3
   rises at line (answer.Segments rows) next t = as_before at next t.3
+  rises at line (answer.Listed objects) next t = as_before at next t.2
   rises at line (answer.Live bytes most) next t = as_before at next t.4
   rises at line (answer.Will parts limits) next t = as_before at next t.3
   rises at line (answer.BadLimits limits) next t = as_before at next t.3
@@ -212,6 +214,8 @@ module _ (config : Config) (opening : State) (history more : List Record) where
       (t.0, t.1, subst (λ (l : Life). IsRoomAt config l used free) (same_front at.made within) t.2, t.3)
   tells_longer at line (answer.Segments rows) next within after t =
       (t.0, t.1, subst (λ (l : Life). AreSegmentsAt config l rows) (same_front at.made within) t.2, t.3)
+  tells_longer at line (answer.Listed objects) next within after t =
+      (t.0, (t.1.0, t.1.1, subst (λ (l : Life). AreListedAt l t.1.0 objects) (same_front at.made within) t.1.2), t.2)
   tells_longer at line (answer.Live bytes most) next within after t =
       (t.0, t.1, subst (λ (l : Life). IsLiveAt config l bytes) (same_front at.made within) t.2, t.3, t.4)
   tells_longer at line (answer.Will parts limits) next within after t =

@@ -5,7 +5,7 @@ use Rattle.std.proofs.Common.{sym, ap, subst, inl, inr, ◌∙◌, arith}
 use Rattle.std.proofs.lemmas.List.{append-nil, length-append}
 use Rattle.std.proofs.lemmas.List.Elements.{All-nil, All-push}
 use Rattle.std.proofs.lemmas.List.Concat.{flat_map-append}
-use Rattle.std.specs.Prelude.{Option, None, Some, Result, Ok, Err}
+use Rattle.std.specs.Prelude.{Option, None, Some, IfErr, Result, Ok, Err}
 use Rattle.std.specs.Io.KnownBytes.{Appends, Consumes, IsAtEnd, Keeps}
 use Rattle.std.proofs.KnownBytes.{Appends-nil, Appends-trans, Appends-kept, Consumes-nil, Consumes-trans, Keeps-trans}
 use Rattle.std.specs.List.{All}
@@ -22,9 +22,10 @@ use Rattle.next_master.specs.answers.declared.answer.Answer.{Answer}
 use Rattle.next_master.specs.answers.declared.fault.ScriptFault.{ScriptFault}
 use Rattle.next_master.specs.answers.declared.fault.ScriptFault.TheVariants as fault
 use Rattle.script.specs.declared.session.Session.{Session}
-use Rattle.script.specs.Runs.{AreRunOn, IsOfFleet, IsScriptLine, texts_of, answers_of, AreLines, IsTakenLine}
-use Rattle.script.specs.Runs.{IsBadLine, IsReasonFor, EndsWith, CutsLast, Prints, RunsScript}
-use Rattle.next_master.specs.answers.Errors.{AppendsFront}
+use Rattle.script.specs.Runs.{AreRunOn, IsScriptLine, IsTurn, texts_of, answers_of, AreLines, IsTakenLine}
+use Rattle.script.specs.Runs.{IsBadLine, IsReasonFor, EndsRun, EndsWith, CutsLast, Prints, RunsScript}
+use Rattle.script.specs.Runs.{Reports, has_skipped, report_of, reports_of, skips_as}
+use Rattle.next_master.specs.answers.Errors.{AppendsFront, Errors}
 use Rattle.command_line.specs.declared.settings.Options.{Options}
 use Rattle.lines.specs.Grammar.{LineValue, Recover}
 use Rattle.next_master.specs.Configuration.{config_of, MayBegin}
@@ -37,7 +38,9 @@ use Rattle.lines.specs.Scanning.{line_limit}
 use Rattle.next_master.specs.Succession.{Standing, Succeeds}
 use Rattle.script.specs.Telling.{at_first, Moves, AreTelling, TellLives, Told}
 use Rattle.next_master.specs.cluster.Told.{Tells}
-use Rattle.script.specs.Turns.{RunsText, IsPrinted, PrintsText, TakesTurn, IsNoMore}
+use Rattle.script.specs.Turns.{FailsTurn, IsNoMore, IsPrinted, PrintsText, RunsText, TakesText, TakesTurn, TellsTurn}
+use Rattle.script.proofs.Skipping.{ends_none, fleet_line, has_more, reports_explain, reports_join, reports_more}
+use Rattle.script.proofs.Skipping.{runs_told}
 use Rattle.script.proofs.Sessions.{begins_later, options_kept, options_renewed, options_stay, renewed_begins, told_of}
 use Rattle.script.proofs.Forgetting.{same_config, same_set, still_begins, still_covered, still_numbered, still_there}
 use Rattle.script.proofs.Forgetting.{still_unraised}
@@ -84,7 +87,7 @@ module _ (is_raw : Bool) where
   flushed_first old new text number held wrote holds (Ok done) kept p =
       (p.0, p.1, kept_first held wrote holds (told_text is_raw p.0) kept p.2)
   flushed_first old new text number held wrote holds (Err (fault.BadLine n why)) kept p =
-      (p.0, p.1, Keeps-trans held wrote holds kept p.2, p.3)
+      (p.0, p.1, Keeps-trans held wrote holds kept p.2, p.3, p.4)
   flushed_first old new text number held wrote holds (Err fault.ReadFailed) kept p = absurd p
   flushed_first old new text number held wrote holds (Err fault.WriteFailed) kept p =
       (p.0, p.1, (p.2.0, p.2.1, p.2.2, kept_first held wrote holds p.2.0 kept p.2.3))
@@ -92,10 +95,10 @@ module _ (is_raw : Bool) where
 
   -- ---- a turn that failed
 
-  pub turn_fault : (old new : Session) (number : ℕ) (had left held holds : Option (List ℕ)) (text taken : List ℕ)
+  turn_fault : (old new : Session) (number : ℕ) (had left held holds : Option (List ℕ)) (text taken : List ℕ)
       (f : ScriptFault) → IsLineText is_raw text
       → Consumes had left taken → IsTakenLine text taken left → PrintsText is_raw old new text number held holds (Err f)
-      → TakesTurn is_raw old new number had left held holds (Err f)
+      → FailsTurn is_raw old new number had left held holds f
   turn_fault old new number had left held holds text taken (fault.BadLine n why) whole consumed is p =
       (p.0, taken, consumed, inr (text, whole, is, inr p.1), p.2, inl (text, is, p.3))
   turn_fault old new number had left held holds text taken fault.ReadFailed whole consumed is p = absurd p
@@ -109,6 +112,48 @@ module _ (is_raw : Bool) where
       ] in
       (taken, consumed, count, p)
 
+  -- ---- a turn
+
+  module _ (keeps : Bool) (old new : Session) (number : ℕ) (had left held wrote holds : Option (List ℕ))
+      (before after : Errors) (was skipped : Bool) (kept : Keeps held wrote) (text : List ℕ) where
+    told_first : (t : Told) → TellsTurn keeps is_raw old number new wrote holds before after t
+        → TellsTurn keeps is_raw old number new held holds before after t
+    told_first t tells = record {
+      line = tells.line;
+      turn = tells.turn;
+      prints = kept_first held wrote holds (told_text is_raw t.answer) kept tells.prints;
+      reports = tells.reports;
+    }
+
+    pub turn_more : Consumes had left (text ++ 10 ∷ [])
+        → TakesText keeps is_raw old new text number wrote holds before after was skipped (Ok tt)
+        → TakesTurn keeps is_raw old new number had left held holds before after was skipped (Ok true)
+    turn_more consumed (t, same, tells, skips) =
+        (t, subst (λ (l : List ℕ). Consumes had left (l ++ 10 ∷ [])) (sym same) consumed, told_first t tells, skips)
+
+    pub turn_last : Consumes had left text → IsAtEnd left → 0 < length text
+        → TakesText keeps is_raw old new text number wrote holds before after was skipped (Ok tt)
+        → TakesTurn keeps is_raw old new number had left held holds before after was skipped (Ok false)
+    turn_last consumed end some (t, same, tells, skips) = inl (
+      t,
+      subst (Consumes had left) (sym same) consumed,
+      end,
+      subst (λ (l : List ℕ). 0 < length l) (sym same) some,
+      told_first t tells,
+      skips,
+    )
+
+    pub turn_fails : (f : ScriptFault) (taken : List ℕ) → IsLineText is_raw text → Consumes had left taken
+        → IsTakenLine text taken left
+        → TakesText keeps is_raw old new text number wrote holds before after was skipped (Err f)
+        → TakesTurn keeps is_raw old new number had left held holds before after was skipped (Err f)
+    turn_fails f taken whole consumed is t = (
+      turn_fault old new number had left held holds text taken f whole consumed is
+          (flushed_first old new text number held wrote holds (Err f) kept t.0),
+      t.1,
+      λ on. ends_none f (t.2 on),
+    )
+
   -- a master that began with no keys
   empty_opening : (d : MasterData) → d.origin ≡ no_origin → opening_of d ≡ empty_state
   empty_opening d is = ap (λ (o : Origin). record { contents = contents_of o.objects; safe = o.safe }) is
@@ -116,8 +161,8 @@ module _ (is_raw : Bool) where
   -- ---- all lines so far
 
   -- the lines that were run before the one of this number, and what the session stands for
-  pub record Running (options : Options) (session : Session) (had left held holds : Option (List ℕ))
-      (number : ℕ) : Type 0 where
+  pub record Running (keeps : Bool) (options : Options) (session : Session) (had left held holds : Option (List ℕ))
+      (before after : Errors) (skipped : Bool) (number : ℕ) : Type 0 where
     pub told : List Told
     pub first : Life
     pub start : Session
@@ -126,24 +171,26 @@ module _ (is_raw : Bool) where
     -- only the format and the seglets may be others
     pub set : record session.options { format = options.format; seglets = options.seglets } ≡ options
     pub begins : BeginsSession options start
-    pub run : AreRunOn start told session
+    pub run : AreRunOn is_raw start told session
     pub covers : IsCovered session
     pub stands : IsNodeAt session.node (config_of session.options session.master) knows at
     pub used : session.master ≤ session.used
     pub later : AreLaterUnraised session
     pub may_begin : MayBegin session.later session.options
     pub count : suc (length told) ≡ number
-    pub lines : All (IsScriptLine is_raw options.backups) told
+    pub lines : All (IsScriptLine keeps is_raw options.backups) told
     pub opening : first.opening ≡ empty_state
     pub telling : AreTelling (at_first (config_of options 1) first) told
         (standing_of (config_of session.options session.master) knows at)
     pub consumed : Consumes had left (texts_of told)
     pub printed : Appends held holds (answers_of is_raw told)
+    pub reported : Reports before after (reports_of before.explains 1 told)
+    pub skips : skipped ≡ has_skipped false told
 
-  pub starts_running : (options : Options) (session : Session) (had held : Option (List ℕ))
-      → BeginsSession options session
-      → Running options session had had held held 1
-  starts_running options session had held begins =
+  pub starts_running : (keeps : Bool) (options : Options) (session : Session) (had held : Option (List ℕ))
+      (before : Errors) → BeginsSession options session
+      → Running keeps options session had had held held before before false 1
+  starts_running keeps options session had held before begins =
       let d = begins.stands.0 in
       let set = begins.set in
       let number = begins.number in
@@ -163,17 +210,20 @@ module _ (is_raw : Bool) where
         later = begins_unraised options session begins;
         may_begin = begins_later options session begins;
         count = refl;
-        lines = All-nil (IsScriptLine is_raw options.backups);
+        lines = All-nil (IsScriptLine keeps is_raw options.backups);
         opening = empty_opening d begins.stands.3;
         telling = λ i. standing_of (same i) d at_start;
         consumed = Consumes-nil had;
         printed = Appends-nil held;
+        reported = refl;
+        skips = refl;
       }
 
   -- the session stands for some master
-  pub running_stands : (options : Options) (session : Session) (had left held holds : Option (List ℕ)) (number : ℕ)
-      → Running options session had left held holds number → Stands session
-  running_stands options session had left held holds number r =
+  pub running_stands : (keeps : Bool) (options : Options) (session : Session) (had left held holds : Option (List ℕ))
+      (before after : Errors) (skipped : Bool) (number : ℕ)
+      → Running keeps options session had left held holds before after skipped number → Stands session
+  running_stands keeps options session had left held holds before after skipped number r =
       (r.covers, (r.knows, r.at, r.stands), r.later, r.may_begin)
 
   -- ---- where a line leads
@@ -293,10 +343,10 @@ module _ (is_raw : Bool) where
       still_unraised mid new forgets (line_unraised old mid line a runs d at s within are)
 
   -- one line more was run
-  runs_more : (first : Session) (told : List Told) (old : Session) (t : Told) (new : Session) → AreRunOn first told old
-      → RunsTurn old t.line new t.answer
-      → AreRunOn first (told ++ t ∷ []) new
-  runs_more first [] old t new same runs = (new, subst (λ (s : Session). RunsTurn s t.line new t.answer) same runs, refl)
+  runs_more : (first : Session) (told : List Told) (old : Session) (t : Told) (new : Session)
+      → AreRunOn is_raw first told old → IsTurn is_raw old t new
+      → AreRunOn is_raw first (told ++ t ∷ []) new
+  runs_more first [] old t new same runs = (new, subst (λ (s : Session). IsTurn is_raw s t new) same runs, refl)
   runs_more first (u ∷ us) old t new (mid, ran, rest) runs = (mid, ran, runs_more mid us old t new rest runs)
 
   texts-more : (told : List Told) (t : Told) → texts_of (told ++ t ∷ []) ≡ texts_of told ++ (t.text ++ 10 ∷ [])
@@ -306,8 +356,9 @@ module _ (is_raw : Bool) where
   answers-more told t = flat_map-append _ told (t ∷ []) ∙ ap (λ l. answers_of is_raw told ++ l)
       (append-nil (told_text is_raw t.answer))
 
-  module _ (options : Options) (old : Session) (had mid left held wrote holds : Option (List ℕ)) (number : ℕ)
-      (r : Running options old had mid held wrote number) where
+  module _ (keeps : Bool) (options : Options) (old : Session) (had mid left held wrote holds : Option (List ℕ))
+      (before during after : Errors) (was skipped : Bool) (number : ℕ)
+      (r : Running keeps options old had mid held wrote before during was number) where
     fleet : old.options.backups ≡ options.backups
     fleet = ap (λ (o : Options). o.backups) r.set
 
@@ -327,12 +378,10 @@ module _ (is_raw : Bool) where
       record { legal = legal_of old.node r.at.left r.knows r.stands.node_of; whole = r.stands.made },
     )
 
-    module _ (new : Session) (text : List ℕ) (a : Answer) (runs : RunsText is_raw old text new a) (whole : IsLineText is_raw text) where
-      abbrev next_told : Told
-      next_told = record { text = text; line = runs.line; answer = a }
-
-      abbrev after_line : LeadsOn old runs.line a new r.knows r.at
-      after_line = turn_leads old new runs.line a runs.runs r.knows r.at r.stands
+    module _ (new : Session) (t : Told) (is : IsScriptLine keeps is_raw old.options.backups t)
+        (turn : IsTurn is_raw old t new) where
+      abbrev after_line : LeadsOn old t.line t.answer new r.knows r.at
+      after_line = turn_leads old new t.line t.answer turn.0 r.knows r.at r.stands
 
       abbrev after_this : Standing
       after_this = standing_of (config_of new.options new.master) after_line.0 after_line.1
@@ -345,11 +394,11 @@ module _ (is_raw : Bool) where
       abbrev first_on : Life
       first_on = record { opening = r.first.opening; history = r.first.history ++ longer.0 }
 
-      telling_on : AreTelling (at_first (config_of options 1) first_on) (r.told ++ next_told ∷ []) after_this
+      telling_on : AreTelling (at_first (config_of options 1) first_on) (r.told ++ t ∷ []) after_this
       telling_on = telling_more (at_first (config_of options 1) first_on) r.told
-          (with_more now after_line.3.0) next_told after_this longer.1 after_line.3.1
+          (with_more now after_line.3.0) t after_this longer.1 after_line.3.1
 
-      tell_longer : TellLives (config_of options 1) (r.told ++ next_told ∷ [])
+      tell_longer : TellLives (config_of options 1) (r.told ++ t ∷ [])
       tell_longer = (
         first_on,
         r.opening,
@@ -361,82 +410,100 @@ module _ (is_raw : Bool) where
         },
       )
 
-      run_on : AreRunOn r.start (r.told ++ next_told ∷ []) new
-      run_on = runs_more r.start r.told old next_told new r.run runs.runs
+      run_on : AreRunOn is_raw r.start (r.told ++ t ∷ []) new
+      run_on = runs_more r.start r.told old t new r.run turn
 
-      line_there : All (IsScriptLine is_raw options.backups) (r.told ++ next_told ∷ [])
-      line_there = All-push (IsScriptLine is_raw options.backups) r.told next_told r.lines
-          (record {
-            whole = whole;
-            says = runs.says;
-            of_fleet = subst
-                (λ (n : ℕ). IsOfFleet n runs.line) fleet runs.of_fleet;
-          })
+      line_there : All (IsScriptLine keeps is_raw options.backups) (r.told ++ t ∷ [])
+      line_there = All-push (IsScriptLine keeps is_raw options.backups) r.told t r.lines
+          (fleet_line keeps is_raw old.options.backups options.backups t fleet is)
 
-      answers_on : Appends wrote holds (told_text is_raw a) → Appends held holds (answers_of is_raw (r.told ++ next_told ∷ []))
-      answers_on printed = subst (Appends held holds) (sym (answers-more r.told next_told))
-          (Appends-trans held wrote holds (answers_of is_raw r.told) (told_text is_raw a) r.printed printed)
+      answers_on : Appends wrote holds (told_text is_raw t.answer)
+          → Appends held holds (answers_of is_raw (r.told ++ t ∷ []))
+      answers_on printed = subst (Appends held holds) (sym (answers-more r.told t))
+          (Appends-trans held wrote holds (answers_of is_raw r.told) (told_text is_raw t.answer) r.printed printed)
+
+      reports_on : Reports during after (report_of during.explains number t)
+          → Reports before after (reports_of before.explains 1 (r.told ++ t ∷ []))
+      reports_on more =
+          let same = reports_explain before during (reports_of before.explains 1 r.told) r.reported in
+          let count = r.count in
+          subst (Reports before after)
+          (sym (reports_more before.explains 1 r.told t number (omega arith)))
+          (reports_join before during after (reports_of before.explains 1 r.told) (report_of before.explains number t)
+          r.reported (subst (λ (e : Bool). Reports during after (report_of e number t)) same more))
+
+      skips_on : skipped ≡ skips_as was t.skipped → skipped ≡ has_skipped false (r.told ++ t ∷ [])
+      skips_on is_now = is_now ∙ ap (λ (b : Bool). skips_as b t.skipped) r.skips ∙ sym (has_more false r.told t)
 
       -- one line more was run
-      runs_on : Consumes mid left (text ++ 10 ∷ []) → Appends wrote holds (told_text is_raw a)
-          → Running options new had left held holds (number + 1)
-      runs_on consumed printed =
+      runs_on : Consumes mid left (t.text ++ 10 ∷ []) → TellsTurn keeps is_raw old number new wrote holds during after t
+          → skipped ≡ skips_as was t.skipped
+          → Running keeps options new had left held holds before after skipped (number + 1)
+      runs_on consumed tells is_now =
           let count = r.count in
-          let longer = length-append r.told (next_told ∷ []) in
+          let longer = length-append r.told (t ∷ []) in
           record {
-            told = r.told ++ next_told ∷ [];
+            told = r.told ++ t ∷ [];
             first = first_on;
             start = r.start;
             knows = after_line.0;
             at = after_line.1;
-            set = options_on old new runs.line a options.format options.seglets runs.runs ∙ r.set;
+            set = options_on old new t.line t.answer options.format options.seglets turn.0 ∙ r.set;
             begins = r.begins;
             run = run_on;
-            covers = covers_on old new runs.line a runs.runs now_stands;
+            covers = covers_on old new t.line t.answer turn.0 now_stands;
             stands = after_line.2;
-            used = numbers_on old new runs.line a runs.runs r.used;
-            later = unraised_on old new runs.line a runs.runs r.knows r.at r.stands r.used r.later;
-            may_begin = begins_on old new runs.line a runs.runs now_stands;
+            used = numbers_on old new t.line t.answer turn.0 r.used;
+            later = unraised_on old new t.line t.answer turn.0 r.knows r.at r.stands r.used r.later;
+            may_begin = begins_on old new t.line t.answer turn.0 now_stands;
             count = omega arith;
             lines = line_there;
             opening = r.opening;
             telling = telling_on;
-            consumed = subst (Consumes had left) (sym (texts-more r.told next_told))
-                (Consumes-trans had mid left (texts_of r.told) (text ++ 10 ∷ []) r.consumed consumed);
-            printed = answers_on printed;
+            consumed = subst (Consumes had left) (sym (texts-more r.told t))
+                (Consumes-trans had mid left (texts_of r.told) (t.text ++ 10 ∷ []) r.consumed consumed);
+            printed = answers_on tells.prints;
+            reported = reports_on tells.reports;
+            skips = skips_on is_now;
           }
 
-      lines_are : (taken : List ℕ) → IsTakenLine text taken left
-          → AreLines (r.told ++ next_told ∷ []) (texts_of r.told ++ taken)
-      lines_are taken (inl e) = inl (ap (λ l. texts_of r.told ++ l) e ∙ sym (texts-more r.told next_told))
-      lines_are taken (inr e) = inr (r.told, next_told, refl, ap (λ l. texts_of r.told ++ l) e.0, e.1)
+      lines_are : (taken : List ℕ) → IsTakenLine t.text taken left
+          → AreLines (r.told ++ t ∷ []) (texts_of r.told ++ taken)
+      lines_are taken (inl e) = inl (ap (λ l. texts_of r.told ++ l) e ∙ sym (texts-more r.told t))
+      lines_are taken (inr e) = inr (r.told, t, refl, ap (λ l. texts_of r.told ++ l) e.0, e.1)
 
       -- a line was run, and no more
-      ends_here : (taken : List ℕ) (result : Result (Unit {0}) ScriptFault) → Consumes mid left taken
-          → EndsWith is_raw options (r.told ++ next_told ∷ []) (texts_of r.told ++ taken) left result
-          → Prints is_raw held holds (r.told ++ next_told ∷ []) result
-          → RunsScript is_raw options had left held holds result
-      ends_here taken result consumed ends prints = record {
-        told = r.told ++ next_told ∷ [];
+      ends_here : (taken : List ℕ) (result : Result Bool ScriptFault) → Consumes mid left taken
+          → EndsWith is_raw options (r.told ++ t ∷ []) (texts_of r.told ++ taken) left result
+          → (keeps ≡ true → IfErr result EndsRun)
+          → Prints is_raw held holds (r.told ++ t ∷ []) result
+          → Reports before after (reports_of before.explains 1 (r.told ++ t ∷ []))
+          → RunsScript keeps is_raw options had left held holds before after result
+      ends_here taken result consumed ends goes_on prints reports = record {
+        told = r.told ++ t ∷ [];
         taken = texts_of r.told ++ taken;
         consumed = Consumes-trans had mid left (texts_of r.told) taken r.consumed consumed;
         lines = line_there;
         tells = tell_longer;
         session = inr (record { first = r.start; last = new; begins = r.begins; run = run_on });
         ends = ends;
+        goes_on = goes_on;
         prints = prints;
+        reports = reports;
       }
 
-      runs_last : Consumes mid left text → IsAtEnd left → 0 < length text → Appends wrote holds (told_text is_raw a)
-          → RunsScript is_raw options had left held holds (Ok tt)
-      runs_last consumed end some printed = ends_here text (Ok tt) consumed (lines_are text (inr (refl, some, end)), end)
-          (answers_on printed)
+      runs_last : Consumes mid left t.text → IsAtEnd left → 0 < length t.text
+          → TellsTurn keeps is_raw old number new wrote holds during after t → skipped ≡ skips_as was t.skipped
+          → RunsScript keeps is_raw options had left held holds before after (Ok skipped)
+      runs_last consumed end some tells is_now = ends_here t.text (Ok skipped) consumed
+          (lines_are t.text (inr (refl, some, end)), end, skips_on is_now) (λ on. tt) (answers_on tells.prints)
+          (reports_on tells.reports)
 
       -- a front of the last answer was written
-      cut_on : AppendsFront wrote holds (told_text is_raw a) → CutsLast is_raw held holds (r.told ++ next_told ∷ [])
+      cut_on : AppendsFront wrote holds (told_text is_raw t.answer) → CutsLast is_raw held holds (r.told ++ t ∷ [])
       cut_on (front, rest, is, some) = (
         r.told,
-        next_told,
+        t,
         front,
         rest,
         refl,
@@ -444,17 +511,19 @@ module _ (is_raw : Bool) where
         Appends-trans held wrote holds (answers_of is_raw r.told) front r.printed some,
       )
 
-      fails_to_write : (taken : List ℕ) → Consumes mid left taken → IsTakenLine text taken left
-          → AppendsFront wrote holds (told_text is_raw a)
-          → RunsScript is_raw options had left held holds (Err fault.WriteFailed)
-      fails_to_write taken consumed is front =
-          ends_here taken (Err fault.WriteFailed) consumed (inl (lines_are taken is)) (inr (cut_on front))
+      fails_to_write : (taken : List ℕ) → Consumes mid left taken → IsTakenLine t.text taken left
+          → AppendsFront wrote holds (told_text is_raw t.answer) → Reports during after (report_of during.explains number t)
+          → RunsScript keeps is_raw options had left held holds before after (Err fault.WriteFailed)
+      fails_to_write taken consumed is front reports =
+          ends_here taken (Err fault.WriteFailed) consumed (inl (lines_are taken is)) (λ on. tt) (inr (cut_on front))
+          (reports_on reports)
 
     -- the lines were run, and no more
-    closes : (taken : List ℕ) (result : Result (Unit {0}) ScriptFault) → Consumes mid left taken
-        → EndsWith is_raw options r.told (texts_of r.told ++ taken) left result → Prints is_raw held holds r.told result
-        → RunsScript is_raw options had left held holds result
-    closes taken result consumed ends prints = record {
+    closes : (taken : List ℕ) (result : Result Bool ScriptFault) → Consumes mid left taken
+        → EndsWith is_raw options r.told (texts_of r.told ++ taken) left result → (keeps ≡ true → IfErr result EndsRun)
+        → Prints is_raw held holds r.told result → after ≡ during
+        → RunsScript keeps is_raw options had left held holds before after result
+    closes taken result consumed ends goes_on prints same = record {
       told = r.told;
       taken = texts_of r.told ++ taken;
       consumed = Consumes-trans had mid left (texts_of r.told) taken r.consumed consumed;
@@ -462,14 +531,18 @@ module _ (is_raw : Bool) where
       tells = tell_so_far;
       session = inr (record { first = r.start; last = old; begins = r.begins; run = r.run });
       ends = ends;
+      goes_on = goes_on;
       prints = prints;
+      reports = subst (λ (e : Errors). Reports before e (reports_of before.explains 1 r.told)) (sym same) r.reported;
     }
 
     kept_answers : Keeps wrote holds → Appends held holds (answers_of is_raw r.told)
     kept_answers kept = Appends-kept held wrote holds (answers_of is_raw r.told) r.printed kept
 
-    runs_out : Consumes mid left [] → IsAtEnd left → Keeps wrote holds → RunsScript is_raw options had left held holds (Ok tt)
-    runs_out consumed end kept = closes [] (Ok tt) consumed (inl (append-nil (texts_of r.told)), end) (kept_answers kept)
+    runs_out : Consumes mid left [] → IsAtEnd left → Keeps wrote holds → after ≡ during → skipped ≡ was
+        → RunsScript keeps is_raw options had left held holds before after (Ok skipped)
+    runs_out consumed end kept same is_now = closes [] (Ok skipped) consumed
+        (inl (append-nil (texts_of r.told)), end, is_now ∙ r.skips) (λ on. tt) (kept_answers kept) same
 
     bad_here : (n : ℕ) (bad : List ℕ) → n ≡ number → IsBadLine is_raw old number bad left → IsBadLine is_raw old n bad left
     bad_here n bad is line = subst (λ (k : ℕ). IsBadLine is_raw old k bad left) (sym is) line
@@ -480,9 +553,10 @@ module _ (is_raw : Bool) where
         subst (λ (k : ℕ). IsReasonFor is_raw k n bad left why) fleet
         (subst (λ (k : ℕ). IsReasonFor is_raw old.options.backups k bad left why) (sym is) reason)
 
-    pub fails : (new : Session) (f : ScriptFault) → TakesTurn is_raw old new number mid left wrote holds (Err f)
-        → RunsScript is_raw options had left held holds (Err f)
-    fails new (fault.BadLine n why) t =
+    fails_so : (new : Session) (f : ScriptFault) → FailsTurn is_raw old new number mid left wrote holds f → after ≡ during
+        → (keeps ≡ true → EndsRun f)
+        → RunsScript keeps is_raw options had left held holds before after (Err f)
+    fails_so new (fault.BadLine n why) t same ends =
         closes t.1 (Err (fault.BadLine n why)) t.2 (
           t.0 ∙ sym r.count,
           t.1,
@@ -490,58 +564,82 @@ module _ (is_raw : Bool) where
           record { first = r.start; last = old; begins = r.begins; run = r.run },
           bad_here n t.1 t.0 t.3,
           reason_here n t.1 why t.0 t.5,
-        ) (kept_answers t.4)
-    fails new fault.ReadFailed t = closes t.0 (Err fault.ReadFailed) t.1 (t.0, refl, t.2) (kept_answers t.3)
-    fails new fault.WriteFailed (inl t) = fails_to_write new t.0 t.5 t.6 t.2 t.1 t.3 t.4 t.7
-    fails new fault.WriteFailed (inr t) =
-        closes t.0 (Err fault.WriteFailed) t.1 (inr (t.0, refl, t.2)) (inl (kept_answers t.3))
-    fails new fault.NoMemory t = closes t.0 (Err fault.NoMemory) t.1 (t.0, refl, t.2) (kept_answers t.3)
+        ) ends (kept_answers t.4) same
+    fails_so new fault.ReadFailed t same ends =
+        closes t.0 (Err fault.ReadFailed) t.1 (t.0, refl, t.2) ends (kept_answers t.3) same
+    fails_so new fault.WriteFailed (inl t) same ends =
+        let told = runs_told is_raw t.0 t.5 old new t.6 in
+        fails_to_write new told (record { whole = t.2; says = t.6.says; of_fleet = t.6.of_fleet }) (t.6.runs, tt)
+        t.1 t.3 t.4 t.7 same
+    fails_so new fault.WriteFailed (inr t) same ends =
+        closes t.0 (Err fault.WriteFailed) t.1 (inr (t.0, refl, t.2)) ends (inl (kept_answers t.3)) same
+    fails_so new fault.NoMemory t same ends =
+        closes t.0 (Err fault.NoMemory) t.1 (t.0, refl, t.2) ends (kept_answers t.3) same
 
-    none_left : (new : Session) → TakesTurn is_raw old new number mid left wrote holds (Ok false)
-        → RunsScript is_raw options had left held holds (Ok tt)
-    none_left new (inl t) = runs_last new t.0 t.5.0 t.5.1 t.1 t.2 t.3 t.4 t.5.2
-    none_left new (inr t) = runs_out t.0 t.1 t.2
+    pub fails : (new : Session) (f : ScriptFault)
+        → TakesTurn keeps is_raw old new number mid left wrote holds during after was skipped (Err f)
+        → RunsScript keeps is_raw options had left held holds before after (Err f)
+    fails new f t = fails_so new f t.0 t.1 t.2
 
-    pub none_ran : (new : Session) (more : Bool) → more ≡ false → TakesTurn is_raw old new number mid left wrote holds (Ok more)
-        → RunsScript is_raw options had left held holds (Ok tt)
-    none_ran new more is t = none_left new (subst (λ (b : Bool). TakesTurn is_raw old new number mid left wrote
-        holds (Ok b)) is t)
+    none_left : (new : Session)
+        → TakesTurn keeps is_raw old new number mid left wrote holds during after was skipped (Ok false)
+        → RunsScript keeps is_raw options had left held holds before after (Ok skipped)
+    none_left new (inl t) = runs_last new t.0 t.4.line t.4.turn t.1 t.2 t.3 t.4 t.5
+    none_left new (inr t) = runs_out t.0 t.1 t.2 t.3 t.4
 
-    pub more_ran : (new : Session) (more : Bool) → more ≡ true → TakesTurn is_raw old new number mid left wrote holds (Ok more)
-        → Running options new had left held holds (number + 1)
+    pub none_ran : (new : Session) (more : Bool) → more ≡ false
+        → TakesTurn keeps is_raw old new number mid left wrote holds during after was skipped (Ok more)
+        → RunsScript keeps is_raw options had left held holds before after (Ok skipped)
+    none_ran new more is t = none_left new (subst (λ (b : Bool). TakesTurn keeps is_raw old new number mid left wrote
+        holds during after was skipped (Ok b)) is t)
+
+    pub more_ran : (new : Session) (more : Bool) → more ≡ true
+        → TakesTurn keeps is_raw old new number mid left wrote holds during after was skipped (Ok more)
+        → Running keeps options new had left held holds before after skipped (number + 1)
     more_ran new more is t =
-        let ran : TakesTurn is_raw old new number mid left wrote holds (Ok true) =
-        subst (λ (b : Bool). TakesTurn is_raw old new number mid left wrote holds (Ok b)) is t in
-        runs_on new ran.0 ran.3.0 ran.3.1 ran.1 ran.2 ran.3.2
+        let ran : TakesTurn keeps is_raw old new number mid left wrote holds during after was skipped (Ok true) =
+        subst (λ (b : Bool). TakesTurn keeps is_raw old new number mid left wrote holds during after was skipped (Ok b))
+        is t in
+        runs_on new ran.0 ran.2.line ran.2.turn ran.1 ran.2 ran.3
 
   -- ---- behind the last number, and behind the last line
 
-  pub runs_dry : (options : Options) (old : Session) (had mid left held wrote holds : Option (List ℕ)) (number : ℕ)
-      → number ≡ 2 ^ 64 - 1 → (r : Running options old had mid held wrote number)
-      (result : Result (Unit {0}) ScriptFault) → IsNoMore is_raw mid left wrote holds result
-      → RunsScript is_raw options had left held holds result
-  runs_dry options old had mid left held wrote holds number is r (Ok done) n =
-      runs_out options old had mid left held wrote holds number r n.0 n.1 n.2
-  runs_dry options old had mid left held wrote holds number is r (Err (fault.BadLine n why)) none =
-      fails options old had mid left held wrote holds number r old (fault.BadLine n why) (
-        none.0 ∙ sym is,
-        none.1,
-        none.2,
-        subst (λ (k : ℕ). IsBadLine is_raw old k none.1 left) (none.0 ∙ sym is) (none.3 old),
-        none.4,
-        inr (inr (none.5, is)),
-      )
-  runs_dry options old had mid left held wrote holds number is r (Err fault.ReadFailed) none =
-      fails options old had mid left held wrote holds number r old fault.ReadFailed none
-  runs_dry options old had mid left held wrote holds number is r (Err fault.WriteFailed) none =
-      fails options old had mid left held wrote holds number r old fault.WriteFailed (inr none)
-  runs_dry options old had mid left held wrote holds number is r (Err fault.NoMemory) none =
-      fails options old had mid left held wrote holds number r old fault.NoMemory none
+  module _ (keeps : Bool) (options : Options) (old : Session) (had mid left held wrote holds : Option (List ℕ))
+      (before after : Errors) (skipped : Bool) (number : ℕ) (is : number ≡ 2 ^ 64 - 1)
+      (r : Running keeps options old had mid held wrote before after skipped number) where
+    pub runs_dry : (done : Unit {0}) → IsNoMore is_raw mid left wrote holds (Ok done)
+        → RunsScript keeps is_raw options had left held holds before after (Ok skipped)
+    runs_dry done n = runs_out keeps options old had mid left held wrote holds before after after skipped skipped number r
+        n.0 n.1 n.2 refl refl
+
+    pub dry_fails : (f : ScriptFault) → IsNoMore is_raw mid left wrote holds (Err f)
+        → RunsScript keeps is_raw options had left held holds before after (Err f)
+    dry_fails (fault.BadLine n why) none =
+        fails_so keeps options old had mid left held wrote holds before after after skipped skipped number r old
+        (fault.BadLine n why) (
+          none.0 ∙ sym is,
+          none.1,
+          none.2,
+          subst (λ (k : ℕ). IsBadLine is_raw old k none.1 left) (none.0 ∙ sym is) (none.3 old),
+          none.4,
+          inr (inr (none.5, is)),
+        ) refl (λ on. inr none.5)
+    dry_fails fault.ReadFailed none =
+        fails_so keeps options old had mid left held wrote holds before after after skipped skipped number r old
+        fault.ReadFailed none refl (λ on. tt)
+    dry_fails fault.WriteFailed none =
+        fails_so keeps options old had mid left held wrote holds before after after skipped skipped number r old
+        fault.WriteFailed (inr none) refl (λ on. tt)
+    dry_fails fault.NoMemory none =
+        fails_so keeps options old had mid left held wrote holds before after after skipped skipped number r old
+        fault.NoMemory none refl (λ on. tt)
 
   -- the writer was flushed
-  module _ (options : Options) (had left held wrote holds : Option (List ℕ)) (kept : Keeps wrote holds) where
-    pub flushes : (result : Result (Unit {0}) ScriptFault) → RunsScript is_raw options had left held wrote result
-        → RunsScript is_raw options had left held holds result
+  module _ (keeps : Bool) (options : Options) (had left held wrote holds : Option (List ℕ)) (before after : Errors)
+      (kept : Keeps wrote holds) where
+    pub flushes : (result : Result Bool ScriptFault)
+        → RunsScript keeps is_raw options had left held wrote before after result
+        → RunsScript keeps is_raw options had left held holds before after result
     flushes result r = record {
       told = r.told;
       taken = r.taken;
@@ -550,9 +648,11 @@ module _ (is_raw : Bool) where
       tells = r.tells;
       session = r.session;
       ends = r.ends;
+      goes_on = r.goes_on;
       prints = flushed result r.prints;
+      reports = r.reports;
     } where
-      flushed : (result : Result (Unit {0}) ScriptFault) → Prints is_raw held wrote r.told result
+      flushed : (result : Result Bool ScriptFault) → Prints is_raw held wrote r.told result
           → Prints is_raw held holds r.told result
       flushed (Ok done) p = Appends-kept held wrote holds (answers_of is_raw r.told) p kept
       flushed (Err (fault.BadLine n why)) p = Appends-kept held wrote holds (answers_of is_raw r.told) p kept
@@ -570,9 +670,9 @@ module _ (is_raw : Bool) where
           )
       flushed (Err fault.NoMemory) p = Appends-kept held wrote holds (answers_of is_raw r.told) p kept
 
-    pub fails_to_flush : (done : Unit {0}) → RunsScript is_raw options had left held wrote (Ok done)
-        → RunsScript is_raw options had left held holds (Err fault.WriteFailed)
-    fails_to_flush done r = record {
+    pub fails_to_flush : (skipped : Bool) → RunsScript keeps is_raw options had left held wrote before after (Ok skipped)
+        → RunsScript keeps is_raw options had left held holds before after (Err fault.WriteFailed)
+    fails_to_flush skipped r = record {
       told = r.told;
       taken = r.taken;
       consumed = r.consumed;
@@ -580,17 +680,19 @@ module _ (is_raw : Bool) where
       tells = r.tells;
       session = r.session;
       ends = inl r.ends.0;
+      goes_on = λ on. tt;
       prints = inl (Appends-kept held wrote holds (answers_of is_raw r.told) r.prints kept);
+      reports = r.reports;
     }
 
   -- nothing was begun
-  pub begins_not : (options : Options) (had held : Option (List ℕ))
-      → RunsScript is_raw options had had held held (Err fault.NoMemory)
-  begins_not options had held = record {
+  pub begins_not : (keeps : Bool) (options : Options) (had held : Option (List ℕ)) (before : Errors)
+      → RunsScript keeps is_raw options had had held held before before (Err fault.NoMemory)
+  begins_not keeps options had held before = record {
     told = [];
     taken = [];
     consumed = Consumes-nil had;
-    lines = All-nil (IsScriptLine is_raw options.backups);
+    lines = All-nil (IsScriptLine keeps is_raw options.backups);
     tells = (
       record { opening = empty_state; history = [] },
       refl,
@@ -600,5 +702,7 @@ module _ (is_raw : Bool) where
     );
     session = inl refl;
     ends = ([], refl, omega arith);
+    goes_on = λ on. tt;
     prints = Appends-nil held;
+    reports = refl;
   }

@@ -1,6 +1,7 @@
 -- What the lines of a script tell of one life after another.
-use Rattle.std.specs.Prelude.{[], ◌≡◌, ◌⊎◌, ℕ, List, ◌∷◌}
+use Rattle.std.specs.Prelude.{[], ◌≡◌, ◌⊎◌, ℕ, List, ◌∷◌, Option}
 use Rattle.lines.specs.Grammar.{LineValue}
+use Rattle.lines.specs.declared.reason.Reason.{Reason}
 use Rattle.next_master.specs.master.master_state.declared.config.Config.{Config}
 use Rattle.next_master.specs.answers.declared.answer.Answer.{Answer}
 use Rattle.next_master.specs.cluster.Lives.{Life, at_start}
@@ -8,11 +9,13 @@ use Rattle.versioned_map.specs.Represents.{empty_state}
 use Rattle.next_master.specs.cluster.Told.{Tells}
 use Rattle.next_master.specs.Succession.{Standing, IsTold, Succeeds}
 
--- a line that was run: its text without the line feed, what it says, and what it answered
+-- A line that was run: its text without the line feed, what it says, and what it answered. A bad line that was skipped
+-- is told as one that says nothing, with the reason why it is bad.
 pub record Told : Type 0 where
   pub text : List ℕ
   pub line : LineValue
   pub answer : Answer
+  pub skipped : Option Reason
 
 -- at the start nothing is told of the life
 abbrev pub at_first : Config → Life → Standing

@@ -14,10 +14,13 @@ use Rattle.next_master.specs.answers.declared.fault.ScriptFault.TheVariants as f
 use Rattle.script.specs.declared.session.LineFault.{LineFault}
 use Rattle.script.specs.declared.session.LineFault.TheVariants as line_fault
 use Rattle.script.specs.declared.session.Session.{Session}
-use Rattle.script.specs.Runs.{Allows, IsOfFleet, IsTakenLine, IsBadLine, IsReasonFor, IsReasonOf, RunResult}
-use Rattle.script.specs.Sessions.{RunsTurn, SetsLater, later_after}
+use Rattle.script.specs.Runs.{IsOfFleet, IsTakenLine, IsBadLine, IsReasonFor, IsReasonOf, IsRefusedText, IsScriptLine}
+use Rattle.script.specs.Runs.{EndsRun, IsTurn, Reports, report_of, skips_as}
+use Rattle.script.specs.Sessions.{Forgets, RunsTurn, SetsLater, later_after}
+use Rattle.script.specs.Telling.{Told}
 use Rattle.next_master.specs.Configuration.{MayBegin}
-use Rattle.next_master.specs.answers.Errors.{AppendsFront}
+use Rattle.next_master.specs.answers.Errors.{AppendsFront, Errors, Writes}
+use Rattle.next_master.specs.answers.Texts.{fault_lines}
 
 -- what a reader has left or a writer holds, if that is known
 abbrev pub Known : Type 0
@@ -51,47 +54,87 @@ AnswersText is_raw old text new held holds =
     (answer : Answer) × RunsText is_raw old text new answer × Appends held holds (told_text is_raw answer)
 
 -- an answer was written, or the writer failed and took a front of it
-abbrev pub IsPrinted : Bool → Known → Known → Answer → RunResult → Type 0
+abbrev pub IsPrinted : Bool → Known → Known → Answer → Result (Unit {0}) ScriptFault → Type 0
 IsPrinted is_raw held holds answer (Ok done) = Appends held holds (told_text is_raw answer)
 IsPrinted is_raw held holds answer (Err e) = (e ≡ fault.WriteFailed) × AppendsFront held holds (told_text is_raw answer)
 
--- the line was run and its answer written; or the line is bad, or the writer failed, or memory ran out
-abbrev pub PrintsText : Bool → Session → Session → List ℕ → ℕ → Known → Known → RunResult → Type 0
+-- The line was run and its answer written; or the writer failed, or memory ran out. Or the line is bad: then nothing was
+-- done, but that the session's master may have forgotten.
+abbrev pub PrintsText : Bool → Session → Session → List ℕ → ℕ → Known → Known → Result (Unit {0}) ScriptFault → Type 0
 PrintsText is_raw old new text number held holds (Ok done) = AnswersText is_raw old text new held holds
 PrintsText is_raw old new text number held holds (Err (fault.BadLine n why)) =
-    (n ≡ number) × ((line : LineValue) → SaysIn is_raw text line → Allows old line → ⊥) × Keeps held holds
-    × IsReasonOf is_raw old.options.backups text why
+    (n ≡ number) × IsRefusedText is_raw old text × Keeps held holds
+    × IsReasonOf is_raw old.options.backups text why × Forgets old new
 PrintsText is_raw old new text number held holds (Err fault.ReadFailed) = ⊥
 PrintsText is_raw old new text number held holds (Err fault.WriteFailed) =
     (answer : Answer) × RunsText is_raw old text new answer × AppendsFront held holds (told_text is_raw answer)
 PrintsText is_raw old new text number held holds (Err fault.NoMemory) = Keeps held holds
 
--- What came of the line with this number. It was run and more may come, it was the last one, there was none, or a
--- fault came. If the writer failed, it took a front of the line's answer, or failed as it was flushed before more was
--- read.
-abbrev pub TakesTurn : Bool → Session → Session → ℕ → Known → Known → Known → Known → Result Bool ScriptFault → Type 0
-TakesTurn is_raw old new number had left held holds (Ok true) =
-    (text : List ℕ) × IsLineText is_raw text × Consumes had left (text ++ 10 ∷ [])
-    × AnswersText is_raw old text new held holds
-TakesTurn is_raw old new number had left held holds (Ok false) =
-    ((text : List ℕ) × IsLineText is_raw text × Consumes had left text × IsAtEnd left × (0 < length text)
-    × AnswersText is_raw old text new held holds)
-    ⊎ (Consumes had left [] × IsAtEnd left × Keeps held holds)
-TakesTurn is_raw old new number had left held holds (Err (fault.BadLine n why)) =
+-- ---- bad lines
+
+-- a bad line was reported; for another fault nothing was done
+abbrev pub ReportsBadLine : ScriptFault → Errors → Errors → Bool → Type 0
+ReportsBadLine (fault.BadLine n why) before after reported =
+    (reported ≡ true) × Writes before after (fault_lines before.explains (fault.BadLine n why))
+ReportsBadLine _ before after reported = (reported ≡ false) × (after ≡ before)
+
+-- the fault is no bad line
+abbrev pub IsNoBadLine : ScriptFault → Type 0
+IsNoBadLine (fault.BadLine n why) = ⊥
+IsNoBadLine _ = Unit {0}
+
+-- What is told of the line that has this number. It was run, and its answer was written; or it was skipped, and
+-- reported.
+pub record TellsTurn (keeps is_raw : Bool) (old : Session) (number : ℕ) (new : Session) (held holds : Known)
+    (before after : Errors) (t : Told) : Type 0 where
+  pub line : IsScriptLine keeps is_raw old.options.backups t
+  pub turn : IsTurn is_raw old t new
+  pub prints : Appends held holds (told_text is_raw t.answer)
+  pub reports : Reports before after (report_of before.explains number t)
+
+-- What came of a text. It was run, or skipped if it is bad and the run keeps going. Or a fault came.
+abbrev pub TakesText : Bool → Bool → Session → Session → List ℕ → ℕ → Known → Known → Errors → Errors → Bool → Bool
+    → Result (Unit {0}) ScriptFault → Type 0
+TakesText keeps is_raw old new text number held holds before after was skipped (Ok done) =
+    (t : Told) × (t.text ≡ text) × TellsTurn keeps is_raw old number new held holds before after t
+    × (skipped ≡ skips_as was t.skipped)
+TakesText keeps is_raw old new text number held holds before after was skipped (Err f) =
+    PrintsText is_raw old new text number held holds (Err f) × (after ≡ before) × (keeps ≡ true → IsNoBadLine f)
+
+-- ---- one line
+
+-- Which fault came of the line with this number. If the writer failed, it took a front of the line's answer, or failed
+-- as it was flushed before more was read.
+abbrev pub FailsTurn : Bool → Session → Session → ℕ → Known → Known → Known → Known → ScriptFault → Type 0
+FailsTurn is_raw old new number had left held holds (fault.BadLine n why) =
     (n ≡ number) × (bad : List ℕ) × Consumes had left bad × IsBadLine is_raw old number bad left
     × Keeps held holds
     × IsReasonFor is_raw old.options.backups number bad left why
-TakesTurn is_raw old new number had left held holds (Err fault.ReadFailed) =
+FailsTurn is_raw old new number had left held holds fault.ReadFailed =
     (part : List ℕ) × Consumes had left part × IsLineText is_raw part × Keeps held holds
-TakesTurn is_raw old new number had left held holds (Err fault.WriteFailed) =
+FailsTurn is_raw old new number had left held holds fault.WriteFailed =
     ((text : List ℕ) × (taken : List ℕ) × IsLineText is_raw text × Consumes had left taken × IsTakenLine text taken left
     × (answer : Answer) × RunsText is_raw old text new answer × AppendsFront held holds (told_text is_raw answer))
     ⊎ ((part : List ℕ) × Consumes had left part × IsLineText is_raw part × Keeps held holds)
-TakesTurn is_raw old new number had left held holds (Err fault.NoMemory) =
+FailsTurn is_raw old new number had left held holds fault.NoMemory =
     (part : List ℕ) × Consumes had left part × (length part ≤ line_limit is_raw + 1) × Keeps held holds
 
+-- What came of the line with this number. It was run or skipped, and more may come; or it was the last one, or there
+-- was none; or a fault came. `skipped` says whether a line was skipped so far.
+abbrev pub TakesTurn : Bool → Bool → Session → Session → ℕ → Known → Known → Known → Known → Errors → Errors → Bool
+    → Bool → Result Bool ScriptFault → Type 0
+TakesTurn keeps is_raw old new number had left held holds before after was skipped (Ok true) =
+    (t : Told) × Consumes had left (t.text ++ 10 ∷ [])
+    × TellsTurn keeps is_raw old number new held holds before after t × (skipped ≡ skips_as was t.skipped)
+TakesTurn keeps is_raw old new number had left held holds before after was skipped (Ok false) =
+    ((t : Told) × Consumes had left t.text × IsAtEnd left × (0 < length t.text)
+    × TellsTurn keeps is_raw old number new held holds before after t × (skipped ≡ skips_as was t.skipped))
+    ⊎ (Consumes had left [] × IsAtEnd left × Keeps held holds × (after ≡ before) × (skipped ≡ was))
+TakesTurn keeps is_raw old new number had left held holds before after was skipped (Err f) =
+    FailsTurn is_raw old new number had left held holds f × (after ≡ before) × (keeps ≡ true → EndsRun f)
+
 -- What came after the last line that can have a number.
-abbrev pub IsNoMore : Bool → Known → Known → Known → Known → RunResult → Type 0
+abbrev pub IsNoMore : Bool → Known → Known → Known → Known → Result (Unit {0}) ScriptFault → Type 0
 IsNoMore is_raw had left held holds (Ok done) = Consumes had left [] × IsAtEnd left × Keeps held holds
 IsNoMore is_raw had left held holds (Err (fault.BadLine n why)) =
     (n ≡ 2 ^ 64 - 1) × (bad : List ℕ) × Consumes had left bad × ((s : Session) → IsBadLine is_raw s n bad left)

@@ -12,13 +12,13 @@ ghost use Rattle.script.specs.Runs.{RunsScript};
 ghost use Rattle.next_master.specs.answers.declared.answer.Answer.{Answer as AnswerValue};
 ghost use Rattle.script.specs.declared.session.Session.{Session as SessionValue};
 ghost use Rattle.script.specs.Sessions.{BeginsSession, Forgets, SessionAnswers, Stands, IsPrintedAs, IsTended, TriesCommand};
-ghost use Rattle.script.specs.Turns.{HasValue, IsNoMore, IsPrinted, PrintsText, TakesTurn};
+ghost use Rattle.script.specs.Turns.{HasValue, IsNoMore, IsPrinted, PrintsText, ReportsBadLine, TakesText, TakesTurn};
 
 use crate::outcome::Outcome;
 use crate::session::{LineFault, Session};
 use command_line::Options;
 use lines::{CommandLine, Line, LineReader, ReadFault, Reason, Taken};
-use next_master::answers::{Answer, ScriptFault};
+use next_master::answers::{Answer, ErrorOutput, ScriptFault, report};
 use next_master::cluster::Tried;
 use raw_answers::write_told;
 use raw_lines::{one_plain_line, parse_text};
@@ -27,94 +27,160 @@ use std::io::{BufRead, Write};
 use std::sync::Wait;
 use std::thread::Threads;
 
-/// Runs the lines of the reader in order, up to the first bad line, and hands the answer of each to the writer. It
-/// flushes the writer before it waits for more lines. With `is_raw` keys and values are any bytes, each behind its length.
-pub fn run_script<H: Threads + Wait + Sync, R: BufRead, W: Write>(
+/// Runs the lines of the reader in order, and hands the answer of each to the writer. It flushes the writer before it
+/// waits for more lines. With `is_raw` keys and values are any bytes, each behind its length.
+///
+/// A bad line ends the run. If it keeps going, a bad line is reported on the error output and skipped instead, but for
+/// one that is too long. Ok says whether a line was skipped.
+pub fn run_script<H: Threads + Wait + Sync, R: BufRead, W: Write, E: Write + Drop>(
     rt: &H,
     alloc: Global,
     reader: &mut R,
     writer: &mut W,
+    errors: &mut ErrorOutput<E>,
     options: Options,
     is_raw: bool,
-) -> Result<(), ScriptFault>
+    keeps_going: bool,
+) -> Result<bool, ScriptFault>
     requires { config_fault (config_of options 1) ≡ None }
     // The lines tell of one legal life after another. Exactly their answers were written. A bad line is named.
-    ensures { RunsScript is_raw options (R.remaining reader.old) (R.remaining reader.new)
-        (W.contents writer.old) (W.contents writer.new) result }
+    ensures { RunsScript keeps_going is_raw options (R.remaining reader.old) (R.remaining reader.new)
+        (W.contents writer.old) (W.contents writer.new) errors.old errors.new result }
 {
     let Ok(mut session) = Session::start(alloc, &options) else {
         return Err(ScriptFault::NoMemory);
     };
-    run_and_flush(rt, alloc, reader, writer, &mut session, is_raw)
+    run_and_flush(
+        rt,
+        alloc,
+        reader,
+        writer,
+        errors,
+        &mut session,
+        is_raw,
+        keeps_going,
+    )
 }
 
 /// Runs all lines on a session at its start, and flushes the writer.
-fn run_and_flush<H: Threads + Wait + Sync, R: BufRead, W: Write>(
+fn run_and_flush<H: Threads + Wait + Sync, R: BufRead, W: Write, E: Write + Drop>(
     rt: &H,
     alloc: Global,
     reader: &mut R,
     writer: &mut W,
+    errors: &mut ErrorOutput<E>,
     session: &mut Session,
     is_raw: bool,
-) -> Result<(), ScriptFault>
+    keeps_going: bool,
+) -> Result<bool, ScriptFault>
     requires { (options : OptionsValue) × BeginsSession options session.old }
     ensures { (options : OptionsValue) → BeginsSession options session.old →
-        RunsScript is_raw options (R.remaining reader.old) (R.remaining reader.new)
-        (W.contents writer.old) (W.contents writer.new) result }
+        RunsScript keeps_going is_raw options (R.remaining reader.old) (R.remaining reader.new)
+        (W.contents writer.old) (W.contents writer.new) errors.old errors.new result }
 {
-    let ran = run_lines(rt, alloc, reader, writer, session, is_raw);
+    let ran = run_lines(
+        rt,
+        alloc,
+        reader,
+        writer,
+        errors,
+        session,
+        is_raw,
+        keeps_going,
+    );
     let flushed = writer.flush();
     match ran {
-        Ok(()) if flushed.is_err() => Err(ScriptFault::WriteFailed),
+        Ok(_) if flushed.is_err() => Err(ScriptFault::WriteFailed),
         ran => ran,
     }
 }
 
 /// Runs all lines on a session at its start.
-fn run_lines<H: Threads + Wait + Sync, R: BufRead, W: Write>(
+fn run_lines<H: Threads + Wait + Sync, R: BufRead, W: Write, E: Write + Drop>(
     rt: &H,
     alloc: Global,
     reader: &mut R,
     writer: &mut W,
+    errors: &mut ErrorOutput<E>,
     session: &mut Session,
     is_raw: bool,
-) -> Result<(), ScriptFault>
+    keeps_going: bool,
+) -> Result<bool, ScriptFault>
     requires { (options : OptionsValue) × BeginsSession options session.old }
     ensures { (options : OptionsValue) → BeginsSession options session.old →
-        RunsScript is_raw options (R.remaining reader.old) (R.remaining reader.new)
-        (W.contents writer.old) (W.contents writer.new) result }
+        RunsScript keeps_going is_raw options (R.remaining reader.old) (R.remaining reader.new)
+        (W.contents writer.old) (W.contents writer.new) errors.old errors.new result }
 {
     let mut lines = LineReader::new(alloc);
+    let mut skipped = false;
     for number in 1..u64::MAX {
-        match run_next(rt, reader, writer, &mut lines, session, number, is_raw) {
+        match run_next(
+            rt,
+            reader,
+            writer,
+            errors,
+            &mut lines,
+            session,
+            number,
+            &mut skipped,
+            is_raw,
+            keeps_going,
+        ) {
             Ok(true) => {}
-            Ok(false) => return Ok(()),
+            Ok(false) => return Ok(skipped),
             Err(fault) => return Err(fault),
         }
     }
-    no_more(reader, writer, &mut lines, is_raw)
+    match no_more(reader, writer, &mut lines, is_raw) {
+        Ok(()) => Ok(skipped),
+        Err(fault) => Err(fault),
+    }
 }
 
-/// Takes the next line, which has this number, and runs it. Answers whether more lines may come.
-fn run_next<H: Threads + Wait + Sync, R: BufRead, W: Write>(
+/// Takes the next line, which has this number, and runs it, or skips it. Answers whether more lines may come.
+fn run_next<H: Threads + Wait + Sync, R: BufRead, W: Write, E: Write + Drop>(
     rt: &H,
     reader: &mut R,
     writer: &mut W,
+    errors: &mut ErrorOutput<E>,
     lines: &mut LineReader,
     session: &mut Session,
     number: u64,
+    skipped: &mut bool,
     is_raw: bool,
+    keeps_going: bool,
 ) -> Result<bool, ScriptFault>
     requires stands { Stands session.old }
-    ensures { TakesTurn is_raw session.old session.new number (R.remaining reader.old) (R.remaining reader.new)
-        (W.contents writer.old) (W.contents writer.new) result }
+    ensures { TakesTurn keeps_going is_raw session.old session.new number
+        (R.remaining reader.old) (R.remaining reader.new) (W.contents writer.old) (W.contents writer.new)
+        errors.old errors.new skipped.old skipped.new result }
 {
     match lines.next_line(reader, writer, is_raw) {
-        Ok(Taken::Ended) => match run_text(rt, writer, session, lines.text(), number, is_raw) {
+        Ok(Taken::Ended) => match run_or_skip(
+            rt,
+            writer,
+            errors,
+            session,
+            lines.text(),
+            number,
+            skipped,
+            is_raw,
+            keeps_going,
+        ) {
             Ok(()) => Ok(true),
             Err(fault) => Err(fault),
         },
-        Ok(Taken::Last) => match run_text(rt, writer, session, lines.text(), number, is_raw) {
+        Ok(Taken::Last) => match run_or_skip(
+            rt,
+            writer,
+            errors,
+            session,
+            lines.text(),
+            number,
+            skipped,
+            is_raw,
+            keeps_going,
+        ) {
             Ok(()) => Ok(false),
             Err(fault) => Err(fault),
         },
@@ -123,6 +189,54 @@ fn run_next<H: Threads + Wait + Sync, R: BufRead, W: Write>(
         Err(ReadFault::ReadFailed) => Err(ScriptFault::ReadFailed),
         Err(ReadFault::WriteFailed) => Err(ScriptFault::WriteFailed),
         Err(ReadFault::NoMemory) => Err(ScriptFault::NoMemory),
+    }
+}
+
+/// Runs the line of a text. If it is bad and the run keeps going, the line is reported and skipped.
+fn run_or_skip<H: Threads + Wait + Sync, W: Write, E: Write + Drop>(
+    rt: &H,
+    writer: &mut W,
+    errors: &mut ErrorOutput<E>,
+    session: &mut Session,
+    text: &[u8],
+    number: u64,
+    skipped: &mut bool,
+    is_raw: bool,
+    keeps_going: bool,
+) -> Result<(), ScriptFault>
+    requires text { IsLineText is_raw text.now }
+    requires stands { Stands session.old }
+    ensures { TakesText keeps_going is_raw session.old session.new text.now number
+        (W.contents writer.old) (W.contents writer.new) errors.old errors.new skipped.old skipped.new result }
+{
+    match run_text(rt, writer, session, text, number, is_raw) {
+        Ok(()) => Ok(()),
+        Err(fault) => {
+            if !keeps_going {
+                return Err(fault);
+            }
+            if !report_bad_line(&fault, errors) {
+                return Err(fault);
+            }
+            *skipped = true;
+            Ok(())
+        }
+    }
+}
+
+/// Reports a fault that is a bad line, and does nothing for another. Answers whether it is one.
+#[inline(never)]
+fn report_bad_line<E: Write + Drop>(fault: &ScriptFault, errors: &mut ErrorOutput<E>) -> bool
+    ensures { ReportsBadLine fault.now errors.old errors.new result }
+{
+    match fault {
+        ScriptFault::BadLine(..) => {
+            report(fault, errors);
+            true
+        }
+        ScriptFault::ReadFailed => false,
+        ScriptFault::WriteFailed => false,
+        ScriptFault::NoMemory => false,
     }
 }
 
@@ -143,7 +257,10 @@ fn run_text<H: Threads + Wait + Sync, W: Write>(
 {
     let line = match parse_text(text, is_raw) {
         Ok(line) => line,
-        Err(reason) => return Err(ScriptFault::BadLine(number, reason)),
+        Err(reason) => {
+            session.forget();
+            return Err(ScriptFault::BadLine(number, reason));
+        }
     };
     match line {
         Line::Command(command) => {

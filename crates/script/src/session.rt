@@ -179,6 +179,7 @@ impl Session {
         ensures ran { IfOk result (λ answer. RunsLine self.old (shown_line line.entry) self.new answer) }
         ensures of_fleet { IfOk result (λ _. IsOfFleet self.old.options.backups (shown_line line.entry)) }
         ensures refused { IfErr result (RefusesLine self.old (shown_line line.entry)) }
+        ensures kept { IfErr result (λ _. self.new ≡ self.old) }
     {
         match line {
             Line::Idle => Ok(Answer::Silent),
@@ -207,6 +208,7 @@ impl Session {
             Line::Log => Ok(self.node.log()),
             Line::Room => Ok(self.node.room()),
             Line::Segments => Ok(self.node.segments()),
+            Line::List { table } => Ok(self.node.list(self.alloc, table)),
             Line::Live => Ok(self.node.live()),
             Line::Holdings => Ok(self.node.holdings(self.alloc)),
             Line::Clients {
@@ -245,6 +247,7 @@ impl Session {
         requires { Stands self.old }
         ensures ran { IfOk result (SessionAnswers self.old Format self.new) }
         ensures refused { IfErr result (RefusesLine self.old Format) }
+        ensures kept { IfErr result (λ _. self.new ≡ self.old) }
     {
         let later = self.later.with_lengths();
         if !self.set_later(later) {
@@ -258,6 +261,7 @@ impl Session {
         requires { Stands self.old }
         ensures ran { IfOk result (SessionAnswers self.old (Seglets seglets) self.new) }
         ensures refused { IfErr result (RefusesLine self.old (Seglets seglets)) }
+        ensures kept { IfErr result (λ _. self.new ≡ self.old) }
     {
         let later = self.later.with_seglets(seglets);
         if !self.set_later(later) {
@@ -351,20 +355,24 @@ impl Session {
     }
 
     /// Runs the line that begins to clean these segments.
+    #[tactic(auto, using(crate::proofs::Commanding::left_as_it_is))]
     fn run_begin(&mut self, segments: Numbers<'_>) -> Result<Answer, LineFault>
         ensures ran { IfOk result (λ answer.
             SessionAnswers self.old (Begin (numbers_of segments.entry)) self.new answer) }
         ensures refused { IfErr result (λ fault. fault ≡ LineFault.NoMemory) }
+        ensures kept { IfErr result (λ _. self.new ≡ self.old) }
     {
         let victims = row_of(self.alloc, segments)?;
         Ok(self.node.step(Step::BeginClean(victims)))
     }
 
     /// Runs the line that cleans these segments.
+    #[tactic(auto, using(crate::proofs::Commanding::left_as_it_is))]
     fn run_clean(&mut self, segments: Numbers<'_>) -> Result<Answer, LineFault>
         ensures ran { IfOk result (λ answer.
             SessionAnswers self.old (Clean (numbers_of segments.entry)) self.new answer) }
         ensures refused { IfErr result (λ fault. fault ≡ LineFault.NoMemory) }
+        ensures kept { IfErr result (λ _. self.new ≡ self.old) }
     {
         let victims = row_of(self.alloc, segments)?;
         Ok(self.node.clean(victims))

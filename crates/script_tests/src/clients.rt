@@ -48,6 +48,7 @@ fn is_run<H: Threads + Wait + Sync>(rt: &H, alloc: Global) -> bool {
         alloc,
         WORDS,
         false,
+        false,
         &mut script,
         &mut written,
         &mut errors,

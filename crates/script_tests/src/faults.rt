@@ -1,6 +1,6 @@
 //! Reads and writes that fail: the first of a run alone, then the second, and so on, until a run meets none that fails.
 
-use script::{ScriptFault, configuration, options, run_script};
+use script::{ErrorOutput, ScriptFault, configuration, options, run_script};
 use std::alloc::Global;
 use std::cell::Cell;
 use std::io::{self, BufRead, BufReader, ErrorKind, Read, Write};
@@ -140,7 +140,22 @@ fn end_of<H: Threads + Wait + Sync, R: BufRead, W: Write>(
     };
     match config.check() {
         Err(_) => None,
-        Ok(()) => Some(run_script(rt, alloc, reader, writer, options, false)),
+        Ok(()) => {
+            let mut errors = ErrorOutput::new(io::sink(), false);
+            match run_script(
+                rt,
+                alloc,
+                reader,
+                writer,
+                &mut errors,
+                options,
+                false,
+                false,
+            ) {
+                Ok(_) => Some(Ok(())),
+                Err(fault) => Some(Err(fault)),
+            }
+        }
     }
 }
 

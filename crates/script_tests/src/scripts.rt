@@ -25,7 +25,16 @@ fn ends<H: Threads + Wait + Sync, R: BufRead, W: Write>(
     want: End,
 ) -> bool {
     let mut errors = ErrorOutput::new(Vec::new(alloc), true);
-    match run_program(rt, alloc, &["ramlog"], false, reader, writer, &mut errors) {
+    match run_program(
+        rt,
+        alloc,
+        &["ramlog"],
+        false,
+        false,
+        reader,
+        writer,
+        &mut errors,
+    ) {
         Ok(status) => (errors.writer().as_slice(), status) == (want.0.as_bytes(), want.1),
         Err(_) => false,
     }
@@ -120,6 +129,7 @@ fn is_explained<H: Threads + Wait + Sync>(
         rt,
         alloc,
         words,
+        false,
         false,
         &mut reader,
         &mut io::sink(),

@@ -10,8 +10,9 @@ pub returns-in_default : goal.returns-in_default
 returns-in_default g c =
     inr (record {
       result = _;
+      errors = c.args.errors.now;
       checked = inr refl;
-      run = begins_not c.args.is_raw _ _ _;
+      run = begins_not c.args.is_raw _ _ _ _ _;
       reported = (c.report.ensures.lines, c.report.ensures.status);
     })
 

@@ -4,7 +4,9 @@ use Rattle.lines.specs.Grammar.{LineValue, shown_line}
 use Rattle.raw_lines.specs.Raw.{SaysIn}
 use Rattle.script.proofs.Commanding.{no_key_of}
 use Rattle.lines.specs.declared.reason.Reason.TheVariants.{NoBackup}
+use Rattle.script.specs.Sessions.{Forgets}
 use Rattle.script.specs.Turns.{RefusesLine}
+use Rattle.script.specs.declared.session.Session.{Session}
 use Rattle.script.proofs.Commanding.{no_backup, says_none}
 use Rattle.script.proofs.Turning.{answer_printed}
 use Rattle.script.proofs.running.run_other.Goals as goal
@@ -35,6 +37,7 @@ returns-in-Err-NoBackup g c = λ last forgets.
         refused.0,
         subst (λ (l : LineValue). SaysIn c.args.is_raw c.args._text.now l) refused.1 c.requires.says,
       )),
+      subst (λ (x : Session). Forgets x last) c.in-Err-NoBackup.ensures.kept forgets,
     )
 
 pub returns-in-Err-NoLaterMaster : goal.returns-in-Err-NoLaterMaster
@@ -50,4 +53,5 @@ returns-in-Err-NoLaterMaster g c = λ last forgets.
           (λ all. refused.1 all.1) allows,
       Keeps-refl _,
       inr (inr (refl, line, refused.0, c.requires.says)),
+      subst (λ (x : Session). Forgets x last) c.in-Err-NoLaterMaster.ensures.kept forgets,
     )

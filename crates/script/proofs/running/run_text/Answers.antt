@@ -15,7 +15,7 @@ returns-in-Command g c =
       line = shown_command c.in-Command.command;
       says = subst (λ (l : Line). SaysIn c.args.is_raw c.args.text.now (shown_line l)) c.in-Command.is c.in-Ok.ensures.sound;
       of_fleet = command_of_fleet _ c.in-Command.command;
-      runs = (c.run_command-printed.new.session, inl ran.1, c.forget.ensures);
+      runs = (c.run_command-printed.new.session, inl ran.1, c.forget-in-Command.ensures);
     })
     ran.2
 
@@ -25,4 +25,5 @@ returns-in-Err g c = (
   λ line says of_fleet. c.in-Err.ensures.complete refl line says,
   Keeps-refl _,
   inl c.in-Err.ensures.reason,
+  c.forget.ensures,
 )

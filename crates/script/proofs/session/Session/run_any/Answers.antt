@@ -1,6 +1,6 @@
 use Rattle.std.proofs.Common.{inl, inr, refl, arith}
 use Rattle.lines.specs.Grammar.{Format, Idle, Seglets, Hex, Stop, Fault, Crash, Lose, Roll, BeginRoll, Compact}
-use Rattle.lines.specs.Grammar.{Push, Log, Segments, Room, LiveBytes, Holdings, Copy, Seal, Free, Tend}
+use Rattle.lines.specs.Grammar.{Push, Log, Segments, Room, Listing, LiveBytes, Holdings, Copy, Seal, Free, Tend}
 use Rattle.next_master.specs.answers.declared.answer.Answer.TheVariants.{Silent}
 use Rattle.next_master.proofs.of_cluster.Standing.{stays_told}
 use Rattle.script.specs.Sessions.{RunsLine, SessionAnswers}
@@ -64,6 +64,11 @@ returns-in-Segments-clause-ran g c = rw c.in-Segments.is (inl (node_answers c.ar
 pub returns-in-Room-clause-ran : goal.returns-in-Room-clause-ran
 returns-in-Room-clause-ran g c = rw c.in-Room.is (inl (node_answers c.args.self.now Room c.args.self.now.node
     c.room.result (λ config number. c.room.ensures.told config) (refl, c.room.ensures.shown) refl refl refl tt))
+
+pub returns-in-List-clause-ran : goal.returns-in-List-clause-ran
+returns-in-List-clause-ran g c =
+    rw c.in-List.is (inl (node_answers c.args.self.now (Listing c.in-List.table) c.args.self.now.node
+    c.list.result (λ config number. c.list.ensures.told config) (refl, c.list.ensures.shown) refl refl refl tt))
 
 pub returns-in-Live-clause-ran : goal.returns-in-Live-clause-ran
 returns-in-Live-clause-ran g c = rw c.in-Live.is (inl (node_answers c.args.self.now LiveBytes c.args.self.now.node

@@ -1,0 +1,162 @@
+-- Bad lines that are skipped, and what is reported of them.
+use Rattle.std.proofs.Common.{[], ◌≡◌, ◌∙◌, ℕ, suc, ◌+◌, Bool, true, false, List, ◌∷◌, ◌++◌, length, ap, sym, subst}
+use Rattle.std.proofs.Common.{arith, inl, refl, append-nil, append_assoc}
+use Rattle.std.specs.Prelude.{Option, None, Some, Ok, Err}
+use Rattle.std.specs.Io.KnownBytes.{Appends, Keeps}
+use Rattle.std.proofs.KnownBytes.{Appends-kept, Appends-nil, Appends-trans, Keeps-trans}
+use Rattle.lines.specs.Grammar.{Idle}
+use Rattle.lines.specs.Reading.{IsLineText}
+use Rattle.next_master.specs.answers.Errors.{AppendsFront, Errors, Writes, WritesUnless}
+use Rattle.next_master.specs.answers.Texts.{fault_lines}
+use Rattle.next_master.specs.answers.declared.answer.Answer.{Answer}
+use Rattle.next_master.specs.answers.declared.answer.Answer.TheVariants.{Silent}
+use Rattle.next_master.specs.answers.declared.fault.ScriptFault.{ScriptFault}
+use Rattle.next_master.specs.answers.declared.fault.ScriptFault.TheVariants as fault
+use Rattle.next_master.proofs.of_cluster.Standing.{stays_told}
+use Rattle.raw_answers.specs.Texts.{told_text}
+use Rattle.script.specs.declared.session.Session.{Session}
+use Rattle.script.specs.Runs.{EndsRun, IsScriptLine, Reports, has_skipped, report_of, reports_of, skips_as}
+use Rattle.script.specs.Sessions.{RunsLine}
+use Rattle.script.specs.Telling.{Told}
+use Rattle.script.specs.Turns.{IsNoBadLine, PrintsText, ReportsBadLine, RunsText, TakesText}
+use Rattle.script.proofs.Sessions.{node_answers}
+
+-- ---- what was written
+
+-- all of some bytes was written, and a front of what follows
+cut_later : (held mid holds : Option (List ℕ)) (bytes more : List ℕ) → Appends held mid bytes
+    → AppendsFront mid holds more → AppendsFront held holds (bytes ++ more)
+cut_later held mid holds bytes more all f = (
+  bytes ++ f.0,
+  f.1,
+  ap (λ l. bytes ++ l) f.2 ∙ sym (append_assoc bytes f.0 f.1),
+  Appends-trans held mid holds bytes f.0 all f.3,
+)
+
+-- nothing more was written of what follows
+cut_before : (held mid holds : Option (List ℕ)) (bytes more : List ℕ) → AppendsFront held mid bytes → Keeps mid holds
+    → AppendsFront held holds (bytes ++ more)
+cut_before held mid holds bytes more f kept = (
+  f.0,
+  f.1 ++ more,
+  ap (λ l. l ++ more) f.2 ∙ append_assoc f.0 f.1 more,
+  Appends-kept held mid holds f.0 f.3 kept,
+)
+
+writes_on : (a b c : Bool) (held mid holds : Option (List ℕ)) (bytes more : List ℕ) → WritesUnless a b held mid bytes
+    → WritesUnless b c mid holds more
+    → WritesUnless a c held holds (bytes ++ more)
+writes_on false false false held mid holds bytes more all next = Appends-trans held mid holds bytes more all next
+writes_on false false true held mid holds bytes more all next = cut_later held mid holds bytes more all next
+writes_on false true false held mid holds bytes more front next = absurd next
+writes_on false true true held mid holds bytes more front kept = cut_before held mid holds bytes more front kept
+writes_on true false c held mid holds bytes more none next = absurd none
+writes_on true true false held mid holds bytes more none next = absurd next
+writes_on true true true held mid holds bytes more kept next = Keeps-trans held mid holds kept next
+
+writes_more : (a b c : Errors) (bytes more : List ℕ) → Writes a b bytes → Writes b c more → Writes a c (bytes ++ more)
+writes_more a b c bytes more first next = record {
+  written = writes_on a.has_failed b.has_failed c.has_failed a.holds b.holds c.holds bytes more
+      first.written next.written;
+  explains = next.explains ∙ first.explains;
+}
+
+-- ---- what was reported
+
+pub reports_explain : (a b : Errors) (bytes : List ℕ) → Reports a b bytes → b.explains ≡ a.explains
+reports_explain a b [] same = ap (λ (e : Errors). e.explains) same
+reports_explain a b (x ∷ xs) writes = writes.explains
+
+-- some bytes were reported, and then more
+pub reports_join : (a b c : Errors) (bytes more : List ℕ) → Reports a b bytes → Reports b c more
+    → Reports a c (bytes ++ more)
+reports_join a b c [] more same next = subst (λ (e : Errors). Reports e c more) same next
+reports_join a b c (x ∷ xs) [] first same =
+    subst (Reports a c) (sym (append-nil (x ∷ xs))) (subst (λ (e : Errors). Reports a e (x ∷ xs)) (sym same) first)
+reports_join a b c (x ∷ xs) (y ∷ ys) first next = writes_more a b c (x ∷ xs) (y ∷ ys) first next
+
+-- the reports of one line more
+pub reports_more : (explains : Bool) (first : ℕ) (told : List Told) (t : Told) (number : ℕ)
+    → first + length told ≡ number
+    → reports_of explains first (told ++ t ∷ []) ≡ reports_of explains first told ++ report_of explains number t
+reports_more explains first [] t number count =
+    let same : first ≡ number = omega (arith, count) in
+    append-nil (report_of explains first t) ∙ ap (λ (n : ℕ). report_of explains n t) same
+reports_more explains first (u ∷ us) t number count =
+    ap (λ l. report_of explains first u ++ l) (reports_more explains (suc first) us t number (omega (arith, count)))
+    ∙ sym (append_assoc (report_of explains first u) (reports_of explains (suc first) us) (report_of explains number t))
+
+pub has_more : (before : Bool) (told : List Told) (t : Told)
+    → has_skipped before (told ++ t ∷ []) ≡ skips_as (has_skipped before told) t.skipped
+has_more before [] t = refl
+has_more before (u ∷ us) t = has_more (skips_as before u.skipped) us t
+
+-- ---- lines
+
+-- a fleet of as many backups
+pub fleet_line : (keeps is_raw : Bool) (was now : ℕ) (t : Told) → was ≡ now → IsScriptLine keeps is_raw was t
+    → IsScriptLine keeps is_raw now t
+fleet_line keeps is_raw was now t same is = subst (λ (n : ℕ). IsScriptLine keeps is_raw n t) same is
+
+-- what is told of a line that was run
+abbrev pub runs_told : (is_raw : Bool) (text : List ℕ) (answer : Answer) (old new : Session)
+    → RunsText is_raw old text new answer → Told
+runs_told is_raw text answer old new runs = record { text = text; line = runs.line; answer = answer; skipped = None }
+
+pub ends_none : (f : ScriptFault) → IsNoBadLine f → EndsRun f
+ends_none (fault.BadLine n why) none = absurd none
+ends_none fault.ReadFailed none = tt
+ends_none fault.WriteFailed none = tt
+ends_none fault.NoMemory none = tt
+
+-- an empty line leaves a session as it is
+idle_runs : (s : Session) → RunsLine s Idle s Silent
+idle_runs s = inl (node_answers s Idle s.node Silent
+    (λ config number. stays_told s.node config Idle Silent (λ d at x. (refl, refl))) refl refl refl refl tt)
+
+module _ (keeps is_raw : Bool) (old new : Session) (text : List ℕ) (number : ℕ) (held holds : Option (List ℕ))
+    (before after : Errors) (was : Bool) where
+  -- the line was run
+  pub run_taken : (answer : Answer) → IsLineText is_raw text → RunsText is_raw old text new answer
+      → Appends held holds (told_text is_raw answer)
+      → TakesText keeps is_raw old new text number held holds before before was was (Ok tt)
+  run_taken answer whole runs printed = (
+    runs_told is_raw text answer old new runs,
+    refl,
+    record {
+      line = record { whole = whole; says = runs.says; of_fleet = runs.of_fleet };
+      turn = (runs.runs, tt);
+      prints = printed;
+      reports = refl;
+    },
+    refl,
+  )
+
+  -- the line is bad, and was reported
+  pub skip_taken : (f : ScriptFault) → keeps ≡ true → IsLineText is_raw text
+      → PrintsText is_raw old new text number held holds (Err f) → ReportsBadLine f before after true
+      → TakesText keeps is_raw old new text number held holds before after was true (Ok tt)
+  skip_taken (fault.BadLine n why) on whole p reported = (
+    record { text = text; line = Idle; answer = Silent; skipped = Some why },
+    refl,
+    record {
+      line = (on, record { whole = whole; idle = refl; silent = refl; reason = p.3 });
+      turn = ((old, idle_runs old, p.4), p.1);
+      prints = Appends-kept held held holds [] (Appends-nil held) p.2;
+      reports = subst (λ (k : ℕ). Writes before after (fault_lines before.explains (fault.BadLine k why))) p.0
+          reported.1;
+    },
+    refl,
+  )
+  skip_taken fault.ReadFailed on whole p reported = absurd p
+  skip_taken fault.WriteFailed on whole p reported = let no = reported.0 in absurd (cc)
+  skip_taken fault.NoMemory on whole p reported = let no = reported.0 in absurd (cc)
+
+  -- the fault is no bad line
+  pub fault_taken : (f : ScriptFault) → PrintsText is_raw old new text number held holds (Err f)
+      → ReportsBadLine f before after false
+      → TakesText keeps is_raw old new text number held holds before after was was (Err f)
+  fault_taken (fault.BadLine n why) p reported = let no = reported.0 in absurd (cc)
+  fault_taken fault.ReadFailed p reported = absurd p
+  fault_taken fault.WriteFailed p reported = (p, reported.1, λ on. tt)
+  fault_taken fault.NoMemory p reported = (p, reported.1, λ on. tt)
