@@ -6,7 +6,7 @@ use Rattle.replica.specs.declared.holding.Holding.{Holding}
 use Rattle.replica.specs.Picture.{AreHeld, Picture, Replica}
 use Rattle.embedded.specs.Next.{greatest_of}
 
-among_greatest : (hs : List Holding) (h : Holding) → IsAmong h hs → h.master ≤ greatest_of hs
+pub among_greatest : (hs : List Holding) (h : Holding) → IsAmong h hs → h.master ≤ greatest_of hs
 among_greatest [] h among = absurd among
 among_greatest (x ∷ xs) h (inl is) = let same = ap (λ (y : Holding). y.master) is in omega arith
 among_greatest (x ∷ xs) h (inr among) = let rest = among_greatest xs h among in omega arith

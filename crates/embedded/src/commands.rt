@@ -8,6 +8,7 @@ ghost use Rattle.entry.specs.View.{shown_key};
 ghost use Rattle.history.specs.View.{shown_command, shown_reply};
 ghost use Rattle.versioned_map.specs.declared.command.Command.TheVariants as asked;
 ghost use Rattle.embedded.specs.Lives.{Serves, ServesKey, ServesPut, found_value, key_of, value_at};
+ghost use Rattle.embedded.specs.Replies.{kept_reply};
 
 use crate::carrying::{carry_out, lent_reply};
 use crate::life::Life;
@@ -15,7 +16,8 @@ use crate::reply::Reply;
 use crate::store::Store;
 use entry::{KeyRef, MAX_KEY_LEN, MAX_VALUE_LEN};
 use history::ValueRef;
-use recovery::master::{CommandRef, ReplyRef};
+use recovery::master::{CommandRef, Master, ReplyRef};
+use replica::Fleet;
 use versioned_map::If;
 
 /// Whether a key may have so many bytes.
@@ -26,7 +28,7 @@ fn is_key_len(len: usize) -> bool
 }
 
 /// Whether these bytes may be a key: there are 1 to 1,024.
-fn is_key(bytes: &[u8]) -> bool
+pub fn is_key(bytes: &[u8]) -> bool
     ensures key { result ≡ true → IsKeyBytes bytes.now }
     ensures none { result ≡ false → IsKeyBytes bytes.now → ⊥ }
 {
@@ -40,8 +42,8 @@ fn is_value_len(len: usize) -> bool
     len <= MAX_VALUE_LEN
 }
 
-/// Whether these bytes may be a value.
-fn is_value(bytes: &[u8]) -> bool
+/// Whether these bytes may be a value: there are at most 2,097,152.
+pub fn is_value(bytes: &[u8]) -> bool
     ensures value { result ≡ true → IsValue bytes.now }
     ensures none { result ≡ false → IsValue bytes.now → ⊥ }
 {
@@ -49,7 +51,7 @@ fn is_value(bytes: &[u8]) -> bool
 }
 
 /// The key of a table with these bytes.
-fn key_ref<'x>(table: u64, bytes: &'x [u8]) -> KeyRef<'x>
+pub fn key_ref<'x>(table: u64, bytes: &'x [u8]) -> KeyRef<'x>
     requires { IsKeyBytes bytes.now }
     ensures { shown_key result ≡ key_of table bytes.entry.now }
 {
@@ -57,7 +59,7 @@ fn key_ref<'x>(table: u64, bytes: &'x [u8]) -> KeyRef<'x>
 }
 
 /// The command that puts a value under a key.
-fn put_command<'x>(table: u64, key: &'x [u8], value: &'x [u8], when: If) -> CommandRef<'x>
+pub fn put_command<'x>(table: u64, key: &'x [u8], value: &'x [u8], when: If) -> CommandRef<'x>
     requires key { IsKeyBytes key.now }
     requires value { IsValue value.now }
     ensures { shown_command result ≡ asked.Put (key_of table key.entry.now) value.entry.now when }
@@ -74,6 +76,17 @@ fn value_in(reply: ReplyRef<'_>) -> Option<&[u8]>
         ReplyRef::None => None,
         ReplyRef::Ok(_) => None,
         ReplyRef::Mismatch(_) => None,
+    }
+}
+
+/// The value that the get with the record at this place found. The bytes aren't copied. None if the record found no
+/// value or is forgotten.
+pub fn value_of<F: Fleet>(master: &Master<F>, place: u64) -> Option<&[u8]>
+    ensures { option_map (λ bytes. bytes.now) result ≡ found_value (kept_reply master.entry.now.knows place) }
+{
+    match lent_reply(master, place) {
+        Some(reply) => value_in(reply),
+        None => None,
     }
 }
 
@@ -129,10 +142,7 @@ impl Store {
         let Life::Up(master) = &self.life else {
             return None;
         };
-        match lent_reply(master, place) {
-            Some(reply) => value_in(reply),
-            None => None,
-        }
+        value_of(master, place)
     }
 
     /// Carries a command out, if there is a master.

@@ -8,8 +8,8 @@ pub fn what_survives()
     ensures { WhatSurvives }
 {}
 
-/// A recovery of a master that was valid to its end finds no table only if the head or a segment is lost, and then names
-/// it, or if memory ran out. If fewer backups were lost than a segment has replicas, nothing is lost.
+/// A recovery of a master that was valid to its end finds no table only if the head or a segment is lost, and then
+/// names it, or if memory ran out. If fewer backups were lost than a segment has replicas, nothing is lost.
 pub fn what_is_lost()
     ensures { WhatIsLost }
 {}

@@ -6,7 +6,8 @@
 //! says what the next master has then. No call requires anything of its caller, takes a lock or starts a thread.
 //!
 //! Whoever has backups of another kind implements `replica::Fleet`, makes a `Master` over them, and calls `carry_out`,
-//! which does what a put, get or delete does behind its checks. The crate stands on `tending` and `recovery`.
+//! which does what a put, get or delete does behind its checks (`is_key`, `is_value`). The crate stands on `tending` and
+//! `recovery`.
 #![tactic(auto)]
 
 mod carrying;
@@ -22,9 +23,10 @@ mod upkeep;
 
 pub use backup::MemoryFleet;
 pub use carrying::carry_out;
+pub use commands::{is_key, is_value, key_ref, put_command, value_of};
 pub use laws::{what_is_lost, what_survives};
 pub use life::Life;
-pub use options::Options;
+pub use options::{Options, configuration, whole_will};
 pub use recovery;
 pub use recovery::{master, replay};
 pub use reply::{Reply, Status};

@@ -73,11 +73,7 @@ fn tables(alloc: Global, count: u64) -> Result<Vec<Tablet>, NoMemory>
 }
 
 /// The configuration of the master with this number.
-pub(crate) fn configuration(
-    alloc: Global,
-    options: &Options,
-    master: u64,
-) -> Result<Config, NoMemory>
+pub fn configuration(alloc: Global, options: &Options, master: u64) -> Result<Config, NoMemory>
     ensures { IfOk result (λ config. config ≡ config_of options.now master) }
 {
     let tablets = tables(alloc, options.tables)?;
@@ -99,7 +95,7 @@ pub(crate) fn configuration(
 }
 
 /// A will that is one partition over all tables.
-pub(crate) fn whole_will(alloc: Global, options: &Options) -> Result<Will, WillFault>
+pub fn whole_will(alloc: Global, options: &Options) -> Result<Will, WillFault>
     ensures { IfOk result (λ will. Covers (tables_to options.now.tables) will) }
 {
     let tablets = tables(alloc, options.tables)?;

@@ -124,7 +124,7 @@ impl Reply {
     }
 
     /// The answer to a command whose key is empty or too long, or whose value is too long.
-    pub(crate) fn too_big() -> Reply
+    pub fn too_big() -> Reply
         ensures { result ≡ too_big }
     {
         Reply {

@@ -14,13 +14,14 @@ use Rattle.take_journal.specs.Journal.{device_of}
 use Rattle.take_journal.specs.declared.journal.Journal.{Journal}
 use Rattle.file_backup.specs.Mirror.{IsJournalOf, LeftByTake, is_out}
 use Rattle.file_backup.specs.Replay.{Replicas}
-use Rattle.file_fleet.specs.Files.{Files, Noted, ShowsFleet, ShowsUnder, named, with_file, with_head, with_span}
+use Rattle.file_fleet.specs.Files.{Files, Noted, ShowsFleet, ShowsUnder, named, with_file, with_head}
+use Rattle.file_fleet.specs.Files.{with_master, with_span}
 use Rattle.file_fleet.specs.declared.registry.Span.{Span}
 use Rattle.file_fleet.specs.declared.registry.Span.TheVariants.{First, Whole}
 use Rattle.file_fleet.specs.Members.{AreKept, IsMember, IsOutAt, IsUnder, device_at, picture_of, replicas_at}
 use Rattle.file_fleet.specs.Members.{with_backup}
 use Rattle.file_fleet.specs.Moments.{AreLeftAmid, AreLeftByPut, AreLeftNow, LeavesEither, ShowsPut, ShowsRaise}
-use Rattle.file_fleet.specs.Moments.{ShowsTake}
+use Rattle.file_fleet.specs.Moments.{ShowsNaming, ShowsTake}
 use Rattle.file_fleet.specs.declared.member.Member.{Member}
 use Rattle.file_fleet.specs.declared.members.Members.{Members}
 use Rattle.file_fleet.proofs.Pictures.{seen, slice_get-set, there, with_itself, would_take}
@@ -343,6 +344,23 @@ module _ {D R : Type 0} (contents : D → List ℕ) (may_leave : D → List ℕ 
       | inr now ↦ inr (backups_still f g k same (with_head (noted f.registry) master id) (λ c. refl) (λ c. refl) files
           left
           now)
+    ]
+
+    pub naming_leaves : (f g : Members D R) → Keeps f.list.items f.registry → g.list.items ≡ f.list.items
+        → (master : ℕ)
+        → LeavesEither noted time left_of (with_master (noted f.registry) master) f.registry g.registry
+        → (files : Files) → AreLeftAmid clock left_since time left_of f g files
+        → ShowsNaming (length f.list.items) (picture_of f.list.items) (noted f.registry).least
+        (noted f.registry).master master files
+    naming_leaves f g k same master either files left = elim (either.each files.registry left.registry_is) [
+      | inl was ↦ (
+        backups_still f g k same (noted f.registry) (λ c. refl) (λ c. refl) files left was,
+        inl (ap (λ (n : Noted). n.master) was),
+      )
+      | inr now ↦ (
+        backups_still f g k same (with_master (noted f.registry) master) (λ c. refl) (λ c. refl) files left now,
+        inr (ap (λ (n : Noted). n.master) now),
+      )
     ]
 
     module _ (leaves : R → Noted → Type 0)

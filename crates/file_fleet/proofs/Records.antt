@@ -17,16 +17,16 @@ use Rattle.file_fleet.specs.declared.registry.Span.{Span}
 use Rattle.file_fleet.specs.declared.registry.Span.TheVariants.{First, Whole}
 
 -- what is noted of the journals, by what the registry says of each
-abbrev noted_as : (ℕ → ℕ) → (ℕ → Span) → (ℕ → ℕ) → Noted
-noted_as least span file = record { least = least; span = span; file = file }
+abbrev noted_as : Kept → (ℕ → Span) → (ℕ → ℕ) → Noted
+noted_as k span file = record { least = k.least; span = span; file = file; master = k.master }
 
 -- a record of a journal, of which so many frames count, and which is the same file as before
 pub ended_noted : (k : Kept) (b id n : ℕ) → (id ≡ 0 → ⊥) → n < no_limit → id_of (k.journal b) ≡ id
     → noted_in (after k (says.Journal b id n)) ≡ with_span (noted_in k) b (First n)
 ended_noted k b id n live limit same =
-    ap (λ (s : ℕ → Span). noted_as k.least s (noted_in (after k (says.Journal b id n))).file)
+    ap (λ (s : ℕ → Span). noted_as k s (noted_in (after k (says.Journal b id n))).file)
     (fun_ext (λ c. at c (b == c) refl))
-    ∙ ap (λ (f : ℕ → ℕ). noted_as k.least (with_span (noted_in k) b (First n)).span f)
+    ∙ ap (λ (f : ℕ → ℕ). noted_as k (with_span (noted_in k) b (First n)).span f)
     (fun_ext (λ c. file_at c (b == c) refl))
   where
     at : (c : ℕ) (t : Bool) → (b == c) ≡ t
@@ -49,9 +49,9 @@ ended_noted k b id n live limit same =
 pub named_noted : (k : Kept) (b id : ℕ) → (id ≡ 0 → ⊥)
     → noted_in (after k (says.Journal b id no_limit)) ≡ with_file (noted_in k) b id
 named_noted k b id live =
-    ap (λ (s : ℕ → Span). noted_as k.least s (noted_in (after k (says.Journal b id no_limit))).file)
+    ap (λ (s : ℕ → Span). noted_as k s (noted_in (after k (says.Journal b id no_limit))).file)
     (fun_ext (λ c. at c (b == c) refl))
-    ∙ ap (λ (f : ℕ → ℕ). noted_as k.least (with_file (noted_in k) b id).span f)
+    ∙ ap (λ (f : ℕ → ℕ). noted_as k (with_file (noted_in k) b id).span f)
     (fun_ext (λ c. file_at c (b == c) refl))
   where
     at : (c : ℕ) (t : Bool) → (b == c) ≡ t

@@ -1,5 +1,5 @@
 -- What a crash leaves of the files of a fleet.
-use Rattle.std.specs.Prelude.{◌≡◌, ◌⊎◌, ◌≤◌, ℕ, List, Some, length}
+use Rattle.std.specs.Prelude.{◌≡◌, ◌⊎◌, ◌≤◌, ℕ, List, Option, Some, length}
 use Rattle.std.specs.List.{slice_get}
 use Rattle.replica.specs.Op.{OpValue}
 use Rattle.replica.specs.Picture.{Picture}
@@ -55,3 +55,8 @@ ShowsTake backups picture least b op files = ShowsFleet backups picture least fi
 abbrev pub ShowsRaise : ℕ → Picture → (ℕ → ℕ) → ℕ → ℕ → Files → Type 0
 ShowsRaise backups picture least master id files = ShowsFleet backups picture least files
     ⊎ ShowsFleet backups picture (with_least least master id) files
+
+-- the files show the backups, and a recovery is for the master that was named before, or for this one
+abbrev pub ShowsNaming : ℕ → Picture → (ℕ → ℕ) → Option ℕ → ℕ → Files → Type 0
+ShowsNaming backups picture least before master files = ShowsFleet backups picture least files
+    × ((files.registry.master ≡ before) ⊎ (files.registry.master ≡ Some master))

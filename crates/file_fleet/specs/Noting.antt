@@ -22,7 +22,12 @@ id_of None = 0
 id_of (Some file) = file.id
 
 abbrev pub noted_in : Kept → Noted
-noted_in k = record { least = k.least; span = λ b. span_of (k.journal b); file = λ b. id_of (k.journal b) }
+noted_in k = record {
+  least = k.least;
+  span = λ b. span_of (k.journal b);
+  file = λ b. id_of (k.journal b);
+  master = k.master;
+}
 
 abbrev pub noted_by : {D : Type 0} → RegistryFile D → Noted
 noted_by r = noted_in (kept_by r)

@@ -81,7 +81,7 @@ fn loses<D: Device, R: FleetRegistry>(
 }
 
 impl<D: Device, R: FleetRegistry> FileFleet<D, R> {
-    ghost use Rattle.std.specs.Prelude.{◌≡◌, ◌⊎◌, ◌<◌, [], IfErr, IfOk, OnOk, length, false};
+    ghost use Rattle.std.specs.Prelude.{◌≡◌, ◌⊎◌, ◌<◌, [], IfErr, IfOk, OnErr, OnOk, Some, length, false};
     ghost use Rattle.file_backup.specs.Mirror.{IsJournalOf};
     ghost use Rattle.take_journal.specs.Frames.{recovered};
     ghost use Rattle.take_journal.specs.Journal.{device_of};
@@ -90,7 +90,7 @@ impl<D: Device, R: FleetRegistry> FileFleet<D, R> {
     ghost use Rattle.file_fleet.specs.Fleet.{ShowsState, fleet_state};
     ghost use Rattle.backup.specs.State.{lost};
     ghost use Rattle.file_fleet.specs.Members.{AreSafe, IsFresh, device_at};
-    ghost use Rattle.file_fleet.specs.Moments.{AreLeftByPut, AreLeftNow};
+    ghost use Rattle.file_fleet.specs.Moments.{AreLeftAmid, AreLeftByPut, AreLeftNow};
 
     /// A fleet of these backups. It isn't limited, no fault is asked for, and nothing was answered yet.
     pub fn new(alloc: Global, members: Members<D, R>) -> Self
@@ -167,6 +167,32 @@ impl<D: Device, R: FleetRegistry> FileFleet<D, R> {
             → ShowsState (fleet_state R.noted self.old) files }
     {
         self.members.switch(self.alloc, backup, id, journal, frames)
+    }
+
+    /// The master that a recovery is for, or `None` if none was named.
+    pub fn master(&self) -> Option<u64>
+        ensures { result ≡ (R.noted self.now.members.registry).master }
+    {
+        self.members.registry.master()
+    }
+
+    /// Names the master that a recovery is for: the next start recovers this one. It is on the disk before the answer
+    /// is Ok. After NoMemory nothing has changed. After Failed nobody knows whether it is on the disk, and the fleet is
+    /// halted.
+    pub fn name_master(&mut self, master: u64) -> Result<(), NoteFault>
+        ensures same { fleet_state R.noted self.new ≡ fleet_state R.noted self.old }
+        ensures named { OnOk result ((R.noted self.new.members.registry).master ≡ Some master) }
+        ensures refused { OnErr result ((R.noted self.new.members.registry).master
+            ≡ (R.noted self.old.members.registry).master) }
+
+        // A crash at any moment of the call leaves files that show the fleet, and the old master or the new one.
+        ensures any_moment { self.old.members.is_halted ≡ false → (files : Files)
+            → AreLeftAmid D.clock D.left_since R.time R.left_of self.old.members self.new.members files
+            → ShowsState (fleet_state R.noted self.old) files
+            × ((files.registry.master ≡ (R.noted self.old.members.registry).master)
+            ⊎ (files.registry.master ≡ Some master)) }
+    {
+        self.members.name_master(self.alloc, master)
     }
 
     /// Where the replicas of other masters than `keep` are, by backup, then by master, then by segment.

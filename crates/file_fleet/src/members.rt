@@ -1,7 +1,7 @@
 //! The backups of a fleet, and its registry.
 
 ghost use Rattle.std.specs.Prelude.{◌≡◌, ◌↔◌, ◌++◌, [], ◌∷◌, Err, IfErr, IfOk, IsTrue, OnErr, OnOk, length, true};
-ghost use Rattle.std.specs.Prelude.{◌<◌, IsErr, false, set};
+ghost use Rattle.std.specs.Prelude.{◌<◌, IsErr, Some, false, set};
 ghost use Rattle.replica.specs.Op.{shown_op};
 ghost use Rattle.replica.specs.Registry.{with_least};
 ghost use Rattle.replica.specs.Retire.{AreOthers};
@@ -14,7 +14,7 @@ ghost use Rattle.take_journal.specs.Frames.{IsShort, recovered};
 ghost use Rattle.take_journal.specs.Journal.{device_of, takes_more};
 ghost use Rattle.replica.specs.Take.{no_limit};
 ghost use Rattle.file_fleet.specs.Files.{Files, ShowsFleet};
-ghost use Rattle.file_fleet.specs.Moments.{AreLeftAmid, AreLeftByPut, ShowsPut, ShowsRaise, ShowsTake};
+ghost use Rattle.file_fleet.specs.Moments.{AreLeftAmid, AreLeftByPut, ShowsNaming, ShowsPut, ShowsRaise, ShowsTake};
 
 use crate::member::Member;
 use crate::registry::{FleetRegistry, NoteFault};
@@ -329,6 +329,37 @@ impl<D: Device, R: FleetRegistry> Members<D, R> {
             Err(NoteFault::Failed) => {
                 self.is_halted = true;
                 Err(TakeFault::Fault)
+            }
+        }
+    }
+
+    /// Names the master that a recovery is for. It is on the disk before the answer is Ok. If the registry failed, the
+    /// fleet is halted.
+    pub(crate) fn name_master(&mut self, alloc: Global, master: u64) -> Result<(), NoteFault>
+        requires safe { AreSafe D.contents D.may_leave D.has_failed R.noted R.is_sound self.old }
+
+        ensures safe { AreSafe D.contents D.may_leave D.has_failed R.noted R.is_sound self.new }
+        ensures named { OnOk result ((R.noted self.new.registry).master ≡ Some master) }
+        ensures refused { OnErr result ((R.noted self.new.registry).master ≡ (R.noted self.old.registry).master) }
+        ensures same { self.new.list ≡ self.old.list }
+        ensures least { (R.noted self.new.registry).least ≡ (R.noted self.old.registry).least }
+        ensures halted { self.old.is_halted ≡ true → (result ≡ Err NoteFault.Failed) × (self.new ≡ self.old) }
+
+        // A crash at any moment of the call leaves files that show the backups, and the old master or the new one.
+        ensures any_moment { self.old.is_halted ≡ false → (files : Files)
+            → AreLeftAmid D.clock D.left_since R.time R.left_of self.old self.new files
+            → ShowsNaming (length self.old.list.items) (picture_of self.old.list.items)
+            (R.noted self.old.registry).least (R.noted self.old.registry).master master files }
+    {
+        if self.is_halted {
+            return Err(NoteFault::Failed);
+        }
+        match self.registry.name_master(alloc, master) {
+            Ok(()) => Ok(()),
+            Err(NoteFault::NoMemory) => Err(NoteFault::NoMemory),
+            Err(NoteFault::Failed) => {
+                self.is_halted = true;
+                Err(NoteFault::Failed)
             }
         }
     }

@@ -64,6 +64,10 @@ impl<D: Device> FleetRegistry for RegistryFile<D> {
         id_of(self.registry().journal(backup))
     }
 
+    fn master(&self) -> Option<u64> {
+        self.registry().master()
+    }
+
     fn raise(&mut self, alloc: Global, master: u64, id: u64) -> Result<(), NoteFault> {
         match self.put(alloc, &Record::Raise { master, head: id }) {
             Ok(()) => Ok(()),
@@ -97,6 +101,14 @@ impl<D: Device> FleetRegistry for RegistryFile<D> {
             count: ALL_FRAMES,
         };
         match self.put(alloc, &record) {
+            Ok(()) => Ok(()),
+            Err(RegistryFault::Failed) => Err(NoteFault::Failed),
+            Err(_) => Err(NoteFault::NoMemory),
+        }
+    }
+
+    fn name_master(&mut self, alloc: Global, master: u64) -> Result<(), NoteFault> {
+        match self.put(alloc, &Record::Master(master)) {
             Ok(()) => Ok(()),
             Err(RegistryFault::Failed) => Err(NoteFault::Failed),
             Err(_) => Err(NoteFault::NoMemory),

@@ -2,7 +2,7 @@
 
 ghost use Rattle.std.specs.Prelude.{◌≡◌, ◌≤◌, ◌<◌, Err, OnErr, OnOk, ℕ};
 ghost use Rattle.replica.specs.Take.{no_limit};
-ghost use Rattle.file_fleet.specs.Files.{Noted, with_file, with_head, with_span};
+ghost use Rattle.file_fleet.specs.Files.{Noted, with_file, with_head, with_master, with_span};
 ghost use Rattle.file_fleet.specs.declared.registry.Span.TheVariants.{First};
 ghost use Rattle.file_fleet.specs.Moments.{LeavesEither};
 
@@ -31,7 +31,8 @@ pub enum Span {
     First(u64),
 }
 
-/// A registry in a file: the least heads, and of each backup which file its journal is, and how much of it counts.
+/// A registry in a file: the least heads, of each backup which file its journal is, and how much of it counts, and the
+/// master that a recovery is for.
 pub trait FleetRegistry {
     /// What it keeps: all that was answered Ok.
     ghost noted: { Self → Noted };
@@ -59,6 +60,10 @@ pub trait FleetRegistry {
     /// Returns the id of the file that is a backup's journal, or 0 if there is none. It takes no memory.
     fn file(&self, backup: u64) -> u64
         ensures { result ≡ (noted self.now).file backup };
+
+    /// Returns the master that a recovery is for, or `None` if none was named. It takes no memory.
+    fn master(&self) -> Option<u64>
+        ensures { result ≡ (noted self.now).master };
 
     /// Raises the least head of a master to `id`, on the disk. A lower `id` leaves it as it is.
     fn raise(&mut self, alloc: Global, master: u64, id: u64) -> Result<(), NoteFault>
@@ -89,6 +94,16 @@ pub trait FleetRegistry {
         ensures sound { OnOk result (is_sound self.new) }
         ensures memory { result ≡ Err NoteFault.NoMemory → is_sound self.new }
         ensures any_moment { LeavesEither noted time left_of (with_file (noted self.old) backup id)
+            self.old self.new };
+
+    /// Names the master that a recovery is for, on the disk.
+    fn name_master(&mut self, alloc: Global, master: u64) -> Result<(), NoteFault>
+        requires sound { is_sound self.old }
+        ensures named { OnOk result (noted self.new ≡ with_master (noted self.old) master) }
+        ensures refused { OnErr result (noted self.new ≡ noted self.old) }
+        ensures sound { OnOk result (is_sound self.new) }
+        ensures memory { result ≡ Err NoteFault.NoMemory → is_sound self.new }
+        ensures any_moment { LeavesEither noted time left_of (with_master (noted self.old) master)
             self.old self.new };
 
     /// The present moment is one of those since an earlier one.

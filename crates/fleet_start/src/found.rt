@@ -1,6 +1,7 @@
 //! The backups that a start found, and the registry.
 
-ghost use Rattle.std.specs.Prelude.{◌≡◌, ◌<◌, ◌++◌, [], ◌∷◌, Some, None, Err, IfOk, IfErr, OnOk, OnErr, false, length, map, set};
+ghost use Rattle.std.specs.Prelude.{◌≡◌, ◌<◌, ◌++◌, [], ◌∷◌, Some, None, Err, IfOk, IfErr, OnOk, OnErr, false, length};
+ghost use Rattle.std.specs.Prelude.{map, set};
 ghost use Rattle.replica.specs.Picture.{AreHeld};
 ghost use Rattle.backup.specs.Inventory.{IsRising};
 ghost use Rattle.file_fleet.specs.Files.{with_file};

@@ -17,8 +17,8 @@ fn is_met(kept: &[u64], i: usize, asked: Option<u64>) -> bool
     }
 }
 
-/// The number of the first option that is asked for and that the store lacks or has another one of. The answer is `None`
-/// if all options that are asked for are the store's.
+/// The number of the first option that is asked for and that the store lacks or has another one of. The answer is
+/// `None` if all options that are asked for are the store's.
 pub fn first_other(kept: &[u64], asked: &[Option<u64>]) -> Option<usize>
     ensures none { result ≡ None → AreMet (length asked.now) kept.now asked.now }
     ensures first { IfSome result (λ i. AreMet i kept.now asked.now × DiffersAt i kept.now asked.now) }

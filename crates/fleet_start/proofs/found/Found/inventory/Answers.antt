@@ -20,13 +20,15 @@ loop-backup-preserved g c =
         whole =
             listed_more seen places c.loop-backup.backup c.place-item.result same c.loop-backup-test.true
             c.place-item.is c.loop-backup.list.items _ _
-            (shows_one c.loop-backup.backup c.place-item.result _ w.memory.result.now w.in-Some.is (w.memory.ensures ∙ ap (λ (b : FileBackup g.row.D.Denot). memory_of b) w.backup.ensures)
+            (shows_one c.loop-backup.backup c.place-item.result _ w.memory.result.now w.in-Some.is
+            (w.memory.ensures ∙ ap (λ (b : FileBackup g.row.D.Denot). memory_of b) w.backup.ensures)
             c.loop-backup.list.items _ w.in_ok-show-in-Some.ensures.shown)
             c.loop-backup.invariant.whole;
         ordered =
             ordered_more seen places c.loop-backup.backup c.place-item.result same c.loop-backup-test.true
             c.place-item.is
-            (ordered_one c.place-item.result _ w.memory.result.now w.in-Some.is (w.memory.ensures ∙ ap (λ (b : FileBackup g.row.D.Denot). memory_of b) w.backup.ensures)
+            (ordered_one c.place-item.result _ w.memory.result.now w.in-Some.is
+            (w.memory.ensures ∙ ap (λ (b : FileBackup g.row.D.Denot). memory_of b) w.backup.ensures)
             w.in_ok-show-in-Some.ensures.ordered)
             c.loop-backup.invariant.ordered;
       })
