@@ -1,8 +1,9 @@
-//! A program that embeds a store: it opens one, puts, gets and deletes, fills it past its memory, crashes its master,
-//! loses a backup, recovers, and prints what it sees. docs/EMBEDDING.md goes through it.
+//! A program that embeds a store: it opens one, puts, gets and deletes, fills it past its memory, cares for it, crashes
+//! its master, loses a backup, recovers, and at last loses all. It prints what it sees. docs/EMBEDDING.md goes through
+//! it.
 #![tactic(auto)]
 
-use embedded::{If, Options, Reply, Status, Store};
+use embedded::{If, NotRecovered, Options, Reply, Stats, Status, Store};
 
 /// A key may have any bytes.
 const KEY: &[u8] = b"a key\nof two lines";
@@ -72,6 +73,30 @@ fn fill(rt: &HostRuntime, store: &mut Store) {
     say(rt, "the last of 2,000 puts", &last);
 }
 
+/// Makes all records durable, cleans while there is time, and prints numbers of the store.
+fn care(rt: &HostRuntime, store: &mut Store) {
+    let word = match store.settle() {
+        Ok(()) => "settled",
+        Err(_) => "not settled",
+    };
+    let made = store.tend(8).unwrap_or(0);
+    let _ = println!(rt; "{word}, and {made} steps of the cleaner");
+    let Some(stats) = store.stats() else {
+        return;
+    };
+    let Stats {
+        live,
+        durable,
+        failed,
+        is_adoptable,
+        ..
+    } = stats;
+    let room = if is_adoptable { "has" } else { "may lack" };
+    let _ = println!(rt;
+        "{live} live bytes, {durable} durable records, {failed} failed backups; a next master {room} room"
+    );
+}
+
 /// Reads what is there.
 fn read(rt: &HostRuntime, store: &mut Store) {
     let found = store.get(1, KEY);
@@ -95,12 +120,28 @@ fn crash(rt: &HostRuntime, store: &mut Store) {
     let _ = println!(rt; "{word}");
 }
 
+/// The master ends, and all backups lose all.
+fn ruin(rt: &HostRuntime, store: &mut Store) {
+    store.crash();
+    for backup in 0..3 {
+        store.lose(backup);
+    }
+    let word = match store.recover() {
+        Err(NotRecovered::NotRebuilt(_)) => "the table is lost",
+        Err(_) => "not recovered",
+        Ok(_) => "recovered",
+    };
+    let _ = println!(rt; "{word}");
+}
+
 fn main(rt: HostRuntime) {
     let Ok(mut store) = Store::open(rt.alloc(), &small()) else {
         return;
     };
     write(&rt, &mut store);
     fill(&rt, &mut store);
+    care(&rt, &mut store);
     crash(&rt, &mut store);
     read(&rt, &mut store);
+    ruin(&rt, &mut store);
 }
