@@ -1,13 +1,17 @@
-// Runs a load over Redis or memcached behind a Unix socket, as `workload` runs it over our store: a plain program without contracts.
+// Runs a load over another store, as `workload` runs it over ours: a plain program without contracts.
 //
 //   others STORE SOCKET LOAD THREADS RECORDS OPERATIONS LENGTH SEED
 //
-// STORE is redis or memcached, and LOAD is A, B or C. Each thread has a connection of its own, and waits for each answer. It prints
-// the lines that `workload` prints.
+// STORE is redis or memcached, behind this Unix socket, where each thread has a connection of its own and waits for each answer; or
+// map, a HashMap of this process behind one lock, or sqlite, a table in memory of this process behind one lock, each call a
+// transaction of its own. The last is there if the program is built with `--cfg sqlite`. LOAD is A, B or C. It prints the lines that
+// `workload` prints.
 
+use std::collections::HashMap;
 use std::env::args;
 use std::io::{BufRead, BufReader, Read, Result, Write};
 use std::os::unix::net::UnixStream;
+use std::sync::{Arc, Mutex};
 use std::thread;
 use std::time::Instant;
 
@@ -49,6 +53,134 @@ fn value_of(thread: u64, count: u64, length: usize) -> Vec<u8> {
     value
 }
 
+/// What a thread calls.
+trait Calls {
+    fn put(&mut self, key: u64, value: &[u8]) -> Result<()>;
+
+    /// It fails if there is no object.
+    fn get(&mut self, key: u64) -> Result<()>;
+}
+
+/// What all threads have together.
+enum Shared {
+    Socket { is_redis: bool, path: String },
+    Map(Arc<Mutex<HashMap<String, Vec<u8>>>>),
+    #[cfg(sqlite)]
+    Sqlite(Arc<Mutex<sqlite::Table>>),
+}
+
+impl Shared {
+    fn new(store: &str, path: &str) -> Shared {
+        match store {
+            "map" => Shared::Map(Arc::new(Mutex::new(HashMap::new()))),
+            #[cfg(sqlite)]
+            "sqlite" => Shared::Sqlite(Arc::new(Mutex::new(sqlite::Table::new()))),
+            "redis" | "memcached" => Shared::Socket { is_redis: store == "redis", path: path.to_string() },
+            _ => panic!("there is no store {store}"),
+        }
+    }
+
+    fn client(&self) -> Result<Box<dyn Calls>> {
+        Ok(match self {
+            Shared::Socket { is_redis, path } => Box::new(Client::new(*is_redis, path)?),
+            Shared::Map(map) => Box::new(map.clone()),
+            #[cfg(sqlite)]
+            Shared::Sqlite(table) => Box::new(table.clone()),
+        })
+    }
+}
+
+impl Calls for Arc<Mutex<HashMap<String, Vec<u8>>>> {
+    fn put(&mut self, key: u64, value: &[u8]) -> Result<()> {
+        self.lock().expect("a lock").insert(format!("user{key}"), value.to_vec());
+        Ok(())
+    }
+
+    fn get(&mut self, key: u64) -> Result<()> {
+        let found = self.lock().expect("a lock").get(&format!("user{key}")).cloned();
+        found.map(|_| ()).ok_or_else(|| std::io::ErrorKind::NotFound.into())
+    }
+}
+
+#[cfg(sqlite)]
+mod sqlite {
+    use super::Calls;
+    use std::ffi::{c_char, c_int, c_void, CString};
+    use std::io::{ErrorKind, Result};
+    use std::ptr::{null, null_mut};
+    use std::sync::{Arc, Mutex};
+
+    #[link(name = "sqlite3")]
+    extern "C" {
+        fn sqlite3_open(name: *const c_char, base: *mut *mut c_void) -> c_int;
+        fn sqlite3_exec(base: *mut c_void, text: *const c_char, call: *const c_void, with: *const c_void, error: *mut *mut c_char)
+            -> c_int;
+        fn sqlite3_prepare_v2(base: *mut c_void, text: *const c_char, length: c_int, made: *mut *mut c_void, rest: *mut *const c_char)
+            -> c_int;
+        fn sqlite3_bind_blob(made: *mut c_void, at: c_int, bytes: *const u8, length: c_int, free: *const c_void) -> c_int;
+        fn sqlite3_step(made: *mut c_void) -> c_int;
+        fn sqlite3_reset(made: *mut c_void) -> c_int;
+        fn sqlite3_column_blob(made: *mut c_void, at: c_int) -> *const u8;
+        fn sqlite3_column_bytes(made: *mut c_void, at: c_int) -> c_int;
+    }
+
+    const ROW: c_int = 100;
+    const DONE: c_int = 101;
+
+    /// A table in memory, with its two statements. One thread at a time calls it.
+    pub struct Table {
+        put: *mut c_void,
+        get: *mut c_void,
+    }
+
+    unsafe impl Send for Table {}
+
+    impl Table {
+        pub fn new() -> Table {
+            let text = |words: &str| CString::new(words).expect("no zero byte");
+            let (mut base, mut put, mut get) = (null_mut(), null_mut(), null_mut());
+            unsafe {
+                assert_eq!(sqlite3_open(text(":memory:").as_ptr(), &mut base), 0);
+                let made = text("create table held (key blob primary key, value blob) without rowid");
+                assert_eq!(sqlite3_exec(base, made.as_ptr(), null(), null(), null_mut()), 0);
+                let words = text("insert into held values (?1, ?2) on conflict (key) do update set value = ?2");
+                assert_eq!(sqlite3_prepare_v2(base, words.as_ptr(), -1, &mut put, null_mut()), 0);
+                let words = text("select value from held where key = ?1");
+                assert_eq!(sqlite3_prepare_v2(base, words.as_ptr(), -1, &mut get, null_mut()), 0);
+            }
+            Table { put, get }
+        }
+    }
+
+    impl Calls for Arc<Mutex<Table>> {
+        fn put(&mut self, key: u64, value: &[u8]) -> Result<()> {
+            let (key, table) = (format!("user{key}"), self.lock().expect("a lock"));
+            unsafe {
+                sqlite3_bind_blob(table.put, 1, key.as_ptr(), key.len() as c_int, null());
+                sqlite3_bind_blob(table.put, 2, value.as_ptr(), value.len() as c_int, null());
+                let said = sqlite3_step(table.put);
+                sqlite3_reset(table.put);
+                if said == DONE { Ok(()) } else { Err(ErrorKind::Other.into()) }
+            }
+        }
+
+        fn get(&mut self, key: u64) -> Result<()> {
+            let (key, table) = (format!("user{key}"), self.lock().expect("a lock"));
+            unsafe {
+                sqlite3_bind_blob(table.get, 1, key.as_ptr(), key.len() as c_int, null());
+                let is_there = sqlite3_step(table.get) == ROW;
+                if is_there {
+                    let length = sqlite3_column_bytes(table.get, 0) as usize;
+                    drop(std::slice::from_raw_parts(sqlite3_column_blob(table.get, 0), length).to_vec());
+                }
+                sqlite3_reset(table.get);
+                if is_there { Ok(()) } else { Err(ErrorKind::NotFound.into()) }
+            }
+        }
+    }
+}
+
+/// A connection to a server.
 struct Client {
     is_redis: bool,
     reader: BufReader<UnixStream>,
@@ -57,10 +189,10 @@ struct Client {
 }
 
 impl Client {
-    fn new(store: &str, socket: &str) -> Result<Client> {
+    fn new(is_redis: bool, socket: &str) -> Result<Client> {
         let writer = UnixStream::connect(socket)?;
         let reader = BufReader::new(writer.try_clone()?);
-        Ok(Client { is_redis: store == "redis", reader, writer, line: Vec::new() })
+        Ok(Client { is_redis, reader, writer, line: Vec::new() })
     }
 
     fn read_line(&mut self) -> Result<()> {
@@ -73,7 +205,9 @@ impl Client {
         let mut rest = vec![0; count];
         self.reader.read_exact(&mut rest)
     }
+}
 
+impl Calls for Client {
     fn put(&mut self, key: u64, value: &[u8]) -> Result<()> {
         let key = format!("user{key}");
         let mut text = if self.is_redis {
@@ -127,7 +261,8 @@ fn main() -> Result<()> {
     let (store, socket, threads, records) = (words[0].clone(), words[1].clone(), number(3), number(4));
     let (operations, length, seed) = (number(5) / threads, number(6) as usize, number(7));
     let reads = match words[2].as_str() { "A" => 50, "B" => 95, "C" => 100, _ => panic!("load A, B or C") };
-    let mut first = Client::new(&store, &socket)?;
+    let shared = Shared::new(&store, &socket);
+    let mut first = shared.client()?;
     let begun = Instant::now();
     for key in 0..records {
         first.put(key, &value_of(0, key, length))?;
@@ -136,9 +271,9 @@ fn main() -> Result<()> {
     let sums = zipf(records);
     let begun = Instant::now();
     let all: Vec<(Vec<u64>, Vec<u64>)> = thread::scope(|scope| {
-        let (store, socket, sums) = (&store, &socket, &sums);
+        let (shared, sums) = (&shared, &sums);
         let started: Vec<_> = (1..=threads).map(|thread| scope.spawn(move || {
-            let mut client = Client::new(store, socket).expect("a connection");
+            let mut client = shared.client().expect("a connection");
             let mut words = Words(mixed(seed + thread));
             let mut times = (Vec::new(), Vec::new());
             for count in 0..operations {
