@@ -62,7 +62,7 @@ class Program:
             os.remove(report)
         environment = {
             "LD_PRELOAD": os.path.join(self.folder, "refuse-memory.so"), "REFUSE_REPORT": report,
-            "REFUSE_FROM": str(first), "REFUSE_TO": str(last),
+            "REFUSE_FROM": str(first), "REFUSE_TO": str(last), "TMPDIR": self.folder,
         }
         try:
             ended = subprocess.run([self.path, *words], input=script, env=environment, timeout=SECONDS,
