@@ -7,6 +7,7 @@ ghost use Rattle.entry.specs.Limits.{IsValue};
 ghost use Rattle.history.specs.View.{shown_command};
 ghost use Rattle.versioned_map.specs.declared.command.Command.TheVariants as asked;
 ghost use Rattle.file_fleet.specs.Fleet.{fleet_state};
+ghost use Rattle.replica.specs.Retire.{Retires};
 ghost use Rattle.recovery.specs.master.Valid.{IsValid};
 ghost use Rattle.recovery.specs.master.World.{retired_data};
 ghost use Rattle.embedded.specs.Lives.{found_value, key_of};
@@ -99,6 +100,8 @@ impl<D: Device, R: FleetRegistry> FileStore<D, R> {
     /// Frees the replicas of all other masters: by backup, then by master, then by segment. It ends at the first
     /// fault, and what was freed before stays freed. After a fault the master stays halted.
     pub fn retire(&mut self) -> Result<(), TakeFault>
+        ensures retires { Retires (fleet_state R.noted self.old.master.fleet) self.old.master.knows.config.master result
+            (fleet_state R.noted self.new.master.fleet) }
         ensures knows { self.new.master.knows ≡ retired_data result self.old.master.knows }
         ensures same { (b s : ℕ) → (fleet_state R.noted self.new.master.fleet).picture b
             self.old.master.knows.config.master s

@@ -1,0 +1,77 @@
+//! The backups of a folder become a fleet: each gets a file that takes ops.
+
+ghost use Rattle.std.specs.Prelude.{IfOk, OnOk};
+ghost use Rattle.store_folders.specs.Files.{AreFoundHere, AreSafeHere};
+
+use disk_file::{DiskFile, Folder};
+use file_fleet::Members;
+use fleet_start::Found;
+use registry_file::RegistryFile;
+use store_folders::{StoreFault, put_fresh, renew};
+
+/// Gives each missing backup a file of its own.
+fn put_missing(
+    rt: &HostRuntime,
+    folder: &Folder,
+    found: &mut Found<DiskFile, RegistryFile<DiskFile>>,
+) -> Result<(), StoreFault>
+    requires found { AreFoundHere found.old.places.items found.old.registry }
+    ensures found { OnOk result (AreFoundHere found.new.places.items found.new.registry) }
+{
+    for backup in 0..found.backups() {
+        if !found.has(backup) {
+            if let Err(fault) = put_fresh(rt, folder, found, backup) {
+                return Err(fault);
+            }
+        }
+    }
+    Ok(())
+}
+
+/// Whether the file of a backup failed in an earlier life.
+fn has_failed(members: &Members<DiskFile, RegistryFile<DiskFile>>, backup: u64) -> bool {
+    match members.list().get(backup as usize) {
+        Some(member) => member.backup().is_out(),
+        None => false,
+    }
+}
+
+/// Gives another file to each backup whose own failed in an earlier life.
+fn renew_failed(
+    rt: &HostRuntime,
+    folder: &Folder,
+    members: &mut Members<DiskFile, RegistryFile<DiskFile>>,
+) -> Result<(), StoreFault>
+    requires { AreSafeHere members.old }
+    ensures { AreSafeHere members.new }
+{
+    for backup in 0..members.backups() {
+        if has_failed(members, backup) {
+            if let Err(fault) = renew(rt, folder, members, backup) {
+                return Err(fault);
+            }
+        }
+    }
+    Ok(())
+}
+
+/// The backups that were found, each with a file that takes ops.
+pub(crate) fn members_of(
+    rt: &HostRuntime,
+    folder: &Folder,
+    mut found: Found<DiskFile, RegistryFile<DiskFile>>,
+) -> Result<Members<DiskFile, RegistryFile<DiskFile>>, StoreFault>
+    requires { AreFoundHere found.places.items found.registry }
+    ensures { IfOk result AreSafeHere }
+{
+    if let Err(fault) = put_missing(rt, folder, &mut found) {
+        return Err(fault);
+    }
+    match found.into_members(rt.alloc()) {
+        Ok(mut members) => match renew_failed(rt, folder, &mut members) {
+            Ok(()) => Ok(members),
+            Err(fault) => Err(fault),
+        },
+        Err(_) => Err(StoreFault::NoMemory),
+    }
+}
