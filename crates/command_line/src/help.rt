@@ -78,6 +78,15 @@ Limits:
   too: its length, a colon, and so many bytes, as in 'put 1 3:a b 5:he lo'. Replies and tables show them so. A line ends
   at the first line feed that is none of these bytes, and has at most 2101248 bytes. A line that begins with # has no
   such bytes.
+  With --dir PATH, or --dir=PATH, the store is in that folder, and outlives the process: each answer is on the disk
+  before it is printed, and a later run finds the table that this one left. A folder without a store gets one. The
+  first line that is printed is 'recovered N'. Then come the replies of put, new, cas, get and del, and the rows of
+  'list'. Any other line is 'refused NotOnDisk'. A command that was made, and isn't known to be on the disk, is
+  'unsure NAME'. By default there are 3 replicas, segments of 65536 bytes, seglets of 4096, 1024 of these, and format
+  2. A later run has to name the same options; --seglets, --history, --largest and --live may change. The store cleans
+  and forgets by itself. A bad line ends the run, so there is no --keep-going. If the folder isn't opened, 'ramlog:
+  folder N: TEXT' says why: 1 the folder, 2 it is in use, 3 its registry, 4 an option, 5 a backup's file, 6 the disk,
+  7 memory, 8 the table is lost, 9 no master could begin with it.
   Up to 64 callers, its seats, share a master: the script is one, and 'clients' has up to 63.
 
 Refusals. A line that is refused prints 'refused NAME', and the script goes on:
@@ -105,8 +114,10 @@ Exit status:
   0  The script came to its end, whatever was refused
   1  Reading or writing failed, or memory ran out
   2  A line is bad, the words are no options, or the options don't fit each other
+  3  The folder of --dir isn't opened
 Standard error says which, as in 'ramlog: bad line 3'. If it is a terminal, or if --explain is among the options, a
-second line says why a line is bad, or which options disagree.
+second line says why a line is bad, or which options disagree, and a line names each command that may have been made
+though it has no reply.
 A script ends at its first bad line. If --keep-going is among the options, or if the script is typed at a terminal, each
 bad line is named on standard error and skipped, and the status is 2 at the end. A line that is too long ends the script
 all the same.

@@ -1,11 +1,13 @@
 //! The program `ramlog [options] < script`: reads a script from standard input, and writes what it answers to standard
-//! output.
+//! output. With `--dir=PATH` the script's store is in a folder, and outlives the process.
 #![tactic(auto)]
 
+mod folder;
 mod until_end;
 
 use clap::Error;
 use clap::error::ErrorKind;
+use folder::run_folder;
 use script::{ErrorOutput, ScriptFault, report, run_program};
 use std::env;
 use std::io::{self, BufReader, BufWriter, IsTerminal};
@@ -25,6 +27,9 @@ const RAW: &str = "--raw";
 
 /// The word by which a bad line is reported and skipped, also if standard input is no terminal. It may stand anywhere.
 const KEEP_GOING: &str = "--keep-going";
+
+/// The word that names the folder of a store on the disk, which follows it. It may stand anywhere.
+const DIR: &str = "--dir";
 
 /// How many bytes the program reads or writes at once.
 const BLOCK: usize = 65_536;
@@ -74,9 +79,9 @@ fn refuse(rt: &HostRuntime, error: &Error) -> ExitCode {
 }
 
 /// Runs the program from standard input to standard output. It writes in blocks, and writes what it answered before it
-/// waits for more input. If it `explains`, or if the errors go to a terminal, a second line of the errors says why. If it
-/// keeps going, or if the lines come from a terminal, a bad line is skipped. `threads` and `rt` are one handle, but only a
-/// parameter with these bounds can start threads.
+/// waits for more input. If it `explains`, or if the errors go to a terminal, the errors also say why a line is bad, and
+/// which commands may have been made. If it keeps going, or if the lines come from a terminal, a bad line is skipped.
+/// `threads` and `rt` are one handle, but only a parameter with these bounds can start threads.
 fn run<H: Threads + Wait + Sync>(
     threads: &H,
     rt: &HostRuntime,
@@ -105,7 +110,25 @@ fn run<H: Threads + Wait + Sync>(
     )
 }
 
-/// Runs the program with these words. The options know none of the words of `Flags`.
+impl Flags {
+    /// Sets the flag that an argument asks for. False if it asks for none.
+    fn take(&mut self, argument: &str) -> bool {
+        match argument {
+            EXPLAIN => self.explains = true,
+            RAW => self.is_raw = true,
+            KEEP_GOING => self.keeps_going = true,
+            _ => return false,
+        }
+        true
+    }
+}
+
+/// The folder that an argument names by itself.
+fn folder_in(argument: &str) -> Option<&str> {
+    argument.strip_prefix("--dir=")
+}
+
+/// Runs the program with these words. The options know none of the words of `Flags`, and no folder.
 fn run_arguments<H: Threads + Wait + Sync>(
     threads: &H,
     rt: &HostRuntime,
@@ -117,18 +140,29 @@ fn run_arguments<H: Threads + Wait + Sync>(
         is_raw: false,
         keeps_going: false,
     };
+    let mut folder = None;
+    let mut is_next = false;
     for argument in arguments {
-        if argument.as_str() == EXPLAIN {
-            flags.explains = true;
-        } else if argument.as_str() == RAW {
-            flags.is_raw = true;
-        } else if argument.as_str() == KEEP_GOING {
-            flags.keeps_going = true;
-        } else if words.push(argument.as_str()).is_err() {
+        if is_next {
+            folder = Some(argument.as_str());
+            is_next = false;
+        } else if argument.as_str() == DIR {
+            is_next = true;
+        } else if let Some(path) = folder_in(argument.as_str()) {
+            folder = Some(path);
+        } else if !flags.take(argument.as_str()) && words.push(argument.as_str()).is_err() {
             return fail(rt, ScriptFault::NoMemory);
         }
     }
-    match run(threads, rt, words.as_slice(), flags) {
+    if is_next {
+        let _ = rt.eprintln("ramlog: --dir has a folder behind it");
+        return ExitCode::from(MISUSE);
+    }
+    let ran = match folder {
+        Some(path) => run_folder(rt, path, words.as_slice(), flags),
+        None => run(threads, rt, words.as_slice(), flags),
+    };
+    match ran {
         Ok(status) => ExitCode::from(status),
         Err(error) => refuse(rt, &error),
     }

@@ -1,0 +1,3 @@
+pub mod Lines
+pub mod Runs
+pub mod Turns

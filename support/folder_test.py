@@ -1,0 +1,291 @@
+#!/usr/bin/env python3
+"""Tests `ramlog --dir`: a store in a folder, over many lives.
+
+  support/folder_test.py [--program=FILE] [--kills=N] [--seed=N] [NAME ..]
+
+A process runs puts and deletes over a few keys, and is killed (kill -9) at a random moment. The next process has to find the
+table that all answered lines make, or these and some of the lines that follow them, in order. N kills are made (40), with
+seed N (1). Other tests lose files, damage them, ask for other options, and have two processes ask for one folder.
+
+A kill ends the process and not the system: what it wrote stays in the kernel's memory. No test here cuts the power.
+The last line is 'N tests, M failed', and the status is 1 if any failed. It needs python3 on Linux.
+"""
+
+import os
+import random
+import shutil
+import subprocess
+import sys
+import tempfile
+import threading
+import time
+
+TOP = os.path.dirname(os.path.dirname(os.path.abspath(__file__)))
+# So many seconds a process has.
+SECONDS = 60
+# The exit status of a folder that isn't opened.
+REFUSED = 3
+
+
+class Wrong(Exception):
+    """What a process did, and what it should have done."""
+
+
+def run(program, folder, script=b"", words=()):
+    """What a process printed, what it said of errors, and its status."""
+    ended = subprocess.run([program, f"--dir={folder}", *words], input=script, capture_output=True, timeout=SECONDS)
+    return ended.stdout, ended.stderr, ended.returncode
+
+
+def want(came, wanted):
+    if came != wanted:
+        raise Wrong(f"wanted {wanted!r}\n  came   {came!r}")
+
+
+def want_refusal(came, number):
+    """The folder has to be refused by this number, and nothing printed."""
+    output, errors, status = came
+    if (output, status) != (b"", REFUSED) or not errors.startswith(b"ramlog: folder %d: " % number):
+        raise Wrong(f"wanted a refusal with number {number}\n  came   {came!r}")
+
+
+# ---- lives
+
+def a_table_outlives_its_process(program, folder):
+    script = b"put 1 a x\nnew 1 b y\nnew 1 b z\ncas 1 a 1 xx\nget 1 a\nget 1 c\n# nothing\n\nput 1 c z\ndel 1 c\n"
+    want(run(program, folder, script), (b"recovered 0\nok 1\nok 2\nmismatch 2\nok 2\n2 xx\nnone\nok 3\nok 3\n", b"", 0))
+    rows = b"1 a 2 xx\n1 b 2 y\nlisted 2\n"
+    want(run(program, folder, b"list 1\n"), (b"recovered 2\n" + rows, b"", 0))
+    # A version is above each that the key was seen at.
+    output, errors, status = run(program, folder, b"new 1 c z\nlist 1\n")
+    lines = output.split(b"\n")
+    want((lines[0], errors, status), (b"recovered 2", b"", 0))
+    if not lines[1].startswith(b"ok ") or int(lines[1].split()[1]) <= 3:
+        raise Wrong(f"the key c had version 3, and is put anew: {lines[1]!r}")
+
+
+def any_bytes_outlive_it(program, folder):
+    every = bytes(range(256))
+    script = b"put 1 %d:%s %d:%s\n" % (len(every), every, 2 * len(every), every * 2)
+    want(run(program, folder, script, ["--raw"]), (b"recovered 0\nok 1\n", b"", 0))
+    want(run(program, folder, b"get 1 %d:%s\n" % (len(every), every), ["--raw"]),
+         (b"recovered 1\n1 %d:%s\n" % (2 * len(every), every * 2), b"", 0))
+
+
+def a_bad_line_ends_the_run(program, folder):
+    want(run(program, folder, b"put 1 a x\nput 1 a\nput 1 a y\n"), (b"recovered 0\nok 1\n", b"ramlog: bad line 2\n", 2))
+    want(run(program, folder, b"get 1 a\ncrash\n"), (b"recovered 1\n1 x\nrefused NotOnDisk\n", b"", 0))
+
+
+def memory_is_used_again(program, folder):
+    """More is put than the memory of the log has, and the store cleans itself."""
+    value = b"x" * 1000
+    lines = b"".join(b"put 1 k%d %s\n" % (number % 50, value) for number in range(6000))
+    output, errors, status = run(program, folder, lines + b"list 1\n")
+    want((output.split(b"\n")[-2], output.count(b"ok "), errors, status), (b"listed 50", 6000, b"", 0))
+    want(run(program, folder, b"list 1\n")[0].split(b"\n")[-2], b"listed 50")
+
+
+# ---- files
+
+def backups(folder):
+    return sorted(name for name in os.listdir(folder) if name.startswith("backup-"))
+
+
+def a_lost_backup_is_made_anew(program, folder):
+    run(program, folder, b"put 1 a x\nput 1 b y\n")
+    for lost in (0, 1, 2, 1):
+        names = [name for name in backups(folder) if name.startswith(f"backup-{lost}-")]
+        for name in names:
+            os.remove(f"{folder}/{name}")
+        want(run(program, folder, b"list 1\n"), (b"recovered 2\n1 a 1 x\n1 b 2 y\nlisted 2\n", b"", 0))
+
+
+def a_lost_table_is_named(program, folder):
+    run(program, folder, b"put 1 a x\n")
+    kept = {name: open(f"{folder}/{name}", "rb").read() for name in backups(folder)}
+    for name in kept:
+        os.remove(f"{folder}/{name}")
+    output, errors, status = run(program, folder, b"put 1 b y\n")
+    want((output, status), (b"", REFUSED))
+    if not errors.startswith(b"ramlog: folder 8: "):
+        raise Wrong(f"all replicas are gone, and the program says {errors!r}")
+    # Nothing of the store changed: when the files come back, so does the table.
+    for name, data in kept.items():
+        with open(f"{folder}/{name}", "wb") as file:
+            file.write(data)
+    want(run(program, folder, b"list 1\n"), (b"recovered 1\n1 a 1 x\nlisted 1\n", b"", 0))
+
+
+def other_options_are_named(program, folder):
+    run(program, folder, b"put 1 a x\n")
+    came = run(program, folder, b"", ["--backups=4"])
+    want_refusal(came, 4)
+    if b"backups" not in came[1]:
+        raise Wrong(f"the option isn't named: {came[1]!r}")
+    want_refusal(run(program, folder, b"", ["--segment=131072"]), 4)
+    # The memory may be another one in each life.
+    want(run(program, folder, b"get 1 a\n", ["--seglets=2048"]), (b"recovered 1\n1 x\n", b"", 0))
+
+
+def folders_are_refused(program, folder):
+    want_refusal(run(program, f"{folder}/none"), 1)
+    with open(f"{folder}/file", "wb") as file:
+        file.write(b"x")
+    want_refusal(run(program, f"{folder}/file"), 1)
+    os.remove(f"{folder}/file")
+    run(program, folder, b"put 1 a x\n")
+    data = open(f"{folder}/registry", "rb").read()
+    with open(f"{folder}/registry", "wb") as file:
+        file.write(b"no registry at all, but enough bytes to look like one" * 3)
+    want_refusal(run(program, folder), 3)
+    os.remove(f"{folder}/registry")
+    want_refusal(run(program, folder), 3)
+    with open(f"{folder}/registry", "wb") as file:
+        file.write(data)
+    want(run(program, folder, b"get 1 a\n"), (b"recovered 1\n1 x\n", b"", 0))
+
+
+def one_process_has_a_folder(program, folder):
+    with subprocess.Popen([program, f"--dir={folder}"], stdin=subprocess.PIPE, stdout=subprocess.PIPE) as first:
+        want(first.stdout.readline(), b"recovered 0\n")
+        want_refusal(run(program, folder), 2)
+        first.stdin.write(b"put 1 a x\n")
+        first.stdin.flush()
+        want(first.stdout.readline(), b"ok 1\n")
+        first.stdin.close()
+        want(first.wait(SECONDS), 0)
+    want(run(program, folder, b"get 1 a\n"), (b"recovered 1\n1 x\n", b"", 0))
+
+
+# ---- kills
+
+KEYS = [b"k%d" % number for number in range(20)]
+
+
+def some_lines(dice, count, first):
+    """Puts and deletes, each value of its own."""
+    for number in range(first, first + count):
+        key = dice.choice(KEYS)
+        if dice.random() < 0.2:
+            yield b"del 1 %s\n" % key, key, None
+        else:
+            value = b"%d%s" % (number, b"v" * dice.choice([0, 10, 100, 1000]))
+            yield b"put 1 %s %s\n" % (key, value), key, value
+
+
+def table_of(output):
+    """The table that a process listed, as a value for each key."""
+    rows = output.split(b"\n")
+    if not rows[0].startswith(b"recovered "):
+        raise Wrong(f"no table was recovered: {rows[:3]!r}")
+    table = {row.split(b" ")[1]: row.split(b" ")[3] for row in rows[1:-2]}
+    want((rows[-2], rows[0]), (b"listed %d" % len(table), b"recovered %d" % len(table)))
+    return table
+
+
+def killed(program, folder, lines, seconds):
+    """How many lines a process answered before it was killed, so many seconds after it was ready."""
+    with subprocess.Popen([program, f"--dir={folder}"], stdin=subprocess.PIPE, stdout=subprocess.PIPE) as it:
+        it.stdout.readline()
+        text = b"".join(line for line, _, _ in lines)
+
+        def feed():
+            try:
+                it.stdin.write(text)
+                it.stdin.flush()
+            except BrokenPipeError:
+                pass
+
+        feeder = threading.Thread(target=feed)
+        feeder.start()
+        time.sleep(seconds)
+        it.kill()
+        answers = it.stdout.read()
+        feeder.join()
+        try:
+            it.stdin.close()
+        except BrokenPipeError:
+            pass
+        it.wait()
+    return answers[:answers.rfind(b"\n") + 1].count(b"\n")
+
+
+def one_kill(program, folder, dice, table, first):
+    """One life that ends by a kill, and the table that the next one finds."""
+    lines = [*some_lines(dice, dice.choice([50, 500, 3000]), first)]
+    answered = killed(program, folder, lines, dice.choice([0.0, 0.01, 0.1, 0.3, 1.0]) * dice.random())
+    output, errors, status = run(program, folder, b"list 1\n")
+    want((errors, status), (b"", 0))
+    found, fits = table_of(output), False
+    for number, (_, key, value) in enumerate([*lines, (b"", b"", None)]):
+        fits = fits or number >= answered and table == found
+        if value is None:
+            table.pop(key, None)
+        else:
+            table[key] = value
+    if not fits:
+        raise Wrong(f"{answered} lines were answered, and the table is none of those that they and the next ones make: {found!r}")
+    return found, answered
+
+
+def kills(program, folder, seed, count):
+    """Many lives in one folder. Gives how many lines were answered in all of them."""
+    dice, table, first, total = random.Random(seed), {}, 0, 0
+    for _ in range(count):
+        table, answered = one_kill(program, folder, dice, table, first)
+        total, first = total + answered, first + 3000
+    return total
+
+
+TESTS = [
+    a_table_outlives_its_process, any_bytes_outlive_it, a_bad_line_ends_the_run, memory_is_used_again, a_lost_backup_is_made_anew,
+    a_lost_table_is_named, other_options_are_named, folders_are_refused, one_process_has_a_folder,
+]
+
+
+def tested(name, test):
+    """Whether a test failed, in a folder of its own."""
+    folder = tempfile.mkdtemp()
+    try:
+        test(folder)
+    except (Wrong, OSError, subprocess.SubprocessError) as wrong:
+        print(f"{name}: {wrong}")
+        return True
+    finally:
+        shutil.rmtree(folder, ignore_errors=True)
+    return False
+
+
+def main():
+    program, count, seed, names = f"{TOP}/crates/ramlog/out/ramlog", 40, 1, []
+    for word in sys.argv[1:]:
+        if word in ("-h", "--help"):
+            print(__doc__.strip())
+            return
+        name, _, value = word.partition("=")
+        if name == "--program":
+            program = value
+        elif name == "--kills" and value.isdigit():
+            count = int(value)
+        elif name == "--seed" and value.isdigit():
+            seed = int(value)
+        elif word in [test.__name__ for test in TESTS]:
+            names.append(word)
+        else:
+            print(f"folder_test: no test and no option: '{word}'; --help says more", file=sys.stderr)
+            sys.exit(2)
+    chosen = [test for test in TESTS if not names or test.__name__ in names]
+    failed = sum(tested(test.__name__, lambda folder, test=test: test(program, folder)) for test in chosen)
+    made = len(chosen)
+    if not names and count:
+        made += 1
+        answered = []
+        failed += tested(f"{count} kills with seed {seed}", lambda folder: answered.append(kills(program, folder, seed, count)))
+        print(f"{count} kills, {sum(answered)} answered lines")
+    print(f"{made} tests, {failed} failed")
+    sys.exit(1 if failed else 0)
+
+
+if __name__ == "__main__":
+    main()
