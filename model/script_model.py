@@ -64,11 +64,13 @@ class Options:
     raw: bool = False
     # Whether the run goes on behind a bad line.
     keep_going: bool = False
+    # Whether a command is named that may have been made, though it has no reply.
+    explain: bool = False
 
 
 def options_of(words):
     """The options of words such as --segment=4096 and --forget. For a --live of 0 they have the greatest limit."""
-    flags = {"--forget": "forget", "--raw": "raw", "--keep-going": "keep_going"}
+    flags = {"--forget": "forget", "--raw": "raw", "--keep-going": "keep_going", "--explain": "explain"}
     names = {option.name for option in fields(Options)} - {*flags.values()}
     numbers = {}
     for word in words:
@@ -366,6 +368,11 @@ def parsed_lines(script, options):
 def bad_line(number):
     """What is reported of a bad line."""
     return f"ramlog: bad line {number}\n"
+
+
+def unsure_line(number):
+    """What is reported of a command that may have been made."""
+    return f"ramlog: the command of line {number} may have been made\n"
 
 
 # How the last row begins of the answers with many rows.
@@ -1283,6 +1290,8 @@ STEPS = ("put", "new", "cas", "get", "del", "compact", "clean", "begin", "copy",
 
 
 # The lines that work while the store is down alone, and those that work then, too.
+# Lines of a command.
+COMMANDS = ("put", "new", "cas", "get", "del")
 DOWN_LINES = ("lose", "needs", "recover")
 ANY_LINES = ("idle", "stop", "fault", "holdings", *LATER)
 
@@ -1367,6 +1376,15 @@ class Store:
     def answered(self, line):
         """What the line prints if no memory is refused, and the store then."""
         return next((answer, after) for answer, refused, after in self.outcomes(line) if not refused)
+
+    def may_have_made(self, line, after):
+        """Whether the line is a command that was made, or may have been, and has no reply in the store behind it."""
+        if line[0] not in COMMANDS or not self.master:
+            return False
+        if not after.master:
+            return True
+        seen = replace(after, fleet=after.master.counted) if after.master.counted else after
+        return self.master.records < after.master.records and seen.durable() < after.master.records
 
     def line_idle(self):
         yield "", 0, self
@@ -1992,14 +2010,17 @@ def undisturbed(script, options):
     """How the run of a script ends if no memory is refused."""
     if config_fault(options):
         return Run(2, "", f"ramlog: bad configuration {config_fault(options)}\n")
-    store, output, errors = Store.new(options), [], ""
+    store, output, errors, status = Store.new(options), [], "", 0
     for place, parsed in enumerate(parsed_lines(script, options), 1):
         if parsed is None:
-            errors += bad_line(place)
+            status, errors = 2, errors + bad_line(place)
             continue
-        answer, store = store.answered(parsed)
+        before = store
+        answer, store = before.answered(parsed)
         output.append(answer)
-    return Run(2 if errors else 0, "".join(output), errors)
+        if options.explain and before.may_have_made(parsed, store):
+            errors += unsure_line(place)
+    return Run(status, "".join(output), errors)
 
 
 def explain(script, options, run, most):

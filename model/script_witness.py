@@ -16,13 +16,12 @@ any other command of that key, or of one that is absent.
 import re
 from dataclasses import dataclass, field
 
-from script_model import (ANY_LINES, BLOCK, DOWN_LINES, NO_LIMIT, STEPS, Command, Fleet, Object, Run, Store, Undetermined, answers_of,
+from script_model import (ANY_LINES, BLOCK, COMMANDS, DOWN_LINES, NO_LIMIT, STEPS, Command, Fleet, Object, Run, Store, Undetermined, answers_of,
                           bad_line, client_key, config_fault, is_too_big, later_options, make_will, name_of, object_len, options_of,
                           parsed_lines, place, seglets_needed, undisturbed, whole_seglets)
 from script_orders import orders_of
 
 PUTS = ("put", "new", "cas")
-COMMANDS = (*PUTS, "get", "del")
 # If more stores than this fit the answers, none of them is followed.
 MOST_STORES = 60
 
@@ -616,6 +615,9 @@ def wrong_run(words, script, run):
             status, errors = 2, errors + bad_line(number)
             continue
         lines.append(parsed)
+    if options.explain:
+        # What may have been made without a reply isn't printed, so the model says it.
+        errors = undisturbed(script, options).errors
     printed = []
     for line, answer in answers_of(lines, run.output):
         printed += answer

@@ -215,6 +215,29 @@ def a_pipe_is_told_why_if_asked(program):
     want(run(program, b"put 1 a\n"), (b"", bad, 2))
 
 
+def a_pipe_is_told_what_may_be_made(program):
+    """With the word --explain the errors name each command that may have been made, and no other."""
+    said = b"ramlog: the command of line %d may have been made\n"
+    rows = (
+        # The record was made, and no backup took it: the master is dropped.
+        (b"put 1 a x\nstop 0\nput 1 a y\nrecover\n", b"ok 1\nstop 0\nstopped\n1 a 1 x\nrecovered 1\n", said % 3),
+        # The record was made, and a backup took it or didn't. The next command finds the master halted, and is not made.
+        (b"put 1 a x\nfault 1 taken\nput 1 a y\nput 1 a z\ncrash\nrecover\n",
+         b"ok 1\nfault 1 taken\nrefused Halted\nrefused Halted\ncrashed\n1 a 2 y\nrecovered 1\n", said % 3),
+        (b"put 1 a x\nfault 1 lost\ndel 1 a\nget 1 a\ncrash\nrecover\n",
+         b"ok 1\nfault 1 lost\nrefused Halted\nrefused Halted\ncrashed\n1 a 1 x\nrecovered 1\n", said % 3),
+        # A test refuses these.
+        (b"put 9 a x\nnew 1 a x\nnew 1 a y\ncrash\nput 1 a z\n", b"refused NoTablet\nok 1\nmismatch 1\ncrashed\nrefused Down\n", b""),
+    )
+    for script, answers, errors in rows:
+        for words, told in ((["--explain"], errors), ([], b"")):
+            want(run(program, script, words), (answers, told, 0))
+    script = b"what\nfault 1 lost\nput 1 a y\n"
+    answers = b"fault 1 lost\nrefused Halted\n"
+    want(run(program, script, ["--explain", "--keep-going"])[::2], (answers, 2))
+    want(run(program, script, ["--explain", "--keep-going"])[1].splitlines(True)[-1], said % 3)
+
+
 def any_bytes_come_back(program):
     """With --raw, keys and values of all bytes, and the longest line that may be put, come back as they were."""
     every = bytes(range(256))
@@ -547,7 +570,7 @@ def the_largest_configuration_is_served(program):
 
 TESTS = [
     help_is_printed, version_is_printed, words_are_text, lines_have_limits, a_reader_fails, a_writer_fails,
-    input_comes_in_parts, pipes_show_each_answer, output_goes_in_blocks, a_terminal_shows_each_answer, a_terminal_shows_why, a_pipe_is_told_why_if_asked, a_pipe_goes_on_if_asked, a_terminal_goes_on,
+    input_comes_in_parts, pipes_show_each_answer, output_goes_in_blocks, a_terminal_shows_each_answer, a_terminal_shows_why, a_pipe_is_told_why_if_asked, a_pipe_is_told_what_may_be_made, a_pipe_goes_on_if_asked, a_terminal_goes_on,
     any_bytes_come_back, an_end_is_not_asked_for_again,
     memory_is_taken_and_given_back, survivors_take_a_segment_each, forgotten_records_leave_their_memory, large_tables_are_recovered, workers_recover_in_threads,
     a_call_ends_a_long_failover,

@@ -13,6 +13,7 @@ use Rattle.lines.specs.Grammar.{shown_command, shown_line}
 use Rattle.next_master.specs.cluster.Told.{command_of}
 use Rattle.lines.specs.Grammar.{IsLine, LineValue, Says, Idle, Put, New, Cas, Get, Del}
 use Rattle.script.specs.Runs.{Allows, IsOfFleet}
+use Rattle.script.specs.Runs.{has_command as tells_command}
 use Rattle.script.specs.Turns.{HasValue, RefusesLine}
 use Rattle.next_master.specs.answers.declared.answer.Answer.{Answer}
 use Rattle.script.specs.declared.session.LineFault.{LineFault}
@@ -56,6 +57,14 @@ has_no_command line.Seal other = refl
 has_no_command line.Free other = refl
 has_no_command (line.Tend steps) other = refl
 has_no_command (line.Clients clients rounds passes) other = refl
+
+-- the line of a command has one
+pub is_command : (c : CommandLine) → tells_command (shown_command c) ≡ true
+is_command (command.Put table key value) = refl
+is_command (command.New table key value) = refl
+is_command (command.Cas table key version value) = refl
+is_command (command.Get table key) = refl
+is_command (command.Del table key) = refl
 
 -- the line of a command names no backup
 pub command_of_fleet : (backups : ℕ) (c : CommandLine) → IsOfFleet backups (shown_command c)

@@ -1,10 +1,12 @@
 -- Bad lines that are skipped, and what is reported of them.
 use Rattle.std.proofs.Common.{[], ◌≡◌, ◌∙◌, ℕ, suc, ◌+◌, Bool, true, false, List, ◌∷◌, ◌++◌, length, ap, sym, subst}
 use Rattle.std.proofs.Common.{arith, inl, refl, append-nil, append_assoc}
-use Rattle.std.specs.Prelude.{Option, None, Some, Ok, Err}
+use Rattle.std.proofs.Common.{◌&&◌}
+use Rattle.std.specs.Prelude.{Option, None, Some, Ok, Err, codes}
+use Rattle.std.specs.Fmt.{decimal}
 use Rattle.std.specs.Io.KnownBytes.{Appends, Keeps}
 use Rattle.std.proofs.KnownBytes.{Appends-kept, Appends-nil, Appends-trans, Keeps-trans}
-use Rattle.lines.specs.Grammar.{Idle}
+use Rattle.lines.specs.Grammar.{LineValue, Idle}
 use Rattle.lines.specs.Reading.{IsLineText}
 use Rattle.next_master.specs.answers.Errors.{AppendsFront, Errors, Writes, WritesUnless}
 use Rattle.next_master.specs.answers.Texts.{fault_lines}
@@ -15,7 +17,8 @@ use Rattle.next_master.specs.answers.declared.fault.ScriptFault.TheVariants as f
 use Rattle.next_master.proofs.of_cluster.Standing.{stays_told}
 use Rattle.raw_answers.specs.Texts.{told_text}
 use Rattle.script.specs.declared.session.Session.{Session}
-use Rattle.script.specs.Runs.{EndsRun, IsScriptLine, Reports, has_skipped, report_of, reports_of, skips_as}
+use Rattle.script.specs.Runs.{EndsRun, IsScriptLine, Reports, ReportsAll, RunResult, has_command, has_skipped}
+use Rattle.script.specs.Runs.{has_unsure, made_by, may_be_made, report_of, reports_of, skips_as, unsure_line}
 use Rattle.script.specs.Sessions.{RunsLine}
 use Rattle.script.specs.Telling.{Told}
 use Rattle.script.specs.Turns.{IsNoBadLine, PrintsText, ReportsBadLine, RunsText, TakesText}
@@ -61,7 +64,37 @@ writes_more a b c bytes more first next = record {
   explains = next.explains ∙ first.explains;
 }
 
+-- ---- commands that may have been made
+
+-- the line that says so was written by its parts, and the output was flushed
+pub unsure_written : (a b c d e : Errors) (number : ℕ) → Writes a b (codes "ramlog: the command of line ")
+    → Writes b c (decimal number) → Writes c d (codes " may have been made" ++ 10 ∷ []) → Writes d e []
+    → Writes a e (unsure_line true true number)
+unsure_written a b c d e number head digits tail flushed =
+    let line = codes "the command of line " in
+    let end = codes " may have been made" in
+    let whole = append_assoc line (decimal number ++ end) (10 ∷ [])
+    ∙ ap (λ l. line ++ l) (append_assoc (decimal number) end (10 ∷ [])) in
+    subst (Writes a e) (append-nil _ ∙ ap (λ l. codes "ramlog: " ++ l) (sym whole))
+    (writes_more a d e _ [] (writes_more a b d _ _ head (writes_more b c d _ _ digits tail)) flushed)
+
+-- whether a line may have been made is whether its command is unsure, if it has one
+pub made_if : (line : LineValue) (unsure : Bool) → has_command line ≡ true → has_command line && unsure ≡ unsure
+made_if line unsure has = ap (λ b. b && unsure) has
+
+pub made_not : (line : LineValue) (unsure : Bool) → has_command line ≡ false → has_command line && unsure ≡ false
+made_not line unsure has = ap (λ b. b && unsure) has
+
 -- ---- what was reported
+
+-- all lines were reported, however the run ended
+pub all_reported : (before after : Errors) (told : List Told) (result : RunResult)
+    → Reports before after (reports_of before.explains 1 told) → ReportsAll before after told result
+all_reported before after told (Ok skipped) reports = reports
+all_reported before after told (Err (fault.BadLine n why)) reports = reports
+all_reported before after told (Err fault.ReadFailed) reports = reports
+all_reported before after told (Err fault.WriteFailed) reports = inl reports
+all_reported before after told (Err fault.NoMemory) reports = reports
 
 pub reports_explain : (a b : Errors) (bytes : List ℕ) → Reports a b bytes → b.explains ≡ a.explains
 reports_explain a b [] same = ap (λ (e : Errors). e.explains) same
@@ -101,7 +134,13 @@ fleet_line keeps is_raw was now t same is = subst (λ (n : ℕ). IsScriptLine ke
 -- what is told of a line that was run
 abbrev pub runs_told : (is_raw : Bool) (text : List ℕ) (answer : Answer) (old new : Session)
     → RunsText is_raw old text new answer → Told
-runs_told is_raw text answer old new runs = record { text = text; line = runs.line; answer = answer; skipped = None }
+runs_told is_raw text answer old new runs = record {
+  text = text;
+  line = runs.line;
+  answer = answer;
+  skipped = None;
+  unsure = may_be_made old runs.line new;
+}
 
 pub ends_none : (f : ScriptFault) → IsNoBadLine f → EndsRun f
 ends_none (fault.BadLine n why) none = absurd none
@@ -116,35 +155,59 @@ idle_runs s = inl (node_answers s Idle s.node Silent
 
 module _ (keeps is_raw : Bool) (old new : Session) (text : List ℕ) (number : ℕ) (held holds : Option (List ℕ))
     (before after : Errors) (was : Bool) where
-  -- the line was run
-  pub run_taken : (answer : Answer) → IsLineText is_raw text → RunsText is_raw old text new answer
+  -- the line was run, and it was reported if its command is unsure
+  run_taken : (answer : Answer) → IsLineText is_raw text → (runs : RunsText is_raw old text new answer)
       → Appends held holds (told_text is_raw answer)
-      → TakesText keeps is_raw old new text number held holds before before was was (Ok tt)
-  run_taken answer whole runs printed = (
+      → Reports before after (unsure_line (may_be_made old runs.line new) before.explains number)
+      → TakesText keeps is_raw old new text number held holds before after was was (Ok tt)
+  run_taken answer whole runs printed reports = (
     runs_told is_raw text answer old new runs,
     refl,
     record {
       line = record { whole = whole; says = runs.says; of_fleet = runs.of_fleet };
-      turn = (runs.runs, tt);
+      turn = (runs.runs, tt, refl);
       prints = printed;
-      reports = refl;
+      reports = reports;
     },
     refl,
   )
+
+  -- the line of a command was run
+  pub command_taken : (made : Option ℕ) → made ≡ made_by old.node → IsLineText is_raw text → (has : Bool) → has ≡ true
+      → PrintsText is_raw old new text number held holds (Ok has)
+      → Reports before after (unsure_line (has_unsure made new.node) before.explains number)
+      → TakesText keeps is_raw old new text number held holds before after was was (Ok tt)
+  command_taken made is whole has one (answer, runs, printed, same) reports =
+      let unsure : has_unsure made new.node ≡ may_be_made old runs.line new =
+      ap (λ (m : Option ℕ). has_unsure m new.node) is
+      ∙ sym (made_if runs.line (has_unsure (made_by old.node) new.node) (same ∙ one)) in
+      run_taken answer whole runs printed
+      (subst (λ (b : Bool). Reports before after (unsure_line b before.explains number)) unsure reports)
+
+  -- a line without a command was run
+  pub other_taken : IsLineText is_raw text → (has : Bool) → has ≡ false
+      → PrintsText is_raw old new text number held holds (Ok has)
+      → after ≡ before → TakesText keeps is_raw old new text number held holds before after was was (Ok tt)
+  other_taken whole has none (answer, runs, printed, same) kept =
+      let sure : false ≡ may_be_made old runs.line new =
+      sym (made_not runs.line (has_unsure (made_by old.node) new.node) (same ∙ none)) in
+      run_taken answer whole runs printed
+      (subst (λ (b : Bool). Reports before after (unsure_line b before.explains number)) sure kept)
 
   -- the line is bad, and was reported
   pub skip_taken : (f : ScriptFault) → keeps ≡ true → IsLineText is_raw text
       → PrintsText is_raw old new text number held holds (Err f) → ReportsBadLine f before after true
       → TakesText keeps is_raw old new text number held holds before after was true (Ok tt)
   skip_taken (fault.BadLine n why) on whole p reported = (
-    record { text = text; line = Idle; answer = Silent; skipped = Some why },
+    record { text = text; line = Idle; answer = Silent; skipped = Some why; unsure = false },
     refl,
     record {
       line = (on, record { whole = whole; idle = refl; silent = refl; reason = p.3 });
-      turn = ((old, idle_runs old, p.4), p.1);
+      turn = ((old, idle_runs old, p.4), p.1, refl);
       prints = Appends-kept held held holds [] (Appends-nil held) p.2;
-      reports = subst (λ (k : ℕ). Writes before after (fault_lines before.explains (fault.BadLine k why))) p.0
-          reported.1;
+      reports = subst (Writes before after)
+          (sym (append-nil (fault_lines before.explains (fault.BadLine number why))))
+          (subst (λ (k : ℕ). Writes before after (fault_lines before.explains (fault.BadLine k why))) p.0 reported.1);
     },
     refl,
   )

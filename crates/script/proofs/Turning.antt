@@ -24,7 +24,7 @@ use Rattle.next_master.specs.answers.declared.fault.ScriptFault.TheVariants as f
 use Rattle.script.specs.declared.session.Session.{Session}
 use Rattle.script.specs.Runs.{AreRunOn, IsScriptLine, IsTurn, texts_of, answers_of, AreLines, IsTakenLine}
 use Rattle.script.specs.Runs.{IsBadLine, IsReasonFor, EndsRun, EndsWith, CutsLast, Prints, RunsScript}
-use Rattle.script.specs.Runs.{Reports, has_skipped, report_of, reports_of, skips_as}
+use Rattle.script.specs.Runs.{Reports, ReportsAll, has_command, has_skipped, report_of, reports_of, skips_as}
 use Rattle.next_master.specs.answers.Errors.{AppendsFront, Errors}
 use Rattle.command_line.specs.declared.settings.Options.{Options}
 use Rattle.lines.specs.Grammar.{LineValue, Recover}
@@ -38,7 +38,9 @@ use Rattle.lines.specs.Scanning.{line_limit}
 use Rattle.next_master.specs.Succession.{Standing, Succeeds}
 use Rattle.script.specs.Telling.{at_first, Moves, AreTelling, TellLives, Told}
 use Rattle.next_master.specs.cluster.Told.{Tells}
-use Rattle.script.specs.Turns.{FailsTurn, IsNoMore, IsPrinted, PrintsText, RunsText, TakesText, TakesTurn, TellsTurn}
+use Rattle.script.specs.Turns.{FailsTurn, IsNoMore, IsPrinted, IsPrintedPlain, PrintsText, RunsText, TakesText}
+use Rattle.script.specs.Turns.{TakesTurn, TellsTurn}
+use Rattle.script.proofs.Skipping.{all_reported}
 use Rattle.script.proofs.Skipping.{ends_none, fleet_line, has_more, reports_explain, reports_join, reports_more}
 use Rattle.script.proofs.Skipping.{runs_told}
 use Rattle.script.proofs.Sessions.{begins_later, options_kept, options_renewed, options_stay, renewed_begins, told_of}
@@ -52,13 +54,21 @@ use Rattle.entry.specs.Meaning.{contents_of}
 module _ (is_raw : Bool) where
   -- ---- a line that was run
 
-  pub answer_printed : (old new : Session) (text : List ℕ) (number : ℕ) (held holds : Option (List ℕ)) (answer : Answer)
-      (r : Result (Unit {0}) ScriptFault)
-      → RunsText is_raw old text new answer → IsPrinted is_raw held holds answer r → PrintsText is_raw old new text number held holds r
-  answer_printed old new text number held holds answer (Ok done) runs printed = (answer, runs, printed)
-  answer_printed old new text number held holds answer (Err e) runs failed =
+  -- and of whose answer the writer took a front
+  pub answer_cut : (old new : Session) (text : List ℕ) (number : ℕ) (held holds : Option (List ℕ)) (answer : Answer)
+      (e : ScriptFault) → RunsText is_raw old text new answer → IsPrinted is_raw held holds answer (Err e)
+      → PrintsText is_raw old new text number held holds (Err e)
+  answer_cut old new text number held holds answer e runs failed =
       subst (λ (f : ScriptFault). PrintsText is_raw old new text number held holds (Err f)) (sym failed.0)
       (answer, runs, failed.1)
+
+  pub plain_printed : (old new : Session) (text : List ℕ) (number : ℕ) (held holds : Option (List ℕ)) (answer : Answer)
+      (r : Result Bool ScriptFault) → (runs : RunsText is_raw old text new answer) → has_command runs.line ≡ false
+      → IsPrintedPlain is_raw held holds answer r → PrintsText is_raw old new text number held holds r
+  plain_printed old new text number held holds answer (Ok has) runs none printed =
+      (answer, runs, printed.1, none ∙ sym printed.0)
+  plain_printed old new text number held holds answer (Err e) runs none failed =
+      answer_cut old new text number held holds answer e runs failed
 
   -- ---- what was taken for a line
 
@@ -82,10 +92,10 @@ module _ (is_raw : Bool) where
   kept_first (Some xs) (Some ys) (Some zs) bytes kept more = more ∙ ap (λ l. l ++ bytes) kept
 
   pub flushed_first : (old new : Session) (text : List ℕ) (number : ℕ) (held wrote holds : Option (List ℕ))
-      (r : Result (Unit {0}) ScriptFault)
+      (r : Result Bool ScriptFault)
       → Keeps held wrote → PrintsText is_raw old new text number wrote holds r → PrintsText is_raw old new text number held holds r
-  flushed_first old new text number held wrote holds (Ok done) kept p =
-      (p.0, p.1, kept_first held wrote holds (told_text is_raw p.0) kept p.2)
+  flushed_first old new text number held wrote holds (Ok has) kept p =
+      (p.0, p.1, kept_first held wrote holds (told_text is_raw p.0) kept p.2, p.3)
   flushed_first old new text number held wrote holds (Err (fault.BadLine n why)) kept p =
       (p.0, p.1, Keeps-trans held wrote holds kept p.2, p.3, p.4)
   flushed_first old new text number held wrote holds (Err fault.ReadFailed) kept p = absurd p
@@ -477,7 +487,7 @@ module _ (is_raw : Bool) where
           → EndsWith is_raw options (r.told ++ t ∷ []) (texts_of r.told ++ taken) left result
           → (keeps ≡ true → IfErr result EndsRun)
           → Prints is_raw held holds (r.told ++ t ∷ []) result
-          → Reports before after (reports_of before.explains 1 (r.told ++ t ∷ []))
+          → ReportsAll before after (r.told ++ t ∷ []) result
           → RunsScript keeps is_raw options had left held holds before after result
       ends_here taken result consumed ends goes_on prints reports = record {
         told = r.told ++ t ∷ [];
@@ -512,11 +522,17 @@ module _ (is_raw : Bool) where
       )
 
       fails_to_write : (taken : List ℕ) → Consumes mid left taken → IsTakenLine t.text taken left
-          → AppendsFront wrote holds (told_text is_raw t.answer) → Reports during after (report_of during.explains number t)
+          → AppendsFront wrote holds (told_text is_raw t.answer) → after ≡ during
           → RunsScript keeps is_raw options had left held holds before after (Err fault.WriteFailed)
-      fails_to_write taken consumed is front reports =
+      fails_to_write taken consumed is front same =
           ends_here taken (Err fault.WriteFailed) consumed (inl (lines_are taken is)) (λ on. tt) (inr (cut_on front))
-          (reports_on reports)
+          (inr (
+            r.told,
+            t,
+            refl,
+            subst (λ (e : Errors). Reports before e (reports_of before.explains 1 r.told)) (sym same)
+                r.reported,
+          ))
 
     -- the lines were run, and no more
     closes : (taken : List ℕ) (result : Result Bool ScriptFault) → Consumes mid left taken
@@ -533,7 +549,8 @@ module _ (is_raw : Bool) where
       ends = ends;
       goes_on = goes_on;
       prints = prints;
-      reports = subst (λ (e : Errors). Reports before e (reports_of before.explains 1 r.told)) (sym same) r.reported;
+      reports = all_reported before after r.told result
+          (subst (λ (e : Errors). Reports before e (reports_of before.explains 1 r.told)) (sym same) r.reported);
     }
 
     kept_answers : Keeps wrote holds → Appends held holds (answers_of is_raw r.told)
@@ -569,7 +586,7 @@ module _ (is_raw : Bool) where
         closes t.0 (Err fault.ReadFailed) t.1 (t.0, refl, t.2) ends (kept_answers t.3) same
     fails_so new fault.WriteFailed (inl t) same ends =
         let told = runs_told is_raw t.0 t.5 old new t.6 in
-        fails_to_write new told (record { whole = t.2; says = t.6.says; of_fleet = t.6.of_fleet }) (t.6.runs, tt)
+        fails_to_write new told (record { whole = t.2; says = t.6.says; of_fleet = t.6.of_fleet }) (t.6.runs, tt, refl)
         t.1 t.3 t.4 t.7 same
     fails_so new fault.WriteFailed (inr t) same ends =
         closes t.0 (Err fault.WriteFailed) t.1 (inr (t.0, refl, t.2)) ends (inl (kept_answers t.3)) same
@@ -682,7 +699,7 @@ module _ (is_raw : Bool) where
       ends = inl r.ends.0;
       goes_on = λ on. tt;
       prints = inl (Appends-kept held wrote holds (answers_of is_raw r.told) r.prints kept);
-      reports = r.reports;
+      reports = inl r.reports;
     }
 
   -- nothing was begun

@@ -1,6 +1,7 @@
 -- What a run of a script takes of its reader, what its lines tell, and what it prints.
 use Rattle.std.specs.Prelude.{[], ◌≡◌, ◌⊎◌, ◌<◌, ◌≤◌, ◌+◌, ◌-◌, ◌^◌, ℕ, suc, Bool, true, false, List, ◌∷◌, ◌++◌, length}
-use Rattle.std.specs.Prelude.{Option, Some, None, IfSome, Result, Ok, Err, IfErr}
+use Rattle.std.specs.Prelude.{Option, Some, None, IfSome, is_some, Result, Ok, Err, IfErr, ◌&&◌, nat_lt, codes}
+use Rattle.std.specs.Fmt.{decimal}
 use Rattle.std.specs.List.{All, flat_map}
 use Rattle.std.specs.Io.KnownBytes.{Appends, Consumes, IsAtEnd}
 use Rattle.command_line.specs.declared.settings.Options.{Options}
@@ -16,7 +17,12 @@ use Rattle.next_master.specs.answers.declared.answer.Answer.TheVariants.{Silent}
 use Rattle.next_master.specs.answers.declared.fault.ScriptFault.{ScriptFault}
 use Rattle.next_master.specs.answers.declared.fault.ScriptFault.TheVariants.{BadLine, ReadFailed, WriteFailed, NoMemory}
 use Rattle.next_master.specs.answers.Errors.{Errors, Writes}
-use Rattle.next_master.specs.answers.Texts.{fault_lines}
+use Rattle.next_master.specs.answers.Texts.{error_line, fault_lines}
+use Rattle.next_master.specs.cluster.Told.{command_of}
+use Rattle.next_master.specs.cluster.declared.node.Node.{Node}
+use Rattle.next_master.specs.cluster.declared.node.Node.TheVariants.{Up}
+use Rattle.next_master.specs.master.log_laws.Data.{durable_of}
+use Rattle.next_master.specs.master.master_state.Log.{log_of}
 use Rattle.script.specs.declared.session.Session.{Session}
 use Rattle.next_master.specs.Configuration.{config_of, MayBegin}
 use Rattle.script.specs.Sessions.{RunsTurn, BeginsSession, SetsLater, later_after}
@@ -88,16 +94,40 @@ IsBadLine is_raw s number taken left =
     ⊎ ((text : List ℕ) × IsLineText is_raw text × IsTakenLine text taken left
     × ((number ≡ 2 ^ 64 - 1) ⊎ ((line : LineValue) → SaysIn is_raw text line → Allows s line → ⊥)))
 
+-- ---- commands that may have been made
+
+-- how many records a node's master has made
+abbrev pub made_by : Node → Option ℕ
+made_by (Up m) = Some (length m.knows.history)
+made_by _ = None
+
+-- A master had made so many records. Now it has more, and not all of them are durable. Or it was dropped.
+abbrev pub has_unsure : Option ℕ → Node → Bool
+has_unsure (Some made) (Up m) =
+    nat_lt made (length m.knows.history) && nat_lt (durable_of (log_of m.knows)) (length m.knows.history)
+has_unsure (Some made) _ = true
+has_unsure None _ = false
+
+-- whether the line has a command
+abbrev pub has_command : LineValue → Bool
+has_command line = is_some (command_of line)
+
+-- The line has a command. Its record may be one that a recovery doesn't find, or its master was dropped.
+abbrev pub may_be_made : Session → LineValue → Session → Bool
+may_be_made old line new = has_command line && has_unsure (made_by old.node) new.node
+
 -- ---- one session
 
 -- the session takes no line with this text
 abbrev pub IsRefusedText : Bool → Session → List ℕ → Type 0
 IsRefusedText is_raw s text = (line : LineValue) → SaysIn is_raw text line → Allows s line → ⊥
 
--- A line was run on a session, which became another. If it was skipped, the session doesn't take its text.
+-- A line was run on a session, which became another. If it was skipped, the session doesn't take its text. Its command
+-- is unsure just if it may have been made and has no reply.
 abbrev pub IsTurn : Bool → Session → Told → Session → Type 0
 IsTurn is_raw old t new =
     RunsTurn old t.line new t.answer × IfSome t.skipped (λ (why : Reason). IsRefusedText is_raw old t.text)
+    × (t.unsure ≡ may_be_made old t.line new)
 
 -- the lines were run in turn, each on the session that the line before it left
 abbrev pub AreRunOn : Bool → Session → List Told → Session → Type 0
@@ -119,13 +149,23 @@ IsReasonFor is_raw backups number taken left why =
 
 -- ---- what is reported
 
+-- how a run ends: with Ok it says whether a bad line was skipped
+abbrev pub RunResult : Type 0
+RunResult = Result Bool ScriptFault
+
 abbrev pub report_as : Bool → ℕ → Option Reason → List ℕ
 report_as explains number None = []
 report_as explains number (Some why) = fault_lines explains (BadLine number why)
 
--- what is reported of a line that has this number: its fault if it was skipped, and else nothing
+-- that the command of a line may have been made, if that is so and is to be explained
+abbrev pub unsure_line : Bool → Bool → ℕ → List ℕ
+unsure_line true true number =
+    error_line (codes "the command of line " ++ decimal number ++ codes " may have been made")
+unsure_line _ _ _ = []
+
+-- what is reported of a line that has this number: its fault if it was skipped, or that its command is unsure
 abbrev pub report_of : Bool → ℕ → Told → List ℕ
-report_of explains number t = report_as explains number t.skipped
+report_of explains number t = report_as explains number t.skipped ++ unsure_line t.unsure explains number
 
 -- what is reported of lines, of which the first has this number
 abbrev pub reports_of : Bool → ℕ → List Told → List ℕ
@@ -137,6 +177,13 @@ abbrev pub Reports : Errors → Errors → List ℕ → Type 0
 Reports old new [] = new ≡ old
 Reports old new (b ∷ bs) = Writes old new (b ∷ bs)
 
+-- These lines were reported. If the writer failed, the last of them may be left out.
+abbrev pub ReportsAll : Errors → Errors → List Told → RunResult → Type 0
+ReportsAll before after told (Err WriteFailed) = Reports before after (reports_of before.explains 1 told)
+    ⊎ ((front : List Told) × (last : Told) × (told ≡ front ++ last ∷ [])
+    × Reports before after (reports_of before.explains 1 front))
+ReportsAll before after told result = Reports before after (reports_of before.explains 1 told)
+
 abbrev pub skips_as : Bool → Option Reason → Bool
 skips_as before None = before
 skips_as before (Some why) = true
@@ -147,10 +194,6 @@ has_skipped before [] = before
 has_skipped before (t ∷ ts) = has_skipped (skips_as before t.skipped) ts
 
 -- ---- a run
-
--- how a run ends: with Ok it says whether a bad line was skipped
-abbrev pub RunResult : Type 0
-RunResult = Result Bool ScriptFault
 
 -- the fault ends even a run that keeps going: it is no bad line, or the line is too long or one too many
 abbrev pub EndsRun : ScriptFault → Type 0
@@ -201,5 +244,5 @@ pub record RunsScript (keeps is_raw : Bool) (options : Options) (had left held h
   pub ends : EndsWith is_raw options told taken left result
   pub goes_on : keeps ≡ true → IfErr result EndsRun
   pub prints : Prints is_raw held holds told result
-  -- each line that was skipped was reported, and nothing else
-  pub reports : Reports before after (reports_of before.explains 1 told)
+  -- each line that was skipped or is unsure was reported, and nothing else
+  pub reports : ReportsAll before after told result

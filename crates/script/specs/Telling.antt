@@ -1,5 +1,5 @@
 -- What the lines of a script tell of one life after another.
-use Rattle.std.specs.Prelude.{[], ◌≡◌, ◌⊎◌, ℕ, List, ◌∷◌, Option}
+use Rattle.std.specs.Prelude.{[], ◌≡◌, ◌⊎◌, ℕ, List, ◌∷◌, Bool, Option}
 use Rattle.lines.specs.Grammar.{LineValue}
 use Rattle.lines.specs.declared.reason.Reason.{Reason}
 use Rattle.next_master.specs.master.master_state.declared.config.Config.{Config}
@@ -10,12 +10,14 @@ use Rattle.next_master.specs.cluster.Told.{Tells}
 use Rattle.next_master.specs.Succession.{Standing, IsTold, Succeeds}
 
 -- A line that was run: its text without the line feed, what it says, and what it answered. A bad line that was skipped
--- is told as one that says nothing, with the reason why it is bad.
+-- is told as one that says nothing, with the reason why it is bad. A command without a reply that may have been made is
+-- unsure.
 pub record Told : Type 0 where
   pub text : List ℕ
   pub line : LineValue
   pub answer : Answer
   pub skipped : Option Reason
+  pub unsure : Bool
 
 -- at the start nothing is told of the life
 abbrev pub at_first : Config → Life → Standing

@@ -15,7 +15,7 @@ use Rattle.script.specs.declared.session.LineFault.{LineFault}
 use Rattle.script.specs.declared.session.LineFault.TheVariants as line_fault
 use Rattle.script.specs.declared.session.Session.{Session}
 use Rattle.script.specs.Runs.{IsOfFleet, IsTakenLine, IsBadLine, IsReasonFor, IsReasonOf, IsRefusedText, IsScriptLine}
-use Rattle.script.specs.Runs.{EndsRun, IsTurn, Reports, report_of, skips_as}
+use Rattle.script.specs.Runs.{EndsRun, IsTurn, Reports, has_command, report_of, skips_as}
 use Rattle.script.specs.Sessions.{Forgets, RunsTurn, SetsLater, later_after}
 use Rattle.script.specs.Telling.{Told}
 use Rattle.next_master.specs.Configuration.{MayBegin}
@@ -48,20 +48,27 @@ pub record RunsText (is_raw : Bool) (old : Session) (text : List ℕ) (new : Ses
   pub of_fleet : IsOfFleet old.options.backups line
   pub runs : RunsTurn old line new answer
 
--- the line of a text was run, and its answer was written
-abbrev pub AnswersText : Bool → Session → List ℕ → Session → Known → Known → Type 0
-AnswersText is_raw old text new held holds =
-    (answer : Answer) × RunsText is_raw old text new answer × Appends held holds (told_text is_raw answer)
+-- the line of a text was run, and its answer was written; `has` says whether it has a command
+abbrev pub AnswersText : Bool → Session → List ℕ → Session → Known → Known → Bool → Type 0
+AnswersText is_raw old text new held holds has =
+    (answer : Answer) × (runs : RunsText is_raw old text new answer) × Appends held holds (told_text is_raw answer)
+    × (has_command runs.line ≡ has)
 
 -- an answer was written, or the writer failed and took a front of it
 abbrev pub IsPrinted : Bool → Known → Known → Answer → Result (Unit {0}) ScriptFault → Type 0
 IsPrinted is_raw held holds answer (Ok done) = Appends held holds (told_text is_raw answer)
 IsPrinted is_raw held holds answer (Err e) = (e ≡ fault.WriteFailed) × AppendsFront held holds (told_text is_raw answer)
 
+-- the same of a line without a command, which Ok says by false
+abbrev pub IsPrintedPlain : Bool → Known → Known → Answer → Result Bool ScriptFault → Type 0
+IsPrintedPlain is_raw held holds answer (Ok has) = (has ≡ false) × Appends held holds (told_text is_raw answer)
+IsPrintedPlain is_raw held holds answer (Err e) =
+    (e ≡ fault.WriteFailed) × AppendsFront held holds (told_text is_raw answer)
+
 -- The line was run and its answer written; or the writer failed, or memory ran out. Or the line is bad: then nothing was
 -- done, but that the session's master may have forgotten.
-abbrev pub PrintsText : Bool → Session → Session → List ℕ → ℕ → Known → Known → Result (Unit {0}) ScriptFault → Type 0
-PrintsText is_raw old new text number held holds (Ok done) = AnswersText is_raw old text new held holds
+abbrev pub PrintsText : Bool → Session → Session → List ℕ → ℕ → Known → Known → Result Bool ScriptFault → Type 0
+PrintsText is_raw old new text number held holds (Ok has) = AnswersText is_raw old text new held holds has
 PrintsText is_raw old new text number held holds (Err (fault.BadLine n why)) =
     (n ≡ number) × IsRefusedText is_raw old text × Keeps held holds
     × IsReasonOf is_raw old.options.backups text why × Forgets old new

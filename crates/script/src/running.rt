@@ -1,6 +1,6 @@
 //! Runs a script, line by line.
 
-ghost use Rattle.std.specs.Prelude.{◌≡◌, None};
+ghost use Rattle.std.specs.Prelude.{◌≡◌, None, true};
 ghost use Rattle.next_master.specs.master.master_state.Config.{config_fault};
 ghost use Rattle.command_line.specs.declared.settings.Options.{Options as OptionsValue};
 ghost use Rattle.lines.specs.Grammar.{IsLine, shown_command, shown_line};
@@ -8,11 +8,13 @@ ghost use Rattle.raw_lines.specs.Raw.{SaysIn};
 ghost use Rattle.lines.specs.Reading.{IsLineText};
 ghost use Rattle.next_master.specs.cluster.Told.{command_of};
 ghost use Rattle.next_master.specs.Configuration.{config_of};
-ghost use Rattle.script.specs.Runs.{RunsScript};
+ghost use Rattle.script.specs.Runs.{Reports, RunsScript, has_unsure, unsure_line};
+ghost use Rattle.next_master.specs.answers.Errors.{Writes};
 ghost use Rattle.next_master.specs.answers.declared.answer.Answer.{Answer as AnswerValue};
 ghost use Rattle.script.specs.declared.session.Session.{Session as SessionValue};
 ghost use Rattle.script.specs.Sessions.{BeginsSession, Forgets, SessionAnswers, Stands, IsPrintedAs, IsTended, TriesCommand};
-ghost use Rattle.script.specs.Turns.{HasValue, IsNoMore, IsPrinted, PrintsText, ReportsBadLine, TakesText, TakesTurn};
+ghost use Rattle.script.specs.Turns.{HasValue, IsNoMore, IsPrinted, IsPrintedPlain, PrintsText, ReportsBadLine};
+ghost use Rattle.script.specs.Turns.{TakesText, TakesTurn};
 
 use crate::outcome::Outcome;
 use crate::session::{LineFault, Session};
@@ -192,7 +194,8 @@ fn run_next<H: Threads + Wait + Sync, R: BufRead, W: Write, E: Write + Drop>(
     }
 }
 
-/// Runs the line of a text. If it is bad and the run keeps going, the line is reported and skipped.
+/// Runs the line of a text. If it is bad and the run keeps going, the line is reported and skipped. A command that may
+/// have been made, though it has no reply, is reported if the error output explains.
 fn run_or_skip<H: Threads + Wait + Sync, W: Write, E: Write + Drop>(
     rt: &H,
     writer: &mut W,
@@ -209,8 +212,13 @@ fn run_or_skip<H: Threads + Wait + Sync, W: Write, E: Write + Drop>(
     ensures { TakesText keeps_going is_raw session.old session.new text.now number
         (W.contents writer.old) (W.contents writer.new) errors.old errors.new skipped.old skipped.new result }
 {
+    let made = session.made();
     match run_text(rt, writer, session, text, number, is_raw) {
-        Ok(()) => Ok(()),
+        Ok(true) => {
+            report_unsure(session, made, number, errors);
+            Ok(())
+        }
+        Ok(false) => Ok(()),
         Err(fault) => {
             if !keeps_going {
                 return Err(fault);
@@ -240,7 +248,39 @@ fn report_bad_line<E: Write + Drop>(fault: &ScriptFault, errors: &mut ErrorOutpu
     }
 }
 
-/// Runs the line of a text, and writes its answer. Behind that the master may forget.
+/// Reports that the command of the line with this number may have been made, if that is so and the error output
+/// explains. Before the line a master had made so many records.
+fn report_unsure<E: Write + Drop>(
+    session: &Session,
+    made: Option<u64>,
+    number: u64,
+    errors: &mut ErrorOutput<E>,
+)
+    ensures { Reports errors.old errors.new
+        (unsure_line (has_unsure made session.now.node) errors.old.explains number) }
+{
+    if !errors.explains() {
+        return;
+    }
+    if session.has_unsure(made) {
+        write_unsure(number, errors);
+    }
+}
+
+/// Writes the line that says that the command of the line with this number may have been made.
+#[inline(never)]
+fn write_unsure<E: Write + Drop>(number: u64, errors: &mut ErrorOutput<E>)
+    ensures { Writes errors.old errors.new (unsure_line true true number) }
+{
+    let mut digits = itoa::Buffer::new();
+    errors.write(b"ramlog: the command of line ");
+    errors.write(digits.format(number).as_bytes());
+    errors.write(b" may have been made\n");
+    errors.flush();
+}
+
+/// Runs the line of a text, and writes its answer. Behind that the master may forget. Ok says whether the line has a
+/// command.
 #[tactic(auto, using(crate::proofs::Commanding::line_in, crate::proofs::Commanding::value_in, crate::proofs::Commanding::has_no_command))]
 fn run_text<H: Threads + Wait + Sync, W: Write>(
     rt: &H,
@@ -249,7 +289,7 @@ fn run_text<H: Threads + Wait + Sync, W: Write>(
     text: &[u8],
     number: u64,
     is_raw: bool,
-) -> Result<(), ScriptFault>
+) -> Result<bool, ScriptFault>
     requires text { IsLineText is_raw text.now }
     requires stands { Stands session.old }
     ensures { PrintsText is_raw session.old session.new text.now number
@@ -266,7 +306,10 @@ fn run_text<H: Threads + Wait + Sync, W: Write>(
         Line::Command(command) => {
             let printed = run_command(writer, session, command, is_raw);
             session.forget();
-            printed
+            match printed {
+                Ok(()) => Ok(true),
+                Err(fault) => Err(fault),
+            }
         }
         other => {
             let printed = run_other(rt, writer, session, text, other, number, is_raw);
@@ -339,7 +382,7 @@ fn finish_command<W: Write>(
     print(writer, session, &outcome, is_raw)
 }
 
-/// Runs the line of this text, which has no command, and writes its answer.
+/// Runs the line of this text, which has no command, and writes its answer. So Ok comes with false.
 #[inline(never)]
 fn run_other<H: Threads + Wait + Sync, W: Write>(
     rt: &H,
@@ -349,7 +392,7 @@ fn run_other<H: Threads + Wait + Sync, W: Write>(
     line: Line<'_>,
     number: u64,
     is_raw: bool,
-) -> Result<(), ScriptFault>
+) -> Result<bool, ScriptFault>
     requires says { SaysIn is_raw _text.now (shown_line line) }
     requires line { IsLine (shown_line line) }
     requires other { command_of (shown_line line) ≡ None }
@@ -359,7 +402,7 @@ fn run_other<H: Threads + Wait + Sync, W: Write>(
 {
     let backups = session.backups();
     match session.run_any(rt, line) {
-        Ok(answer) => print_answer(writer, &answer, is_raw),
+        Ok(answer) => print_plain(writer, &answer, is_raw),
         Err(LineFault::NoBackup) => {
             // This text is that of no other line.
             one_plain_line();
@@ -390,6 +433,16 @@ fn print<W: Write>(
             Ok(()) => Ok(()),
             Err(_) => Err(ScriptFault::WriteFailed),
         },
+    }
+}
+
+/// Writes the answer of a line without a command. So Ok comes with false.
+fn print_plain<W: Write>(writer: &mut W, answer: &Answer, is_raw: bool) -> Result<bool, ScriptFault>
+    ensures { IsPrintedPlain is_raw (W.contents writer.old) (W.contents writer.new) answer.now result }
+{
+    match write_told(writer, answer, is_raw) {
+        Ok(()) => Ok(false),
+        Err(_) => Err(ScriptFault::WriteFailed),
     }
 }
 

@@ -17,7 +17,7 @@ ghost use Rattle.lines.specs.Numbers.{numbers_of};
 ghost use Rattle.next_master.specs.master.master_state.Config.{config_fault};
 ghost use Rattle.next_master.specs.Configuration.{config_of, MayBegin};
 ghost use Rattle.script.specs.declared.session.LineFault.TheVariants as line_fault;
-ghost use Rattle.script.specs.Runs.{IsOfFleet};
+ghost use Rattle.script.specs.Runs.{IsOfFleet, has_unsure, made_by};
 ghost use Rattle.script.specs.declared.session.Session.{Session as SessionValue};
 ghost use Rattle.script.specs.Sessions.{RunsLine, SessionRecovers, IsPrintedAs, TriesCommand};
 ghost use Rattle.script.specs.Sessions.{BeginsSession, SessionAnswers, Stands};
@@ -376,6 +376,31 @@ impl Session {
     {
         let victims = row_of(self.alloc, segments)?;
         Ok(self.node.clean(victims))
+    }
+
+    /// How many records the node's master has made. None without a master.
+    #[inline(always)]
+    pub(crate) fn made(&self) -> Option<u64>
+        ensures { result ≡ made_by self.now.node }
+    {
+        match &self.node {
+            Node::Up(up) => Some(up.history().len() as u64),
+            _ => None,
+        }
+    }
+
+    /// Whether a master that had made so many records has more now, not all of which are durable, or was dropped.
+    pub(crate) fn has_unsure(&self, made: Option<u64>) -> bool
+        ensures { result ≡ has_unsure made self.now.node }
+    {
+        let Some(made) = made else {
+            return false;
+        };
+        let Node::Up(up) = &self.node else {
+            return true;
+        };
+        let now = up.history().len() as u64;
+        made < now && up.durable() < now
     }
 
     /// How many steps the cleaner makes behind the command of a line: none behind a get.

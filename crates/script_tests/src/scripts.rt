@@ -113,6 +113,17 @@ const EXPLAINED: &[(&[&str], &[u8], &str)] = &[
         b"",
         "ramlog: bad configuration BadBudget\nramlog: --seglets is less than those of four segments by 1\n",
     ),
+    // The record was made, and its push ends in a fault. The next command finds the master halted, and has no record.
+    (
+        &["ramlog"],
+        b"put 1 a x\nfault 1 lost\nput 1 a y\nput 1 a z\n",
+        "ramlog: the command of line 3 may have been made\n",
+    ),
+    (
+        &["ramlog"],
+        b"stop 0\nput 1 a x\n",
+        "ramlog: the command of line 2 may have been made\n",
+    ),
 ];
 
 /// Whether these lines are written to the error output.

@@ -8,19 +8,20 @@ use Rattle.script.specs.Sessions.{Forgets}
 use Rattle.script.specs.Turns.{RefusesLine}
 use Rattle.script.specs.declared.session.Session.{Session}
 use Rattle.script.proofs.Commanding.{no_backup, says_none}
-use Rattle.script.proofs.Turning.{answer_printed}
+use Rattle.script.proofs.Turning.{plain_printed}
+use Rattle.std.specs.Prelude.{is_some}
 use Rattle.script.proofs.running.run_other.Goals as goal
 
 pub returns-in-Ok : goal.returns-in-Ok
 returns-in-Ok g c = λ last forgets.
-    answer_printed c.args.is_raw _ _ _ _ _ _ c.in-Ok.answer c.print_answer.result
+    plain_printed c.args.is_raw _ _ _ _ _ _ c.in-Ok.answer c.print_plain.result
     (record {
       line = shown_line c.args.line;
       says = c.requires.says;
       of_fleet = c.in-Ok.ensures.of_fleet;
       runs = (c.run_any.new.self, c.in-Ok.ensures.ran, forgets);
     })
-    c.print_answer.ensures
+    (ap is_some c.requires.other) c.print_plain.ensures
 
 pub returns-in-Err-NoBackup : goal.returns-in-Err-NoBackup
 returns-in-Err-NoBackup g c = λ last forgets.
