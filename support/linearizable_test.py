@@ -5,6 +5,7 @@
 
 - Traces that were broken on purpose, each with the lines that have to be named.
 - COUNT small traces at random, with any replies: the verdict has to be that of a search through all orders.
+- Each of all these traces once more, split into parts: the verdict and the lines that are named have to be the same.
 - COUNT traces of a store that does each call at one moment, some of them stopped and recovered: each has to pass. Then
   one thing of each is broken (a stale get, a lost update, a write that appears twice, an answered write that is lost, a
   value that nobody wrote), and each has to be refused.
@@ -23,6 +24,9 @@ loader = importlib.machinery.SourceFileLoader("linearizable", f"{TOP}/bin/linear
 sys.dont_write_bytecode = True
 checker = importlib.util.module_from_spec(importlib.util.spec_from_loader("linearizable", loader))
 loader.exec_module(checker)
+
+# Into how many parts a trace is split.
+PARTS = 3
 
 # Each with the lines that contradict each other. No lines: the trace is linearizable.
 TRACES = {
@@ -84,18 +88,43 @@ def verdict(lines):
     return None
 
 
-def named(text):
-    """The lines that are named."""
-    contradiction = verdict(text.split("\n"))
+def verdict_in_parts(lines):
+    """The same of a trace that is split into parts."""
+    try:
+        checker.conclude(checker.find_by_parts(lines, PARTS, map)[0])
+    except checker.Contradiction as contradiction:
+        return contradiction
+    return None
+
+
+def lines_named(contradiction):
     return () if contradiction is None else tuple(call.at for call in contradiction.calls)
 
 
-def is_bad(text):
+def named(text):
+    """The lines that are named."""
+    return lines_named(verdict(text.split("\n")))
+
+
+def differs_in_parts(lines):
+    """Whether the trace is judged otherwise if it is split."""
+    told = [(str(one), lines_named(one)) for one in (verdict(lines), verdict_in_parts(lines))]
+    return told[0] != told[1]
+
+
+def why_bad(read, lines):
+    """What is said of a file that is no trace; None if it is one."""
     try:
-        checker.read(text.split("\n"))
-    except checker.BadTrace:
-        return True
-    return False
+        read(lines)
+    except checker.BadTrace as bad:
+        return str(bad)
+    return None
+
+
+def is_bad_in_parts(lines):
+    """Whether a file that is no trace is refused for the same reason if it is split."""
+    told = why_bad(checker.read, lines)
+    return told is not None and told == why_bad(lambda some: checker.find_by_parts(some, PARTS, map), lines)
 
 
 # ---- all orders of one key
@@ -271,6 +300,10 @@ def random_tests(seed, count):
             tests += 1
             if verdict(lines_of(*broken)) is None:
                 failed.append(f"seed {number}: a broken trace passes:\n" + "\n".join(lines_of(*broken)))
+        for some in (lines, lines_of(*run), lines_of(*(broken or run))):
+            tests += 1
+            if differs_in_parts(some):
+                failed.append(f"seed {number}: in parts a trace is judged otherwise:\n" + "\n".join(some))
     return failed, tests
 
 
@@ -280,11 +313,12 @@ def main(words):
         return 0
     seed, count = (int(words[0]), int(words[1])) if len(words) == 2 else (1, 2000)
     failed = [f"{name}: named {named(text)}" for name, (text, lines) in TRACES.items() if named(text) != lines]
-    failed += [f"{name}: it is read" for name, text in BAD.items() if not is_bad(text)]
+    failed += [f"{name}: in parts it is judged otherwise" for name, (text, _) in TRACES.items() if differs_in_parts(text.split("\n"))]
+    failed += [f"{name}: it is read" for name, text in BAD.items() if not is_bad_in_parts(text.split("\n"))]
     more, tests = random_tests(seed, count)
     for line in failed + more:
         print(line)
-    tests += len(TRACES) + len(BAD)
+    tests += 2 * len(TRACES) + len(BAD)
     print(f"{tests} tests, {len(failed + more)} failed")
     return 1 if failed or more else 0
 

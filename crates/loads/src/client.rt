@@ -5,14 +5,17 @@ ghost use Rattle.std.specs.Prelude.{◌≡◌, ◌≤◌, ◌<◌, ◌+◌, ◌*
 use crate::operations::operate;
 use crate::plan::Task;
 use crate::work::Work;
-use counted_calls::locked_log::{CallFault, Naming, Seat, Store};
+use counted_calls::locked_log::{CallFault, Naming, Notes, Seat, Store};
 use load_keys::Keys;
 use replica::Fleet;
 use std::io::Eprint;
-use std::sync::Wait;
 use std::sync::atomic::{AtomicU64, Ordering};
+use std::sync::{Mutex, Wait};
 use std::thread::Promise;
 use std::time::Clock;
+
+/// Behind so many operations of a thread the store forgets.
+const FORGETS: u64 = 1_024;
 
 /// What a thread leaves behind.
 #[derive(Drop)]
@@ -51,6 +54,7 @@ impl<B: Naming> Promise<Ended<B>> for Promised {
 pub(crate) fn serve<F: Fleet, B: Naming, R: Wait + Clock + Eprint>(
     rt: &R,
     store: &Store<F, B>,
+    notes: &Mutex<Notes>,
     seat: Seat<B>,
     work: Work,
     task: Task,
@@ -65,7 +69,7 @@ pub(crate) fn serve<F: Fleet, B: Naming, R: Wait + Clock + Eprint>(
 {
     let mut seat = seat;
     let mut work = work;
-    let calls = serve_all(rt, store, &mut seat, &mut work, &task, keys, made);
+    let calls = serve_all(rt, store, notes, &mut seat, &mut work, &task, keys, made);
     let _before = ended.fetch_add(1, Ordering::SeqCst);
     Ended { seat, calls, work }
 }
@@ -74,6 +78,7 @@ pub(crate) fn serve<F: Fleet, B: Naming, R: Wait + Clock + Eprint>(
 fn serve_all<F: Fleet, B: Naming, R: Wait + Clock + Eprint>(
     rt: &R,
     store: &Store<F, B>,
+    notes: &Mutex<Notes>,
     seat: &mut Seat<B>,
     work: &mut Work,
     task: &Task,
@@ -87,12 +92,20 @@ fn serve_all<F: Fleet, B: Naming, R: Wait + Clock + Eprint>(
 {
     let mut calls: u64 = 0;
     for done in 0..task.plan.operations {
-        let more = operate(rt, store, seat, work, task, keys, made)?;
+        let more = operate(rt, store, notes, seat, work, task, keys, made)?;
         calls += more;
         work.operations = work.operations.saturating_add(1);
         show(rt, task, done);
+        forget(rt, store, done);
     }
     Ok(calls)
+}
+
+/// Has the store forget, behind each 1,024th operation of the thread.
+fn forget<F: Fleet, B: Naming, R: Wait>(rt: &R, store: &Store<F, B>, done: u64) {
+    if done % FORGETS == FORGETS - 1 {
+        let _forgotten = store.forget(rt);
+    }
 }
 
 /// Shows how far the first thread is, at each percent, if that is asked for.

@@ -6,6 +6,10 @@
 //! the thread counts calls (`specs/Threads.antt`). The master that comes back is valid, and its history begins with the
 //! records that it had.
 //!
+//! One thread at a time cleans, the cleaner or one that finds no room, with notes that all of them share. The others
+//! that find no room sleep meanwhile. If they all cleaned at once, each step would wait for the lock behind the steps of
+//! the others.
+//!
 //! `object_of` and `fresh_value` are the keys and values of a load, for whoever fills the store before.
 //!
 //! The crate stands on `counted_calls`, `load_keys` and `load_report`. It starts threads, reads the clock, and shows on

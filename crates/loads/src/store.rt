@@ -6,11 +6,13 @@ ghost use Rattle.counted_calls.specs.master.Valid.{IsValid};
 ghost use Rattle.counted_calls.specs.master.World.{world};
 ghost use Rattle.history_row.specs.Rows.{IsRowOf};
 
+use crate::cleaning::clean_at_first;
 use crate::client::Thread;
 use crate::plan::Plan;
 use crate::running::run_threads;
+use crate::tracing::nanos;
 use crate::work::Work;
-use counted_calls::locked_log::{Blank, CallFault, Naming, Seat, Store};
+use counted_calls::locked_log::{Blank, CallFault, Naming, Notes, Seat, Store};
 use counted_calls::master::{Master, Refusal};
 use counted_calls::take_back;
 use load_keys::Keys;
@@ -18,8 +20,8 @@ use replica::Fleet;
 use std::alloc::Global;
 use std::io::Eprint;
 use std::marker::Brand;
-use std::sync::Wait;
 use std::sync::atomic::AtomicU64;
+use std::sync::{Mutex, Wait};
 use std::thread::Threads;
 use std::time::Clock;
 
@@ -32,6 +34,8 @@ pub struct Outcome<F: Fleet> {
     pub works: Vec<Work>,
     /// The fault of the first thread that was ended by one.
     pub fault: Option<CallFault>,
+    /// How many nanoseconds the threads took, from the start of the first one to the end of the last one.
+    pub took: u64,
     /// Whether the store could tell whose its records are when it was closed.
     pub is_known: bool,
 }
@@ -66,6 +70,7 @@ fn refused<F: Fleet>(alloc: Global, master: Master<F>) -> Outcome<F>
         master,
         works: Vec::new(alloc),
         fault: Some(CallFault::Refused(Refusal::NoMemory)),
+        took: 0,
         is_known: true,
     }
 }
@@ -97,17 +102,19 @@ fn load_in<F: Fleet + Send, B: Naming + Send + Sync, R: Threads + Wait + Clock +
     };
     let mut back = Vec::new(plan.alloc);
     let mut works = Vec::new(plan.alloc);
-    let fault = run_seats(rt, &store, seats, plan, keys, made, &mut back, &mut works);
+    let (fault, took) = run_seats(rt, &store, seats, plan, keys, made, &mut back, &mut works);
     let (master, is_known) = take_back(store, back);
     Outcome {
         master,
         works,
         fault,
+        took,
         is_known,
     }
 }
 
-/// Has the seats make their operations, and collects what the threads leave behind. The result is the first fault.
+/// Cleans first. Then the seats make their operations, and what the threads leave behind is collected. The result is the
+/// first fault, and how long the threads took.
 fn run_seats<F: Fleet + Send, B: Naming + Send + Sync, R: Threads + Wait + Clock + Eprint + Sync>(
     rt: &R,
     store: &Store<F, B>,
@@ -117,13 +124,19 @@ fn run_seats<F: Fleet + Send, B: Naming + Send + Sync, R: Threads + Wait + Clock
     made: &AtomicU64,
     back: &mut Vec<Seat<B>>,
     works: &mut Vec<Work>,
-) -> Option<CallFault>
+) -> (Option<CallFault>, u64)
     requires { plan.operations < 2 ^ 40 }
 {
+    let mut noted = Notes::new(plan.alloc);
+    clean_at_first(rt, store, &plan.policy, &mut noted);
+    let notes = Mutex::new(noted);
     let ended = AtomicU64::new(0);
-    match run_threads(rt, store, seats, plan, keys, made, &ended) {
-        Ok(threads) => gather(threads, back, works),
-        Err(_) => Some(CallFault::Refused(Refusal::NoMemory)),
+    let start = nanos(rt);
+    let outcome = run_threads(rt, store, &notes, seats, plan, keys, made, &ended);
+    let took = nanos(rt).saturating_sub(start);
+    match outcome {
+        Ok(threads) => (gather(threads, back, works), took),
+        Err(_) => (Some(CallFault::Refused(Refusal::NoMemory)), took),
     }
 }
 

@@ -2,7 +2,7 @@
 
 use crate::plan::Task;
 use crate::tracing::{trace_answer, trace_fault};
-use counted_calls::locked_log::{CallFault, Notes};
+use counted_calls::locked_log::CallFault;
 use counted_calls::master::{Command, Reply};
 use entry::NoMemory;
 use load_keys::Words;
@@ -12,7 +12,6 @@ use load_report::{Latencies, Lines};
 #[derive(Drop)]
 pub struct Work {
     pub(crate) words: Words,
-    pub(crate) notes: Notes,
     /// How many values it made.
     pub(crate) values: u64,
     /// How many operations it made.
@@ -37,7 +36,6 @@ impl Work {
         let mut seeds = Words::new(task.plan.seed.wrapping_add(task.thread));
         Ok(Work {
             words: Words::new(seeds.word()),
-            notes: Notes::new(task.plan.alloc),
             values: 0,
             operations: 0,
             reads,

@@ -106,7 +106,7 @@ fn run_threads<R: Threads + Wait + Clock + Eprint + Sync>(
     options: &Options,
     made: &AtomicU64,
     is_traced: bool,
-) -> Result<(Outcome<MemoryFleet>, u64), Fault> {
+) -> Result<Outcome<MemoryFleet>, Fault> {
     let spread = match options.spread {
         Some(spread) => spread,
         None => options.load.spread(),
@@ -124,9 +124,7 @@ fn run_threads<R: Threads + Wait + Clock + Eprint + Sync>(
     if let Some(steps) = options.stop {
         master.limit(steps);
     }
-    let start = nanos(rt);
-    let outcome = run_load(rt, master, plan, &keys, made);
-    Ok((outcome, nanos(rt).saturating_sub(start)))
+    Ok(run_load(rt, master, plan, &keys, made))
 }
 
 /// Prints what a load printed of its times.
@@ -223,13 +221,13 @@ pub fn run<R: Threads + Wait + Clock + Eprint + Print + Files + Sync>(
     say_speed(rt, options.records, "puts of new keys", 1, filled)?;
     let made = AtomicU64::new(options.records);
     let master = take_master(&mut store)?;
-    let (outcome, took) = run_threads(rt, alloc, master, options, &made, path.is_some())?;
     let Outcome {
         master,
         works,
         fault,
+        took,
         is_known,
-    } = outcome;
+    } = run_threads(rt, alloc, master, options, &made, path.is_some())?;
     say(rt, alloc, options, works.as_slice(), took)?;
     say_fault(rt, &fault)?;
     let count = made.load(Ordering::SeqCst);
