@@ -5,10 +5,11 @@
 
 A process runs puts and deletes over a few keys, and is killed (kill -9) at a random moment. The next process has to find the
 table that all answered lines make, or these and some of the lines that follow them, in order. N kills are made (40), with
-seed N (1). Other tests lose files, damage them, ask for other options, and have two processes ask for one folder.
+seed N (1). Other tests lose files, damage them, ask for other options, have two processes ask for one folder, and have calls on files
+fail: a library put before the C library does that (support/fail_call.c).
 
 A kill ends the process and not the system: what it wrote stays in the kernel's memory. No test here cuts the power.
-The last line is 'N tests, M failed', and the status is 1 if any failed. It needs python3 on Linux.
+The last line is 'N tests, M failed', and the status is 1 if any failed. It needs python3 on Linux, and a C compiler.
 """
 
 import os
@@ -158,6 +159,39 @@ def one_process_has_a_folder(program, folder):
     want(run(program, folder, b"get 1 a\n"), (b"recovered 1\n1 x\n", b"", 0))
 
 
+# ---- calls that fail
+
+def fails_at(program, folder, library, how, number):
+    """One life in which a call on a file fails, and the next one. Gives whether there was such a call."""
+    lines = [*some_lines(random.Random(number), 30, 0)]
+    named = {**os.environ, "LD_PRELOAD": library, "FAIL_CALL": str(number), "FAIL_HOW": how}
+    ended = subprocess.run([program, f"--dir={folder}"], input=b"".join(line for line, _, _ in lines), capture_output=True,
+                           timeout=SECONDS, env=named)
+    if b"fail_call" not in ended.stderr:
+        return False
+    answered = sum(row.startswith((b"ok ", b"none")) for row in ended.stdout.split(b"\n"))
+    if ended.returncode not in (0, REFUSED) or how in ("EINTR", "short") and answered < 30:
+        raise Wrong(f"call {number} failed by {how}: status {ended.returncode}, {ended.stdout[-200:]!r} {ended.stderr[-200:]!r}")
+    output, errors, status = run(program, folder, b"list 1\n")
+    want((errors, status), (b"", 0))
+    fits(lines, answered, {}, table_of(output))
+    return True
+
+
+def calls_that_fail_lose_nothing(program, folder):
+    """A write or a sync fails, is interrupted, or takes a few bytes at a time."""
+    library, compiler = f"{folder}/fail_call.so", shutil.which(os.environ.get("CC", "cc")) or shutil.which("gcc")
+    if not compiler:
+        raise Wrong("there is no C compiler")
+    subprocess.run([compiler, "-shared", "-fPIC", "-o", library, f"{TOP}/support/fail_call.c", "-ldl"], check=True)
+    for how in ("EIO", "ENOSPC", "EINTR", "short"):
+        for number in (*range(1, 10), *range(10, 200, 17)):
+            os.mkdir(f"{folder}/store")
+            if not fails_at(program, f"{folder}/store", library, how, number):
+                raise Wrong(f"there is no call {number}")
+            shutil.rmtree(f"{folder}/store")
+
+
 # ---- kills
 
 KEYS = [b"k%d" % number for number in range(20)]
@@ -182,6 +216,18 @@ def table_of(output):
     table = {row.split(b" ")[1]: row.split(b" ")[3] for row in rows[1:-2]}
     want((rows[-2], rows[0]), (b"listed %d" % len(table), b"recovered %d" % len(table)))
     return table
+
+
+def fits(lines, answered, table, found):
+    """The table that was found has to be the one that all answered lines make of this table, or these and some more."""
+    for number, (_, key, value) in enumerate([*lines, (b"", b"", None)]):
+        if number >= answered and table == found:
+            return
+        if value is None:
+            table.pop(key, None)
+        else:
+            table[key] = value
+    raise Wrong(f"{answered} lines were answered, and the table is none of those that they and the next ones make: {found!r}")
 
 
 def killed(program, folder, lines, seconds):
@@ -217,15 +263,8 @@ def one_kill(program, folder, dice, table, first):
     answered = killed(program, folder, lines, dice.choice([0.0, 0.01, 0.1, 0.3, 1.0]) * dice.random())
     output, errors, status = run(program, folder, b"list 1\n")
     want((errors, status), (b"", 0))
-    found, fits = table_of(output), False
-    for number, (_, key, value) in enumerate([*lines, (b"", b"", None)]):
-        fits = fits or number >= answered and table == found
-        if value is None:
-            table.pop(key, None)
-        else:
-            table[key] = value
-    if not fits:
-        raise Wrong(f"{answered} lines were answered, and the table is none of those that they and the next ones make: {found!r}")
+    found = table_of(output)
+    fits(lines, answered, table, found)
     return found, answered
 
 
@@ -240,7 +279,7 @@ def kills(program, folder, seed, count):
 
 TESTS = [
     a_table_outlives_its_process, any_bytes_outlive_it, a_bad_line_ends_the_run, memory_is_used_again, a_lost_backup_is_made_anew,
-    a_lost_table_is_named, other_options_are_named, folders_are_refused, one_process_has_a_folder,
+    a_lost_table_is_named, other_options_are_named, folders_are_refused, one_process_has_a_folder, calls_that_fail_lose_nothing,
 ]
 
 
