@@ -46,6 +46,13 @@ impl<D: Device> Journal<D> {
         self.is_open
     }
 
+    /// How many bytes the frames of an open journal have. A closed one answers what it had as it was closed.
+    pub fn len(&self) -> u64
+        ensures { result ≡ self.now.end }
+    {
+        self.end as u64
+    }
+
     /// The device.
     pub fn device(&self) -> &D
         ensures { result.now ≡ self.now.device }
