@@ -129,6 +129,53 @@ def other_options_are_named(program, folder):
     want(run(program, folder, b"get 1 a\n", ["--seglets=2048"]), (b"recovered 1\n1 x\n", b"", 0))
 
 
+def a_later_run_names_no_options(program, folder):
+    words = ["--replicas=2", "--segment=131072", "--seglets=512", "--live=0", "--tables=2", "--backups=4"]
+    run(program, folder, b"put 2 a x\n", words)
+    want(run(program, folder, b"get 2 a\nput 3 a x\n"), (b"recovered 1\n1 x\nrefused NoTablet\n", b"", 0))
+    want(len(backups(folder)), 4)
+    want_refusal(run(program, folder, b"", ["--segment=65536"]), 4)
+    want(run(program, folder, b"get 2 a\n", words), (b"recovered 1\n1 x\n", b"", 0))
+
+
+def several_folders_share_the_backups(program, folder):
+    """Of two folders, the second one has every other backup."""
+    others = [f"{folder}/other", f"{folder}/third"]
+    for other in others:
+        os.mkdir(other)
+    words = [f"--dir={others[0]}"]
+    want(run(program, folder, b"put 1 a x\n", words), (b"recovered 0\nok 1\n", b"", 0))
+    want([name[:9] for name in backups(folder)], ["backup-0-", "backup-2-"])
+    want([name[:9] for name in backups(others[0])], ["backup-1-"])
+    # A disk that is lost is some backups that are lost.
+    for name in backups(others[0]):
+        os.remove(f"{others[0]}/{name}")
+    want(run(program, folder, b"get 1 a\n", ["--dir", others[0]]), (b"recovered 1\n1 x\n", b"", 0))
+    want([name[:9] for name in backups(others[0])], ["backup-1-"])
+    # The folders are as many as they were, and none stands twice.
+    for words in ([], [f"--dir={others[0]}", f"--dir={others[1]}"]):
+        came = run(program, folder, b"", words)
+        want_refusal(came, 4)
+        if b"dir" not in came[1]:
+            raise Wrong(f"the number of folders isn't named: {came[1]!r}")
+    want_refusal(run(program, folder, b"", [f"--dir={folder}"]), 2)
+    want_refusal(run(program, folder, b"", [f"--dir={folder}/none"]), 1)
+    want(run(program, folder, b"get 1 a\n", [f"--dir={others[0]}"]), (b"recovered 1\n1 x\n", b"", 0))
+
+
+def long_files_are_written_anew(program, folder):
+    """What is put again and again doesn't stay in the files for ever."""
+    words = ["--raw", "--segment=1048576", "--seglet=65536", "--seglets=128"]
+    put = [b"put 1 1:%d 200000:%s\n" % (number % 4, b"%d" % (number % 10) * 200000) for number in range(150)]
+    want(run(program, folder, b"".join(put), words)[0].count(b"ok "), 150)
+    for _ in range(2):
+        output, errors, status = run(program, folder, b"get 1 1:3\nlist 1\n", ["--raw"])
+        want((output[:12], output[12:24], output[-9:], errors, status), (b"recovered 4\n", b"148 200000:7", b"listed 4\n", b"", 0))
+        sizes = [os.path.getsize(f"{folder}/{name}") for name in backups(folder)]
+        if len(sizes) != 3 or max(sizes) > 20_000_000:
+            raise Wrong(f"the files of four values of 200,000 bytes have {sizes} bytes")
+
+
 def folders_are_refused(program, folder):
     want_refusal(run(program, f"{folder}/none"), 1)
     with open(f"{folder}/file", "wb") as file:
@@ -279,7 +326,8 @@ def kills(program, folder, seed, count):
 
 TESTS = [
     a_table_outlives_its_process, any_bytes_outlive_it, a_bad_line_ends_the_run, memory_is_used_again, a_lost_backup_is_made_anew,
-    a_lost_table_is_named, other_options_are_named, folders_are_refused, one_process_has_a_folder, calls_that_fail_lose_nothing,
+    a_lost_table_is_named, other_options_are_named, a_later_run_names_no_options, several_folders_share_the_backups,
+    long_files_are_written_anew, folders_are_refused, one_process_has_a_folder, calls_that_fail_lose_nothing,
 ]
 
 

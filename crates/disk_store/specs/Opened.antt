@@ -1,5 +1,5 @@
 -- A store that was opened in a folder: what the files showed, the table of that, and the master that began with it.
-use Rattle.std.specs.Prelude.{◌≡◌, ℕ, List, [], ◌∷◌, length, Option, Some, None, Ok, ⊤}
+use Rattle.std.specs.Prelude.{◌≡◌, ℕ, List, [], ◌∷◌, length, Option, Some, None, Ok, ⊤, slice_get}
 use Rattle.disk_file.specs.declared.disk.DiskFile.{DiskFile}
 use Rattle.embedded.specs.Options.{tables_to}
 use Rattle.embedded.specs.declared.options.Options.{Options}
@@ -28,15 +28,32 @@ use Rattle.disk_store.specs.declared.fault.NotOpened.TheVariants as why
 
 -- ---- options
 
--- the numbers of a new store, in the order in which its registry has them
-abbrev pub numbers_of : Options → List ℕ
-numbers_of o = o.backups ∷ o.replicas ∷ o.step ∷ o.segment ∷ o.seglet ∷ o.seglets ∷ o.tables ∷ o.history ∷ o.format
-    ∷ o.largest ∷ o.live ∷ []
+-- the numbers of a new store in so many folders, in the order in which its registry has them
+abbrev pub numbers_of : Options → ℕ → List ℕ
+numbers_of o folders = o.backups ∷ o.replicas ∷ o.step ∷ o.segment ∷ o.seglet ∷ o.seglets ∷ o.tables ∷ o.history
+    ∷ o.format ∷ o.largest ∷ o.live ∷ folders ∷ []
 
 -- What each life of a store has in common. The memory, the length of the history and the limits may be others in each.
 abbrev pub asked_of : Options → List (Option ℕ)
 asked_of o = Some o.backups ∷ Some o.replicas ∷ Some o.step ∷ Some o.segment ∷ Some o.seglet ∷ None ∷ Some o.tables
     ∷ None ∷ Some o.format ∷ []
+
+-- a store with these options was made with these numbers
+pub record AreKept (kept : List ℕ) (o : Options) : Type 0 where
+  pub backups : slice_get kept 0 ≡ Some o.backups
+  pub replicas : slice_get kept 1 ≡ Some o.replicas
+  pub step : slice_get kept 2 ≡ Some o.step
+  pub segment : slice_get kept 3 ≡ Some o.segment
+  pub seglet : slice_get kept 4 ≡ Some o.seglet
+  pub seglets : slice_get kept 5 ≡ Some o.seglets
+  pub tables : slice_get kept 6 ≡ Some o.tables
+  pub history : slice_get kept 7 ≡ Some o.history
+  pub format : slice_get kept 8 ≡ Some o.format
+  pub largest : slice_get kept 9 ≡ Some o.largest
+  pub live : slice_get kept 10 ≡ Some o.live
+
+abbrev pub RegistryHere : Type 0
+RegistryHere = RegistryFile DiskFile
 
 -- the registry's store was made with these
 abbrev pub Meets : Options → RegistryFile DiskFile → Type 0
@@ -83,7 +100,8 @@ pub record IsBegun (o : Options) (table : Rebuilt) (m : MasterHere) : Type 0 whe
   pub began : MasterHere
   pub started : IsStarted noted_by o table began
   pub same : m.knows ≡ began.knows
-  pub freed : Retires (fleet_state noted_by began.fleet) began.knows.config.master (Ok tt) (fleet_state noted_by m.fleet)
+  pub freed : Retires (fleet_state noted_by began.fleet) began.knows.config.master (Ok tt)
+      (fleet_state noted_by m.fleet)
   pub valid : IsValid m.knows (fleet_state noted_by m.fleet)
 
 -- What the last life left in a folder: the registry, and of each backup its file, if it was there. The backups that

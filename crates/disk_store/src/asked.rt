@@ -5,9 +5,12 @@ ghost use Rattle.disk_store.specs.Opened.{asked_of, numbers_of};
 
 use file_store::Options;
 
-/// The numbers of a new store, in the order of `store_folders::OPTIONS`.
-pub(crate) fn numbers_of(options: &Options) -> [u64; 11]
-    ensures { result ≡ numbers_of options.now }
+/// How many numbers the registry of a store in several folders has. That of a store in one lacks the last one.
+pub(crate) const NUMBERS: usize = 12;
+
+/// The numbers of a new store in so many folders, in the order of `store_folders::OPTIONS`.
+pub(crate) fn numbers_of(options: &Options, folders: u64) -> [u64; NUMBERS]
+    ensures { result ≡ numbers_of options.now folders }
 {
     [
         options.backups,
@@ -21,7 +24,17 @@ pub(crate) fn numbers_of(options: &Options) -> [u64; 11]
         options.format,
         options.largest,
         options.live,
+        folders,
     ]
+}
+
+/// Those numbers of a new store that its registry keeps.
+pub(crate) fn kept_of(numbers: &[u64; NUMBERS]) -> &[u64] {
+    if numbers[NUMBERS - 1] == 1 {
+        &numbers[..NUMBERS - 1]
+    } else {
+        numbers
+    }
 }
 
 /// What each life of a store has in common. How much it takes may be another number in each.

@@ -1,18 +1,18 @@
-//! The backups of a folder become a fleet: each gets a file that takes ops.
+//! The backups of a store become a fleet: each gets a file that takes ops.
 
 ghost use Rattle.std.specs.Prelude.{IfOk, OnOk};
 ghost use Rattle.store_folders.specs.Files.{AreFoundHere, AreSafeHere};
 
-use disk_file::{DiskFile, Folder};
+use disk_file::DiskFile;
 use file_fleet::Members;
 use fleet_start::Found;
 use registry_file::RegistryFile;
-use store_folders::{StoreFault, put_fresh, renew};
+use store_folders::{Folders, StoreFault, put_fresh, renew};
 
 /// Gives each missing backup a file of its own.
 fn put_missing(
     rt: &HostRuntime,
-    folder: &Folder,
+    folders: &Folders,
     found: &mut Found<DiskFile, RegistryFile<DiskFile>>,
 ) -> Result<(), StoreFault>
     requires found { AreFoundHere found.old.places.items found.old.registry }
@@ -20,7 +20,7 @@ fn put_missing(
 {
     for backup in 0..found.backups() {
         if !found.has(backup) {
-            if let Err(fault) = put_fresh(rt, folder, found, backup) {
+            if let Err(fault) = put_fresh(rt, folders, found, backup) {
                 return Err(fault);
             }
         }
@@ -39,7 +39,7 @@ fn has_failed(members: &Members<DiskFile, RegistryFile<DiskFile>>, backup: u64) 
 /// Gives another file to each backup whose own failed in an earlier life.
 fn renew_failed(
     rt: &HostRuntime,
-    folder: &Folder,
+    folders: &Folders,
     members: &mut Members<DiskFile, RegistryFile<DiskFile>>,
 ) -> Result<(), StoreFault>
     requires { AreSafeHere members.old }
@@ -47,7 +47,7 @@ fn renew_failed(
 {
     for backup in 0..members.backups() {
         if has_failed(members, backup) {
-            if let Err(fault) = renew(rt, folder, members, backup) {
+            if let Err(fault) = renew(rt, folders, members, backup) {
                 return Err(fault);
             }
         }
@@ -58,17 +58,17 @@ fn renew_failed(
 /// The backups that were found, each with a file that takes ops.
 pub(crate) fn members_of(
     rt: &HostRuntime,
-    folder: &Folder,
+    folders: &Folders,
     mut found: Found<DiskFile, RegistryFile<DiskFile>>,
 ) -> Result<Members<DiskFile, RegistryFile<DiskFile>>, StoreFault>
     requires { AreFoundHere found.places.items found.registry }
     ensures { IfOk result AreSafeHere }
 {
-    if let Err(fault) = put_missing(rt, folder, &mut found) {
+    if let Err(fault) = put_missing(rt, folders, &mut found) {
         return Err(fault);
     }
     match found.into_members(rt.alloc()) {
-        Ok(mut members) => match renew_failed(rt, folder, &mut members) {
+        Ok(mut members) => match renew_failed(rt, folders, &mut members) {
             Ok(()) => Ok(members),
             Err(fault) => Err(fault),
         },

@@ -1,29 +1,26 @@
-//! A script over a store in a folder: `ramlog --dir=PATH`.
+//! A script over a store in folders: `ramlog --dir=PATH`.
 
 use crate::until_end::UntilEnd;
 use crate::{BLOCK, Flags, MISUSE};
 use clap::Error;
 use command_line::{Options as Asked, options};
 use disk_lines::{ErrorOutput, ScriptFault, report, run_lines};
-use disk_store::{DiskStore, NotOpened, NotStarted, Options};
-use entry::NoMemory;
+use disk_store::{DiskStore, NotOpened, NotStarted, Options, kept_options};
 use next_master::with_limit;
-use std::alloc::Global;
 use std::io::{BufReader, BufWriter, Write};
 use std::time::{SystemTime, UNIX_EPOCH};
 
 /// The exit status if the folder isn't opened.
 const NOT_OPENED: u8 = 3;
 
-/// What a store on the disk has where no word says otherwise: each segment on all of three backups, segments of 64
-/// kilobytes, four megabytes for the log, and a format under which a failed backup doesn't stop the store.
-const USUAL: &[(&str, &str)] = &[
-    ("--replicas", "3"),
-    ("--segment", "65536"),
-    ("--seglet", "4096"),
-    ("--seglets", "1024"),
-    ("--format", "2"),
-];
+/// What a new store on the disk has where no word says otherwise: four tables, each segment on all of three backups,
+/// segments of 64 kilobytes, four megabytes for the log, and a format under which a failed backup doesn't stop the
+/// store.
+fn usual() -> Options {
+    let mut options = Options::usual();
+    options.tables = 4;
+    options
+}
 
 /// Whether a word asks for an option.
 fn asks_for(word: &str, name: &str) -> bool {
@@ -43,19 +40,30 @@ fn has_option(words: &[&str], name: &str) -> bool {
     false
 }
 
-/// The words, with the usual options of a store on the disk where they name none.
-fn with_usual<'a>(alloc: Global, words: &[&'a str]) -> Result<Vec<&'a str>, NoMemory> {
-    let mut all = Vec::new(alloc);
-    for word in words {
-        all.push(*word)?;
+/// The number that the words ask for, or else the other one.
+fn pick(words: &[&str], name: &str, asked: u64, usual: u64) -> u64 {
+    if has_option(words, name) {
+        asked
+    } else {
+        usual
     }
-    for (name, value) in USUAL {
-        if !has_option(words, name) {
-            all.push(*name)?;
-            all.push(*value)?;
-        }
-    }
-    Ok(all)
+}
+
+/// The options that the words ask for, and these ones where the words name none.
+fn with_usual(words: &[&str], asked: &Asked, usual: &Options) -> Asked {
+    let mut all = *asked;
+    all.backups = pick(words, "--backups", asked.backups, usual.backups);
+    all.replicas = pick(words, "--replicas", asked.replicas, usual.replicas);
+    all.step = pick(words, "--step", asked.step, usual.step);
+    all.segment = pick(words, "--segment", asked.segment, usual.segment);
+    all.seglet = pick(words, "--seglet", asked.seglet, usual.seglet);
+    all.seglets = pick(words, "--seglets", asked.seglets, usual.seglets);
+    all.tables = pick(words, "--tables", asked.tables, usual.tables);
+    all.history = pick(words, "--history", asked.history, usual.history);
+    all.format = pick(words, "--format", asked.format, usual.format);
+    all.largest = pick(words, "--largest", asked.largest, usual.largest);
+    all.live = pick(words, "--live", asked.live, usual.live);
+    all
 }
 
 /// What a store is made with.
@@ -119,10 +127,12 @@ fn refuse_start(rt: &HostRuntime, fault: &NotStarted) -> u8 {
     NOT_OPENED
 }
 
-/// Runs the script from standard input to standard output over a store, and answers the exit status. The first line that
-/// it prints says how many objects the last life left.
+/// Runs the script from standard input to standard output over a store, and answers the exit status. The first line
+/// that it prints says how many objects the last life left.
 fn run_opened(rt: &HostRuntime, disk: &mut DiskStore, flags: Flags) -> u8 {
     let mut errors = ErrorOutput::new(rt.stderr().lock(), flags.explains);
+    // If it fails, the store goes on with the files that it has.
+    let _ = disk.shorten(rt);
     let Ok(mut reader) = BufReader::with_capacity(rt.alloc(), BLOCK, UntilEnd::new(rt.reader()))
     else {
         return report(&ScriptFault::NoMemory, &mut errors);
@@ -145,10 +155,28 @@ fn run_opened(rt: &HostRuntime, disk: &mut DiskStore, flags: Flags) -> u8 {
     }
 }
 
-/// Runs the program with these words over the store in a folder.
-pub(crate) fn run_folder(
+/// Opens the store, which has the options that it was made with where the words name none.
+fn open(
     rt: &HostRuntime,
-    path: &str,
+    first: &str,
+    others: &[&str],
+    words: &[&str],
+    asked: &Asked,
+) -> Result<DiskStore, NotOpened> {
+    let usual = match kept_options(rt, first) {
+        Ok(Some(kept)) => kept,
+        Ok(None) => usual(),
+        Err(fault) => return Err(NotOpened::Files(fault)),
+    };
+    let asked = with_limit(&with_usual(words, asked, &usual));
+    DiskStore::open_all(rt, first, others, &made_with(&asked), store_number(rt))
+}
+
+/// Runs the program with these words over the store in these folders.
+pub(crate) fn run_folders(
+    rt: &HostRuntime,
+    first: &str,
+    others: &[&str],
     words: &[&str],
     flags: Flags,
 ) -> Result<u8, Error> {
@@ -156,18 +184,11 @@ pub(crate) fn run_folder(
         let _ = rt.eprintln("ramlog: with --dir a bad line ends the run");
         return Ok(MISUSE);
     }
-    let Ok(words) = with_usual(rt.alloc(), words) else {
-        let _ = eprintln!(rt; "ramlog: no memory");
-        return Ok(1);
-    };
-    match options(rt.alloc(), words.as_slice()) {
-        Ok(asked) => {
-            let asked = with_limit(&asked);
-            match DiskStore::open(rt, path, &made_with(&asked), store_number(rt)) {
-                Ok(mut disk) => Ok(run_opened(rt, &mut disk, flags)),
-                Err(refused) => Ok(refuse_folder(rt, &refused)),
-            }
-        }
+    match options(rt.alloc(), words) {
+        Ok(asked) => match open(rt, first, others, words, &asked) {
+            Ok(mut disk) => Ok(run_opened(rt, &mut disk, flags)),
+            Err(refused) => Ok(refuse_folder(rt, &refused)),
+        },
         Err(error) => Err(error),
     }
 }

@@ -1,5 +1,5 @@
 //! The program `ramlog [options] < script`: reads a script from standard input, and writes what it answers to standard
-//! output. With `--dir=PATH` the script's store is in a folder, and outlives the process.
+//! output. With `--dir=PATH` the script's store is in a folder, or in several, and outlives the process.
 #![tactic(auto)]
 
 mod folder;
@@ -7,7 +7,7 @@ mod until_end;
 
 use clap::Error;
 use clap::error::ErrorKind;
-use folder::run_folder;
+use folder::run_folders;
 use script::{ErrorOutput, ScriptFault, report, run_program};
 use std::env;
 use std::io::{self, BufReader, BufWriter, IsTerminal};
@@ -28,7 +28,7 @@ const RAW: &str = "--raw";
 /// The word by which a bad line is reported and skipped, also if standard input is no terminal. It may stand anywhere.
 const KEEP_GOING: &str = "--keep-going";
 
-/// The word that names the folder of a store on the disk, which follows it. It may stand anywhere.
+/// The word that names a folder of a store on the disk, which follows it. It may stand anywhere, and several times.
 const DIR: &str = "--dir";
 
 /// How many bytes the program reads or writes at once.
@@ -79,9 +79,9 @@ fn refuse(rt: &HostRuntime, error: &Error) -> ExitCode {
 }
 
 /// Runs the program from standard input to standard output. It writes in blocks, and writes what it answered before it
-/// waits for more input. If it `explains`, or if the errors go to a terminal, the errors also say why a line is bad, and
-/// which commands may have been made. If it keeps going, or if the lines come from a terminal, a bad line is skipped.
-/// `threads` and `rt` are one handle, but only a parameter with these bounds can start threads.
+/// waits for more input. If it `explains`, or if the errors go to a terminal, the errors also say why a line is bad,
+/// and which commands may have been made. If it keeps going, or if the lines come from a terminal, a bad line is
+/// skipped. `threads` and `rt` are one handle, but only a parameter with these bounds can start threads.
 fn run<H: Threads + Wait + Sync>(
     threads: &H,
     rt: &HostRuntime,
@@ -140,17 +140,22 @@ fn run_arguments<H: Threads + Wait + Sync>(
         is_raw: false,
         keeps_going: false,
     };
-    let mut folder = None;
+    let mut folders = Vec::new(rt.alloc());
     let mut is_next = false;
     for argument in arguments {
-        if is_next {
-            folder = Some(argument.as_str());
-            is_next = false;
-        } else if argument.as_str() == DIR {
-            is_next = true;
-        } else if let Some(path) = folder_in(argument.as_str()) {
-            folder = Some(path);
-        } else if !flags.take(argument.as_str()) && words.push(argument.as_str()).is_err() {
+        let named = if is_next {
+            Some(argument.as_str())
+        } else {
+            folder_in(argument.as_str())
+        };
+        is_next = named.is_none() && argument.as_str() == DIR;
+        let is_taken = match named {
+            Some(path) => folders.push(path).is_ok(),
+            None => {
+                is_next || flags.take(argument.as_str()) || words.push(argument.as_str()).is_ok()
+            }
+        };
+        if !is_taken {
             return fail(rt, ScriptFault::NoMemory);
         }
     }
@@ -158,9 +163,9 @@ fn run_arguments<H: Threads + Wait + Sync>(
         let _ = rt.eprintln("ramlog: --dir has a folder behind it");
         return ExitCode::from(MISUSE);
     }
-    let ran = match folder {
-        Some(path) => run_folder(rt, path, words.as_slice(), flags),
-        None => run(threads, rt, words.as_slice(), flags),
+    let ran = match folders.as_slice() {
+        [] => run(threads, rt, words.as_slice(), flags),
+        [first, others @ ..] => run_folders(rt, first, others, words.as_slice(), flags),
     };
     match ran {
         Ok(status) => ExitCode::from(status),

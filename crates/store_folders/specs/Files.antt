@@ -10,6 +10,7 @@ use Rattle.disk_file.specs.declared.folder.Opened.{Opened}
 use Rattle.registry_file.specs.declared.file.RegistryFile.{RegistryFile}
 use Rattle.file_backup.specs.Mirror.{IsJournalOf}
 use Rattle.file_fleet.specs.Files.{Files, Noted, ShowsFleet}
+use Rattle.file_fleet.specs.Fleet.{FleetValue, ShowsState, fleet_state}
 use Rattle.file_fleet.specs.Members.{AreSafe, IsFresh, IsMember, IsUnder, picture_of}
 use Rattle.file_fleet.specs.Moments.{AreLeftByPut}
 use Rattle.file_fleet.specs.Noting.{IsIn, IsSound, file_of, noted_by}
@@ -74,3 +75,15 @@ pub record IsRenewed (old : Members DiskFile (RegistryFile DiskFile)) (b id : �
 -- nothing was written to the registry, or the backup goes on in another file
 abbrev pub RenewsOrStays : Members DiskFile (RegistryFile DiskFile) → ℕ → ℕ → RegistryFile DiskFile → Type 0
 RenewsOrStays old b id registry = (registry ≡ old.registry) ⊎ IsRenewed old b id registry
+
+-- The same of a fleet: whatever a crash leaves shows what the fleet shows.
+pub record IsRewritten (old : FleetValue DiskFile (RegistryFile DiskFile)) (b id : ℕ) (registry : RegistryFile DiskFile)
+    : Type 0 where
+  pub journal : Journal DiskFile
+  pub holds : IsJournalOf contents may_leave has_failed ((fleet_state noted_by old).picture b) journal
+  pub shows : (files : Files) → AreLeftByPut may_leave time left_of old.members b (device_of journal) id registry files
+      → ShowsState (fleet_state noted_by old) files
+
+-- nothing was written to the registry, or the backup goes on in another file
+abbrev pub RewritesOrStays : FleetValue DiskFile (RegistryFile DiskFile) → ℕ → ℕ → RegistryFile DiskFile → Type 0
+RewritesOrStays old b id registry = (registry ≡ old.members.registry) ⊎ IsRewritten old b id registry

@@ -1,4 +1,4 @@
-//! The backups of a store in a folder.
+//! The backups of a store in its folders.
 
 ghost use Rattle.std.specs.Prelude.{◌≡◌, ◌+◌, IfOk, IfSome, OnOk, length};
 ghost use Rattle.registry_file.specs.File.{kept_by};
@@ -10,9 +10,10 @@ ghost use Rattle.fleet_start.specs.Found.{FindsWhatIsLeft};
 ghost use Rattle.store_folders.specs.Files.{AreFoundHere, IsOf, IsRead, IsSoundHere};
 
 use crate::fault::{StoreFault, of_journal};
+use crate::folders::Folders;
 use crate::naming::FileName;
 use crate::opening::open_file;
-use disk_file::{DiskFile, Folder, Opened};
+use disk_file::{DiskFile, Opened};
 use entry::NoMemory;
 use file_fleet::{FleetRegistry, Member};
 use fleet_start::{Found, is_journal_of, open_member};
@@ -27,7 +28,7 @@ use std::alloc::Global;
 /// Cost: it reads each file whole. The backups have all replicas in memory then.
 pub fn find_backups(
     rt: &HostRuntime,
-    folder: &Folder,
+    folders: &Folders,
     registry: RegistryFile<DiskFile>,
     backups: u64,
 ) -> Result<Found<DiskFile, RegistryFile<DiskFile>>, StoreFault>
@@ -42,7 +43,7 @@ pub fn find_backups(
 {
     let mut found = Found::new(rt.alloc(), registry);
     for backup in 0..backups {
-        find_next(rt, folder, &mut found, backup)?;
+        find_next(rt, folders, &mut found, backup)?;
     }
     found.show_left();
     Ok(found)
@@ -51,7 +52,7 @@ pub fn find_backups(
 /// Finds the next backup, which has this number.
 fn find_next(
     rt: &HostRuntime,
-    folder: &Folder,
+    folders: &Folders,
     found: &mut Found<DiskFile, RegistryFile<DiskFile>>,
     backup: u64,
 ) -> Result<(), StoreFault>
@@ -62,7 +63,7 @@ fn find_next(
     ensures count { OnOk result (length found.new.places.items ≡ backup + 1) }
     ensures registry { found.new.registry ≡ found.old.registry }
 {
-    match open_backup(rt, folder, found.registry(), backup)? {
+    match open_backup(rt, folders, found.registry(), backup)? {
         Some(member) => match found.add(member) {
             Ok(()) => Ok(()),
             Err(NoMemory) => Err(StoreFault::NoMemory),
@@ -77,7 +78,7 @@ fn find_next(
 /// Opens the file that the registry names as a backup's journal. `None` if it names none, or if the file isn't there.
 fn open_backup(
     rt: &HostRuntime,
-    folder: &Folder,
+    folders: &Folders,
     registry: &RegistryFile<DiskFile>,
     backup: u64,
 ) -> Result<Option<Member<DiskFile>>, StoreFault>
@@ -87,7 +88,7 @@ fn open_backup(
     if id == LOST {
         return Ok(None);
     }
-    match open_file(rt, folder, FileName::Journal { backup, id })? {
+    match open_file(rt, folders, FileName::Journal { backup, id })? {
         Some(opened) => match member_in(rt.alloc(), registry, backup, opened) {
             Ok(member) => Ok(Some(member)),
             Err(fault) => Err(fault),

@@ -1,21 +1,12 @@
-//! The folder, and the files in it.
+//! The files of a store are opened and made.
 
 ghost use Rattle.std.specs.Prelude.{IfOk, IfSome};
 ghost use Rattle.store_folders.specs.Files.{IsEmpty, IsRead};
 
 use crate::fault::StoreFault;
+use crate::folders::Folders;
 use crate::naming::FileName;
-use disk_file::{DiskFile, Folder, OpenError, Opened};
-
-/// Opens a folder that is there, and locks it. It doesn't wait for the lock. No other process has the folder as long as
-/// the result lives. The fault is one of 1, 2 and 7.
-pub fn open_folder(rt: &HostRuntime, path: &str) -> Result<Folder, StoreFault> {
-    match Folder::open(rt, path) {
-        Ok(folder) => Ok(folder),
-        Err(OpenError::InUse) => Err(StoreFault::InUse),
-        Err(error) => Err(of_folder(error)),
-    }
-}
+use disk_file::{DiskFile, OpenError, Opened};
 
 /// Why a folder wasn't opened or read, as a fault of its store.
 pub(crate) fn of_folder(error: OpenError) -> StoreFault {
@@ -36,7 +27,7 @@ fn of_file(file: FileName, error: OpenError) -> StoreFault {
 /// Opens a file of a store, and reads it. `None` if it isn't there.
 pub(crate) fn open_file(
     rt: &HostRuntime,
-    folder: &Folder,
+    folders: &Folders,
     file: FileName,
 ) -> Result<Option<Opened>, StoreFault>
     ensures { IfOk result (λ o. IfSome o IsRead) }
@@ -44,7 +35,7 @@ pub(crate) fn open_file(
     let Ok(name) = file.text(rt.alloc()) else {
         return Err(StoreFault::NoMemory);
     };
-    match folder.open_file(rt, name.as_str()) {
+    match folders.of(file).open_file(rt, name.as_str()) {
         Ok(opened) => Ok(Some(opened)),
         Err(OpenError::Missing) => Ok(None),
         Err(error) => Err(of_file(file, error)),
@@ -54,7 +45,7 @@ pub(crate) fn open_file(
 /// Makes an empty file in the place of one that the registry doesn't name, if that is there.
 pub(crate) fn make_file(
     rt: &HostRuntime,
-    folder: &Folder,
+    folders: &Folders,
     file: FileName,
 ) -> Result<DiskFile, StoreFault>
     ensures { IfOk result IsEmpty }
@@ -62,11 +53,11 @@ pub(crate) fn make_file(
     let Ok(name) = file.text(rt.alloc()) else {
         return Err(StoreFault::NoMemory);
     };
-    match folder.remove_file(rt, name.as_str()) {
+    match folders.of(file).remove_file(rt, name.as_str()) {
         Ok(()) | Err(OpenError::Missing) => {}
         Err(error) => return Err(of_file(file, error)),
     }
-    match folder.make_file(rt, name.as_str()) {
+    match folders.of(file).make_file(rt, name.as_str()) {
         Ok(made) => Ok(made),
         Err(error) => Err(of_file(file, error)),
     }

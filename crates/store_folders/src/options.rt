@@ -10,10 +10,11 @@ use disk_file::DiskFile;
 use fleet_start::first_other;
 use registry_file::RegistryFile;
 
-/// The names of a store's options, in the order in which its registry has them.
-pub const OPTIONS: [&str; 11] = [
+/// The names of a store's options, in the order in which its registry has them. `dir` is how many folders it has; the
+/// registry of a store in one folder lacks it.
+pub const OPTIONS: [&str; 12] = [
     "backups", "replicas", "step", "segment", "seglet", "seglets", "tables", "history", "format",
-    "largest", "live",
+    "largest", "live", "dir",
 ];
 
 /// The name of an option.

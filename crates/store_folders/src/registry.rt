@@ -1,4 +1,4 @@
-//! The registry of a store in a folder.
+//! The registry of a store in folders.
 
 ghost use Rattle.std.specs.Prelude.{◌≡◌, [], IfErr, IfNone, IfOk, IfSome};
 ghost use Rattle.take_journal.specs.Frames.{recovered};
@@ -8,29 +8,31 @@ ghost use Rattle.store_folders.specs.Faults.{TellsOfRegistry};
 ghost use Rattle.store_folders.specs.Files.{IsRead, IsSoundHere};
 
 use crate::fault::{StoreFault, of_registry};
-use crate::naming::{FileName, JOURNALS};
+use crate::folders::Folders;
+use crate::naming::FileName;
 use crate::opening::{make_file, of_folder, open_file};
-use disk_file::{DiskFile, Folder, Opened};
+use disk_file::{DiskFile, Opened};
 use fleet_start::{begin_registry, open_registry};
 use registry_file::{RegistryFault, RegistryFile};
 use std::alloc::Global;
 
-/// Finds the registry of the store in a folder. `None` if there is no store: a process may have died as it made one.
-/// What a crash left torn at the file's end is cut off, and nothing else is written. The fault is one of 1, 3, 6 and 7.
+/// Finds the registry of the store in these folders. `None` if there is no store: a process may have died as it made
+/// one. What a crash left torn at the file's end is cut off, and nothing else is written. The fault is one of 1, 3, 6
+/// and 7.
 ///
 /// Cost: it reads the whole file, and has memory of twice its length for a time.
 pub fn find_registry(
     rt: &HostRuntime,
-    folder: &Folder,
+    folders: &Folders,
 ) -> Result<Option<RegistryFile<DiskFile>>, StoreFault>
     ensures sound { IfOk result (λ o. IfSome o IsSoundHere) }
 {
-    if let Some(opened) = open_file(rt, folder, FileName::Registry)? {
+    if let Some(opened) = open_file(rt, folders, FileName::Registry)? {
         if let Some(registry) = registry_in(rt.alloc(), opened)? {
             return Ok(Some(registry));
         }
     }
-    match folder.has_name(rt, JOURNALS) {
+    match folders.have_journals(rt) {
         Ok(false) => Ok(None),
         Ok(true) => Err(StoreFault::NoRegistry),
         Err(error) => Err(of_folder(error)),
@@ -64,14 +66,14 @@ pub fn registry_in(
 /// A process that dies amid the call leaves no store, or this one.
 pub fn make_registry(
     rt: &HostRuntime,
-    folder: &Folder,
+    folders: &Folders,
     id: u64,
     options: &[u64],
 ) -> Result<RegistryFile<DiskFile>, StoreFault>
     ensures sound { IfOk result IsSoundHere }
     ensures begun { IfOk result (λ r. kept_by r ≡ begun (record { id = id; options = options.now })) }
 {
-    let file = make_file(rt, folder, FileName::Registry)?;
+    let file = make_file(rt, folders, FileName::Registry)?;
     match begin_registry(rt.alloc(), file, id, options) {
         Ok(registry) => Ok(registry),
         Err(fault) => Err(of_registry(fault)),

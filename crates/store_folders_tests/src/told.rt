@@ -44,6 +44,11 @@ const ROWS: &[Row] = &[
         "option live differs from the store's",
     ),
     (
+        StoreFault::OtherOption(11),
+        4,
+        "option dir differs from the store's",
+    ),
+    (
         StoreFault::Journal {
             file: JOURNAL,
             fault: BackupFault::WrongFrame(4),
