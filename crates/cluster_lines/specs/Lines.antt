@@ -15,10 +15,11 @@ use Rattle.cluster.specs.Told.{command_of}
 use Rattle.cluster_lines.specs.Clients.{MakesClients}
 
 -- What a line makes of the node, if the cleaner makes so many steps behind each command that may change the map: just
--- the steps of its command and of the cleaner, its step, its roll, its cleaning, the steps of its cleaner, or the rounds
--- of its clients. A line that shows something changes nothing, and shows what this node has. A stop sets just the limit that
--- it names, a line of a fault asks for just this fault, a format or a number of seglets changes nothing of this master,
--- and a crash leaves just the fleet. What a recovery makes, and what `needs` shows, is said of the session, in `script`.
+-- the steps of its command and of the cleaner, its step, its roll, its cleaning, the steps of its cleaner, or the
+-- rounds of its clients. A line that shows something changes nothing, and shows what this node has. A stop sets just
+-- the limit that it names, a line of a fault asks for just this fault, a format or a number of seglets changes nothing
+-- of this master, and a crash leaves just the fleet. What a recovery makes, and what `needs` shows, is said of the
+-- session, in `script`.
 abbrev pub MakesLine : ℕ → Node → LineValue → Node → Answer → Type 0
 MakesLine tend old Roll new answer = MakesRoll old new answer
 MakesLine tend old BeginRoll new answer = MakesStep old step.BeginRoll new answer

@@ -6,8 +6,8 @@
 //! says what the next master has then. No call requires anything of its caller, takes a lock or starts a thread.
 //!
 //! Whoever has backups of another kind implements `replica::Fleet`, makes a `Master` over them, and calls `carry_out`,
-//! which does what a put, get or delete does behind its checks (`is_key`, `is_value`). The crate stands on `tending` and
-//! `recovery`.
+//! which does what a put, get or delete does behind its checks (`is_key`, `is_value`). The crate stands on `tending`
+//! and `recovery`.
 #![tactic(auto)]
 
 mod carrying;

@@ -10,10 +10,11 @@ use recovery::{GroupOrder, PlanFault, Rebuilt, RecoveryFault, Will, recover};
 use std::alloc::Global;
 use take_journal::Device;
 
-/// Recovers a master from the backups that a start found, and from nothing else. The master is the one that the registry
-/// names (`registry_file::Registry::master`), and the lowest head that may be used is the registry's least head. A missing
-/// backup counts as lost. Nothing is written. The will says how each segment is divided into groups, and the order in which
-/// turn the groups are replayed. The call is refused as `recovery::recover` refuses, and for want of memory.
+/// Recovers a master from the backups that a start found, and from nothing else. The master is the one that the
+/// registry names (`registry_file::Registry::master`), and the lowest head that may be used is the registry's least
+/// head. A missing backup counts as lost. Nothing is written. The will says how each segment is divided into groups,
+/// and the order in which turn the groups are replayed. The call is refused as `recovery::recover` refuses, and for
+/// want of memory.
 pub fn recover_found<D: Device + Drop, R: FleetRegistry + Drop>(
     alloc: Global,
     found: &Found<D, R>,
@@ -24,11 +25,13 @@ pub fn recover_found<D: Device + Drop, R: FleetRegistry + Drop>(
     // If the files show a sound state of the master, the result is exactly the map after a prefix of its commands, with
     // each durable one among them.
     ensures recovered { IfOk result (IsRecoveredOfStart (R.noted found.now.registry) found.now.places.items master) }
-    // Then a refusal names a lost head or segment, or memory ran out, if the will covers the tablets and the order isn't
-    // written out. If the newest head and the segments are on the backups that were found, only want of memory refuses.
+    // Then a refusal names a lost head or segment, or memory ran out, if the will covers the tablets and the order
+    // isn't written out. If the newest head and the segments are on the backups that were found, only want of memory
+    // refuses.
     ensures refused { IfErr result (IsLossOfStart (R.noted found.now.registry) found.now.places.items master will.now
         order.now) }
-    // If a master took steps and stopped, and the files show the fleet that it left, the headline is true of the result.
+    // If a master took steps and stopped, and the files show the fleet that it left, the headline is true of the
+    // result.
     ensures headline { HasHeadline (R.noted found.now.registry) found.now.places.items master will.now order.now
         result }
 {

@@ -113,8 +113,8 @@ fn load_in<F: Fleet + Send, B: Naming + Send + Sync, R: Threads + Wait + Clock +
     }
 }
 
-/// Cleans first. Then the seats make their operations, and what the threads leave behind is collected. The result is the
-/// first fault, and how long the threads took.
+/// Cleans first. Then the seats make their operations, and what the threads leave behind is collected. The result is
+/// the first fault, and how long the threads took.
 fn run_seats<F: Fleet + Send, B: Naming + Send + Sync, R: Threads + Wait + Clock + Eprint + Sync>(
     rt: &R,
     store: &Store<F, B>,

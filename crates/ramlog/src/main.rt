@@ -9,6 +9,7 @@ use clap::Error;
 use clap::error::ErrorKind;
 use folder::run_folders;
 use script::{ErrorOutput, ScriptFault, report, run_program};
+use std::alloc::Global;
 use std::env;
 use std::io::{self, BufReader, BufWriter, IsTerminal};
 use std::process::ExitCode;
@@ -123,9 +124,47 @@ impl Flags {
     }
 }
 
-/// The folder that an argument names by itself.
-fn folder_in(argument: &str) -> Option<&str> {
-    argument.strip_prefix("--dir=")
+/// What the arguments ask for.
+#[derive(Drop)]
+struct Asked<'a> {
+    /// The words that the options are read from.
+    words: Vec<&'a str>,
+    folders: Vec<&'a str>,
+    flags: Flags,
+    /// The next argument is a folder.
+    awaits_folder: bool,
+}
+
+impl<'a> Asked<'a> {
+    /// Nothing is asked for.
+    fn nothing(alloc: Global) -> Asked<'a> {
+        Asked {
+            words: Vec::new(alloc),
+            folders: Vec::new(alloc),
+            flags: Flags {
+                explains: false,
+                is_raw: false,
+                keeps_going: false,
+            },
+            awaits_folder: false,
+        }
+    }
+
+    /// Takes the next argument. False if memory ran out.
+    fn take(&mut self, argument: &'a str) -> bool {
+        if self.awaits_folder {
+            self.awaits_folder = false;
+            return self.folders.push(argument).is_ok();
+        }
+        if argument == DIR {
+            self.awaits_folder = true;
+            return true;
+        }
+        match argument.strip_prefix("--dir=") {
+            Some(path) => self.folders.push(path).is_ok(),
+            None => self.flags.take(argument) || self.words.push(argument).is_ok(),
+        }
+    }
 }
 
 /// Runs the program with these words. The options know none of the words of `Flags`, and no folder.
@@ -134,38 +173,20 @@ fn run_arguments<H: Threads + Wait + Sync>(
     rt: &HostRuntime,
     arguments: &[String],
 ) -> ExitCode {
-    let mut words = Vec::new(rt.alloc());
-    let mut flags = Flags {
-        explains: false,
-        is_raw: false,
-        keeps_going: false,
-    };
-    let mut folders = Vec::new(rt.alloc());
-    let mut is_next = false;
+    let mut asked = Asked::nothing(rt.alloc());
     for argument in arguments {
-        let named = if is_next {
-            Some(argument.as_str())
-        } else {
-            folder_in(argument.as_str())
-        };
-        is_next = named.is_none() && argument.as_str() == DIR;
-        let is_taken = match named {
-            Some(path) => folders.push(path).is_ok(),
-            None => {
-                is_next || flags.take(argument.as_str()) || words.push(argument.as_str()).is_ok()
-            }
-        };
-        if !is_taken {
+        if !asked.take(argument.as_str()) {
             return fail(rt, ScriptFault::NoMemory);
         }
     }
-    if is_next {
+    if asked.awaits_folder {
         let _ = rt.eprintln("ramlog: --dir has a folder behind it");
         return ExitCode::from(MISUSE);
     }
-    let ran = match folders.as_slice() {
-        [] => run(threads, rt, words.as_slice(), flags),
-        [first, others @ ..] => run_folders(rt, first, others, words.as_slice(), flags),
+    let words = asked.words.as_slice();
+    let ran = match asked.folders.as_slice() {
+        [] => run(threads, rt, words, asked.flags),
+        [first, others @ ..] => run_folders(rt, first, others, words, asked.flags),
     };
     match ran {
         Ok(status) => ExitCode::from(status),

@@ -65,8 +65,8 @@ IsPrintedPlain is_raw held holds answer (Ok has) = (has ≡ false) × Appends he
 IsPrintedPlain is_raw held holds answer (Err e) =
     (e ≡ fault.WriteFailed) × AppendsFront held holds (told_text is_raw answer)
 
--- The line was run and its answer written; or the writer failed, or memory ran out. Or the line is bad: then nothing was
--- done, but that the session's master may have forgotten.
+-- The line was run and its answer written; or the writer failed, or memory ran out. Or the line is bad: then nothing
+-- was done, but that the session's master may have forgotten.
 abbrev pub PrintsText : Bool → Session → Session → List ℕ → ℕ → Known → Known → Result Bool ScriptFault → Type 0
 PrintsText is_raw old new text number held holds (Ok has) = AnswersText is_raw old text new held holds has
 PrintsText is_raw old new text number held holds (Err (fault.BadLine n why)) =

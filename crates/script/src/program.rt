@@ -19,8 +19,8 @@ use std::thread::Threads;
 
 /// Runs the program: it reads the options from the words, does what they say, and answers the exit status. The first
 /// word is the program's name. A limit of live bytes of 0 stands for the greatest one. With `is_raw` keys and values
-/// are any bytes, each behind its length. If it keeps going, a bad line is reported and skipped; the exit status is then
-/// that of a bad line.
+/// are any bytes, each behind its length. If it keeps going, a bad line is reported and skipped; the exit status is
+/// then that of a bad line.
 ///
 /// The error is clap's. Nothing was read then, and nothing was written to either output: the caller prints the error's
 /// text. Its exit code is 2, or 0 if `--help` or `--version` was asked for.

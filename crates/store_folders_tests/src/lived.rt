@@ -59,7 +59,7 @@ type Answer = (bool, u64, u64);
 fn start(rt: &HostRuntime, path: &str, other: &str) -> Result<Answer, StoreFault> {
     let folders = Folders::open(rt, path, &[other])?;
     let registry = registry_of(rt, &folders)?;
-    let mut found = find_backups(rt, &folders, registry, folders.count())?;
+    let mut found = find_backups(rt, &folders, registry, 2)?;
     put_missing(rt, &folders, &mut found, 0)?;
     let was_missing = put_missing(rt, &folders, &mut found, 1)?;
     match found.into_members(rt.alloc()) {
