@@ -1,13 +1,13 @@
 -- What next_line has taken of its reader, part by part.
 use Rattle.std.proofs.Common.{◌≡◌, ◌∙◌, ◌≤◌, ◌<◌, ◌+◌, ◌++◌, [], sym, subst, ap, ℕ, true, false, List, Option, None, Some, Bool}
-use Rattle.std.proofs.Common.{length, take, length-append, append-nil, append_assoc, length-take-le, refl, arith, ◌∷◌}
+use Rattle.std.proofs.Common.{length, take, drop, take-append-drop, length-append, append-nil, append_assoc, length-take-le, arith, ◌∷◌}
 use Rattle.std.specs.Prelude.{IfSome, Ok}
 use Rattle.std.specs.Io.{StartsWith}
 use Rattle.std.specs.Io.BufRead.{DropsConsumable}
 use Rattle.std.specs.Io.KnownBytes.{Consumes, Keeps}
 use Rattle.std.proofs.KnownBytes.{Consumes-kept, Consumes-trans}
 use Rattle.std.proofs.BufReadLemmas.{Consumes_shown}
-use Rattle.lines.specs.Reading.{IsFrontOfLine, IsUnbroken, TakesByte, TakesLine, TakesShown}
+use Rattle.lines.specs.Reading.{BeginsWithLine, IsFrontOfLine, IsUnbroken, TakesByte, TakesLine, TakesShown}
 use Rattle.lines.specs.Scanning.{HoldsTogether, IsInBytes, behind, line_limit, starts, step}
 use Rattle.lines.proofs.Scanning.{behind_both, behind_one, hold_both, hold_one}
 use Rattle.lines.specs.declared.scan.Scan.{Scan}
@@ -100,6 +100,39 @@ module _ (is_raw : Bool) (limit : ℕ) (scan : Scan) (old middle new : Option (L
             ∙ ap (behind (starts is_raw)) (sym longer),
         omega (arith, ap length longer, length-append line (byte ∷ []), is_limit, short),
       )
+
+-- a whole line is at the front of what is shown
+pub whole_line : (is_raw : Bool) (limit len : ℕ) (scan next : Scan) (bytes : List ℕ) (ended : Bool)
+    → limit ≡ line_limit is_raw → scan ≡ starts is_raw → IsFrontOfLine bytes (limit + 1) scan len ended next
+    → ended ≡ true → BeginsWithLine is_raw bytes
+whole_line is_raw limit len scan next bytes ended is_limit start front is_end =
+    let is = subst (λ (e : Bool). IsFrontOfLine bytes (limit + 1) scan len e next) is_end front in
+    let line = take len bytes in
+    let long = length-take-le len bytes (omega (arith, is.2)) in (
+      line,
+      drop (len + 1) bytes,
+      sym (take-append-drop (len + 1) bytes) ∙ ap (λ l. l ++ drop (len + 1) bytes) is.1
+          ∙ append_assoc line (10 ∷ []) (drop (len + 1) bytes),
+      record {
+        unbroken = subst (λ (s : Scan). HoldsTogether s line) start is.0;
+        short = omega (arith, long, is.3, is_limit);
+      },
+      λ inside. is.4 (subst (λ (s : Scan). IsInBytes (behind s line)) (sym start) inside),
+    )
+
+-- the reader goes on with more than it shows
+pub shown_first : (is_raw : Bool) (known : Option (List ℕ)) (bytes : List ℕ)
+    → IfSome known (λ xs. StartsWith xs bytes) → BeginsWithLine is_raw bytes → IfSome known (BeginsWithLine is_raw)
+shown_first is_raw None bytes starts_so at_hand = tt
+shown_first is_raw (Some xs) bytes starts_so (line, rest, is, whole, ends) =
+    let more = drop (length bytes) xs in (
+      line,
+      rest ++ more,
+      sym (take-append-drop (length bytes) xs) ∙ ap (λ l. l ++ more) (starts_so ∙ is)
+          ∙ append_assoc line (10 ∷ rest) more,
+      whole,
+      ends,
+    )
 
 -- what was shown of the line was taken
 module _ (a b c : Option (List ℕ)) (room : Option ℕ) (bytes before after : List ℕ) (limit most len : ℕ)

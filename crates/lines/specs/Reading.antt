@@ -46,6 +46,11 @@ StopsIn is_raw old new line ReadFailed = Consumes old new line × IsLineText is_
 StopsIn is_raw old new line WriteFailed = Consumes old new line × IsLineText is_raw line
 StopsIn is_raw old new line NoMemory = Consumes old new [] × (line ≡ [])
 
+-- the bytes begin with a line and the line feed that ends it
+abbrev pub BeginsWithLine : Bool → List ℕ → Type 0
+BeginsWithLine is_raw bytes = (line : List ℕ) × (rest : List ℕ) × (bytes ≡ line ++ 10 ∷ rest)
+    × IsLineText is_raw line × EndsLine is_raw line
+
 -- ---- what a reader shows
 
 -- how much is shown of a line of words: `len` bytes before a line feed, or `len` bytes and none within `most` bytes

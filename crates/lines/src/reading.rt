@@ -1,9 +1,11 @@
 //! Reading lines one at a time, each of a bounded length, in a dialogue with a writer.
 
-ghost use Rattle.std.specs.Prelude.{◌≡◌, ◌+◌, ◌≤◌, ◌++◌, [], List, ℕ, length, IfErr, IfOk, OnErr, vec_capacity};
+ghost use Rattle.std.specs.Prelude.{◌≡◌, ◌+◌, ◌≤◌, ◌++◌, [], true, List, ℕ, length, IfErr, IfOk, IfSome, OnErr};
+ghost use Rattle.std.specs.Prelude.{vec_capacity};
 ghost use Rattle.std.specs.Prelude.{vec_len};
 ghost use Rattle.std.specs.Io.KnownBytes.{Keeps};
-ghost use Rattle.lines.specs.Reading.{IsFrontOfLine, IsFrontOfWords, StopsIn, TakesByte, TakesLine, TakesShown};
+ghost use Rattle.lines.specs.Reading.{BeginsWithLine, IsFrontOfLine, IsFrontOfWords, StopsIn, TakesByte, TakesLine};
+ghost use Rattle.lines.specs.Reading.{TakesShown};
 ghost use Rattle.lines.specs.Scanning.{line_limit};
 
 use crate::scan::Scan;
@@ -131,6 +133,32 @@ impl LineReader {
         }
         Ok(Taken::TooLong)
     }
+
+    /// Whether the next line is at hand: the reader has shown all of it before, with its line feed. Whoever answers
+    /// several lines together takes the next one only then, so that no answer waits for a line that isn't there yet.
+    ///
+    /// The answer takes no byte, and waits for none: without bytes that were shown and not taken it is false, and a
+    /// reader with such bytes shows them again. Cost: it looks at each byte of the line.
+    pub fn has_line<R: BufRead>(&self, reader: &mut R, is_raw: bool) -> bool
+        ensures at_hand { result ≡ true → IfSome (R.remaining reader.old) (BeginsWithLine is_raw) }
+        ensures kept { Keeps (R.remaining reader.old) (R.remaining reader.new) }
+    {
+        if self.is_spent {
+            return false;
+        }
+        match reader.fill_buf() {
+            Ok(shown) => has_end(shown, is_raw),
+            Err(_) => false,
+        }
+    }
+}
+
+/// Whether a whole line is at the front of what is shown.
+fn has_end(shown: &[u8], is_raw: bool) -> bool
+    ensures { result ≡ true → BeginsWithLine is_raw shown.now }
+{
+    let (_, is_ended, _) = front_of_line(shown, line_limit(is_raw) + 1, Scan::start(is_raw));
+    is_ended
 }
 
 /// The next byte of the reader, or `None` at its end.
