@@ -15,17 +15,16 @@ use Rattle.replay.specs.master.master_state.Data.{MasterData, Origin, fresh_data
 use Rattle.replay.specs.master.master_state.declared.ledger.Posting.TheVariants as posting
 use Rattle.replay.specs.master.master_state.Ledger.{posted}
 use Rattle.replay.specs.master.master_state.Log.{home}
-use Rattle.replay.specs.master.master_state.Steps.{Applies, pushed_data, sealed_data}
+use Rattle.replay.specs.master.master_state.Steps.{Applies, sealed_data}
 use Rattle.replay.specs.master.master_state.Waits.{next_seal}
-use Rattle.replay.specs.master.log_head.declared.next.Next.{Next}
-use Rattle.replay.specs.master.master_failover.declared.mending.Mend.{Mend}
-use Rattle.replay.specs.master.master_failover.Mending.{mended_data, turned_data}
+use Rattle.replay.specs.master.master_failover.Mending.{turned_data}
 use Rattle.replay.specs.master.Passes.{IsSealOp, IsFreeOp}
 use Rattle.replay.specs.master.Steps.{Steps, FailsTake, IsPushOp}
 use Rattle.replay.specs.master.World.{World}
 use Rattle.replay.proofs.of_driving.of_master.Keeping.{take_failed}
-use Rattle.replay.proofs.of_driving.of_master.MendedRest.{mended_rest, turned_rest}
-use Rattle.replay.proofs.of_driving.of_master.PushedRest.{SameRest, same_rest}
+use Rattle.replay.proofs.of_driving.of_master.PushKinds.{pushes_rest}
+use Rattle.replay.proofs.of_driving.of_master.MendedRest.{turned_rest}
+use Rattle.replay.proofs.of_driving.of_master.PushedRest.{SameRest}
 use Rattle.adoptable.specs.Laws.{StepKeepsLimit, RunKeepsLimit}
 use Rattle.adoptable.specs.Limit.{KeepsLimit}
 use Rattle.adoptable.proofs.Applying.{applied_keeps}
@@ -58,12 +57,6 @@ rest_told : (e d : MasterData) → SameRest e d → told e ≡ told d
 rest_told e d same i =
     record { config = same.0 i; origin = same.3 i; history = same.1 i; live = same.4 i }
 
-pushed_told : (d : MasterData) (push : Next) → told (pushed_data d push) ≡ told d
-pushed_told d push = rest_told (pushed_data d push) d (same_rest d push)
-
-mended_told : (d : MasterData) (mend : Mend) → told (mended_data d mend) ≡ told d
-mended_told d mend = rest_told (mended_data d mend) d (mended_rest d mend)
-
 turned_told : (d : MasterData) → told (turned_data d) ≡ told d
 turned_told d = rest_told (turned_data d) d (turned_rest d)
 
@@ -90,8 +83,7 @@ others_told : (old new : World) (step : Step) (answer : Result StepAnswer Refusa
     ⊎ ((seat : ℕ) × (command : Command) × (a : StepAnswer) × Applies old.knows seat command a new.knows)
 others_told old new (Apply seat command) (Ok a) h = inr (seat, command, a, h.0)
 others_told old new (Apply seat command) (Err r) h = inl (world_told old new h.0)
-others_told old new Push (Ok a) (inl h) = inl (ap told h.rest ∙ pushed_told old.knows h.push)
-others_told old new Push (Ok a) (inr h) = inl (ap told h.rest ∙ mended_told old.knows h.mend)
+others_told old new Push (Ok a) h = inl (rest_told new.knows old.knows (pushes_rest old a new h))
 others_told old new Push (Err r) (inl h) = inl (world_told old new h.1)
 others_told old new Push (Err r) (inr (test, inl h)) = inl (ap (λ (w : World). told w.knows) h.3)
 others_told old new Push (Err r) (inr (test, inr (inl h))) = inl (ap told h.3 ∙ turned_told old.knows)

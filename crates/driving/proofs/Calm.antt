@@ -26,6 +26,7 @@ use Rattle.master.specs.master_state.Data.{MasterData}
 use Rattle.master.specs.master_state.Steps.{start_now}
 use Rattle.master.specs.Steps.{Accepts}
 use Rattle.master.specs.World.{World}
+use Rattle.master.proofs.PushKinds.{kinds}
 use Rattle.driving.specs.Rolls.{Advances}
 use Rattle.driving.proofs.Digests.{ids_next, roll_digest}
 use Rattle.driving.proofs.Heads.{Leads, at_head, head_leads, next_id, no_roll}
@@ -244,11 +245,11 @@ module _ (victims survivors ids : List ℕ) where
 
   push_calm : (old new : World) (a : StepAnswer) → Accepts old Push a new → IsCalm (outline old.knows)
       → IsCalm (outline new.knows)
-  push_calm old new a (inl push) calm =
-      subst IsCalm (sym (ap outline push.rest ∙ push_outline old.knows push.push))
-      (pushed_calm (outline old.knows) push.push calm)
-  push_calm old new a (inr push) calm =
-      let never : false ≡ true = subst (λ (o : Option Failover). IsSome o) calm.0 push.failing in absurd (cc)
+  push_calm old new a accepts calm = elim (kinds old a new accepts) as (λ _. IsCalm (outline new.knows)) [
+    | inl push ↦ subst IsCalm (sym (ap outline push.rest ∙ push_outline old.knows push.push))
+        (pushed_calm (outline old.knows) push.push calm)
+    | inr push ↦ absurd (let never : false ≡ true = subst (λ (o : Option Failover). IsSome o) calm.0 push.failing in cc)
+  ]
 
   pub step_calm : (failed : ℕ) (s : Step) (old new : World) → IsNextTurn old.knows s → Advances s old new
       → IsCalmFrom failed old → IsCalmFrom failed new

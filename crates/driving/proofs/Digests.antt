@@ -21,8 +21,8 @@ use Rattle.master.proofs.log_head.Rolls.{zeros_length}
 use Rattle.master.specs.log_laws.Heads.{ids_of}
 use Rattle.master.specs.log_laws.Ids.{all_inserted, without}
 use Rattle.master.proofs.log_laws.ListedIds.{ids_listed}
-use Rattle.master.specs.master_failover.declared.mending.Mend.{Mend}
-use Rattle.master.specs.master_failover.declared.mending.Mend.TheVariants as mend
+use Rattle.master.specs.master_failover.declared.push.Push.{Push as PushKind}
+use Rattle.master.specs.master_failover.declared.push.Push.TheVariants as push
 use Rattle.master.specs.master_failover.Mending.{IsInPart, IsNextMend, closed_more, mended_data, opening, turn_roll}
 use Rattle.master.specs.master_failover.Mending.{was_headless}
 use Rattle.master.specs.master_rolls.Ends.{pass_left}
@@ -33,11 +33,13 @@ use Rattle.master.specs.master_state.declared.step.Step.{Step}
 use Rattle.master.specs.master_state.declared.step.Step.TheVariants.{Apply, Push, BeginRoll, Compact, BeginClean, Copy}
 use Rattle.master.specs.master_state.declared.step.Step.TheVariants.{Seal}
 use Rattle.master.specs.master_state.declared.step.Step.TheVariants.{Free}
+use Rattle.master.specs.master_state.declared.step.StepAnswer.{StepAnswer}
 use Rattle.master.specs.master_state.Budget.{is_ready, survivors_of, victims_of}
 use Rattle.master.specs.master_state.Data.{MasterData}
 use Rattle.master.specs.master_state.Log.{is_opened}
 use Rattle.master.specs.master_state.Steps.{listed_in, place_of, start_now}
 use Rattle.master.specs.World.{World}
+use Rattle.master.proofs.PushKinds.{CalmPush, MendsOn, kinds}
 use Rattle.driving.specs.Rolls.{Advances}
 use Rattle.driving.proofs.Heads.{next_id, part_in}
 use Rattle.driving.proofs.Losses.{IsLoss, begin_unlost, copy_unlost, free_lost, push_lost, seal_lost}
@@ -284,25 +286,26 @@ module _ (victims survivors ids : List ℕ) where
   turn_lists d = roll_digest d
       ∙ ap (λ (i : ℕ). ids_next (is_ready d) d.pass (digest_of d.head.image) ++ i ∷ []) (sym (next_id d))
 
-  mend_listed : (d : MasterData) (m : Mend) → was_headless d ≡ false → IsListed (outline d)
+  mend_listed : (d : MasterData) (m : PushKind) → was_headless d ≡ false → IsListed (outline d)
       → IsListed (outline (mended_data d m))
-  mend_listed d (mend.Extend j) headed held =
+  mend_listed d (push.Head (next.Extend j)) headed held =
       subst IsListed (sym (push_outline d (next.Extend j))) (after_listed (outline d) (next.Extend j) held)
-  mend_listed d (mend.Replace j) headed held =
+  mend_listed d (push.Head (next.OpenWhole j)) headed held =
       subst IsListed (sym (push_outline d (next.OpenWhole j))) (after_listed (outline d) (next.OpenWhole j) held)
-  mend_listed d mend.Turn headed held =
+  mend_listed d push.Turn headed held =
       subst IsListed (sym (ap (λ (o : Outline). record o { head = opened_head o.head })
       (turned_is d ∙ ap (turned_outline d) headed)))
       (opened_listed (turned_outline d false)
       (begins_lists (outline d) (is_ready_pass d.config.replicas d.closed) (turn_roll d) (turn_lists d) held))
-  mend_listed d (mend.Open j) headed held = opened_listed (outline d) held
-  mend_listed d (mend.Raise id) headed held = subst IsListed (sym (raised_outline d)) held
-  mend_listed d (mend.Close j) headed held = go d.head.roll refl
+  mend_listed d (push.Head (next.OpenNew j)) headed held = opened_listed (outline d) held
+  mend_listed d (push.Head (next.OpenFirst j)) headed held = opened_listed (outline d) held
+  mend_listed d (push.Raise id) headed held = subst IsListed (sym (raised_outline d)) held
+  mend_listed d (push.Head (next.CloseOld j)) headed held = go d.head.roll refl
     where
       go : (o : Option Roll) → d.head.roll ≡ o → IsListed (outline (option_map_or (closed_more d j) o d))
       go None is = held
       go (Some r) is = subst IsListed (sym (closed_more_outline d j r).1) (closes_listed (outline d) r is held)
-  mend_listed d (mend.Repair s j) headed held = subst IsListed (sym (sealed_anew_outline d s j).1) held
+  mend_listed d (push.Repair s j) headed held = subst IsListed (sym (sealed_anew_outline d s j).1) held
 
   -- ---- a copy
 
@@ -423,14 +426,22 @@ first_repairing true true o e = refl
 first_repairing true false o e = first_with part.Repairs o e
 first_repairing false whole o e = e
 
-mend_headed : (d : MasterData) (m : Mend) → IsNextMend d m → IsHeaded (outline d) → IsHeaded (outline (mended_data d m))
-mend_headed d (mend.Extend j) comes (replicas, first, inl full) =
+open_headed : (d : MasterData) → IsInPart d part.Opens → IsHeaded (outline d)
+    → IsHeaded (record (outline d) { head = opened_head d.head })
+open_headed d in_part held = (
+  opened_replicas d.head ∙ held.0,
+  held.1,
+  inl (opened_full d.head (full_in d part.Opens in_part (λ e. cc) held)),
+)
+
+mend_headed : (d : MasterData) (m : PushKind) → IsNextMend d m → IsHeaded (outline d) → IsHeaded (outline (mended_data d m))
+mend_headed d (push.Head (next.Extend j)) comes (replicas, first, inl full) =
     (replicas, first, inl (head_full d.head (next.Extend j) full))
-mend_headed d (mend.Extend j) comes (replicas, first, inr mends) = (replicas, first, inr mends)
-mend_headed d (mend.Replace j) comes (replicas, first, inl full) =
+mend_headed d (push.Head (next.Extend j)) comes (replicas, first, inr mends) = (replicas, first, inr mends)
+mend_headed d (push.Head (next.OpenWhole j)) comes (replicas, first, inl full) =
     (replicas, first, inl (head_full d.head (next.OpenWhole j) full))
-mend_headed d (mend.Replace j) comes (replicas, first, inr mends) = (replicas, first, inr mends)
-mend_headed d mend.Turn comes (replicas, first, full) =
+mend_headed d (push.Head (next.OpenWhole j)) comes (replicas, first, inr mends) = (replicas, first, inr mends)
+mend_headed d push.Turn comes (replicas, first, full) =
     subst IsHeaded (sym (ap (λ (o : Outline). record o { head = opened_head o.head })
     (turned_is d ∙ ap (turned_outline d) first)))
     (replicas, first_opening d.failover first, inl (whole comes.1))
@@ -440,17 +451,14 @@ mend_headed d mend.Turn comes (replicas, first, full) =
         → IsFull d.head
     whole (inl headless) = let never = sym first ∙ headless in absurd (cc)
     whole (inr both) = let all = both.1 in omega (arith, replicas)
-mend_headed d (mend.Open j) comes held = (
-  opened_replicas d.head ∙ held.0,
-  held.1,
-  inl (opened_full d.head (full_in d part.Opens comes.0 (λ e. cc) held)),
-)
-mend_headed d (mend.Raise id) comes held = subst IsHeaded (sym (raised_outline d)) (
+mend_headed d (push.Head (next.OpenNew j)) comes held = open_headed d comes.0.0 held
+mend_headed d (push.Head (next.OpenFirst j)) comes held = open_headed d comes.0.0 held
+mend_headed d (push.Raise id) comes held = subst IsHeaded (sym (raised_outline d)) (
   held.0,
   first_or (was_headless d) _ (first_with part.Closes d.failover held.1),
   inl (full_in d part.Opens comes.0 (λ e. cc) held),
 )
-mend_headed d (mend.Close j) comes held = go d.head.roll
+mend_headed d (push.Head (next.CloseOld j)) comes held = go d.head.roll
   where
     full : IsFull d.head
     full = full_in d part.Closes comes.0 (λ e. cc) held
@@ -464,7 +472,7 @@ mend_headed d (mend.Close j) comes held = go d.head.roll
           first_repairing (suc j == d.config.replicas) whole d.failover held.1,
           inl (closed_full d.head r full),
         )
-mend_headed d (mend.Repair s j) comes held =
+mend_headed d (push.Repair s j) comes held =
     let (whole, sealed) = sealed_anew_outline d s j in
     subst IsHeaded (sym sealed)
     (held.0, first_or whole d.failover held.1, inl (full_in d part.Repairs comes.0 (λ e. cc) held))
@@ -497,6 +505,20 @@ module _ (victims survivors ids : List ℕ) where
         (lost_listed victims survivors ids (outline old.knows) (place_of old.knows b) listed),
   )
 
+  pushed_turning : (old new : World) (a : StepAnswer) → CalmPush old a new ⊎ MendsOn old a new → IsTurning old
+      → IsTurning new
+  pushed_turning old new a (inl push) (headed, listed) =
+      let same = ap outline push.rest ∙ push_outline old.knows push.push in (
+        subst IsHeaded (sym same) (pushed_headed (outline old.knows) push.push push.calm headed),
+        subst (IsListed victims survivors ids) (sym same)
+            (after_listed victims survivors ids (outline old.knows) push.push listed),
+      )
+  pushed_turning old new a (inr push) (headed, listed) = (
+    subst IsHeaded (sym (ap outline push.rest)) (mend_headed old.knows push.mend push.next headed),
+    subst (IsListed victims survivors ids) (sym (ap outline push.rest))
+        (mend_listed victims survivors ids old.knows push.mend headed.1 listed),
+  )
+
   pub step_turning : (s : Step) → IsTurn s → (old new : World) → Advances s old new → IsTurning old → IsTurning new
   step_turning (Apply seat command) turn old new steps held = absurd turn
   step_turning (Compact id) turn old new steps held = absurd turn
@@ -509,17 +531,7 @@ module _ (victims survivors ids : List ℕ) where
         (ap (λ (p : Pass). p.is_committing) copies.0.treats.pass) listed),
   )
   step_turning Copy turn old new (inr (b, copies)) held = absurd (copy_unlost old new b copies)
-  step_turning Push turn old new (inl (a, inl push)) (headed, listed) =
-      let same = ap outline push.rest ∙ push_outline old.knows push.push in (
-        subst IsHeaded (sym same) (pushed_headed (outline old.knows) push.push push.calm headed),
-        subst (IsListed victims survivors ids) (sym same)
-            (after_listed victims survivors ids (outline old.knows) push.push listed),
-      )
-  step_turning Push turn old new (inl (a, inr push)) (headed, listed) = (
-    subst IsHeaded (sym (ap outline push.rest)) (mend_headed old.knows push.mend push.next headed),
-    subst (IsListed victims survivors ids) (sym (ap outline push.rest))
-        (mend_listed victims survivors ids old.knows push.mend headed.1 listed),
-  )
+  step_turning Push turn old new (inl (a, push)) held = pushed_turning old new a (kinds old a new push) held
   step_turning Push turn old new (inr (b, push)) held = lost_turning old new b (push_lost old new b push) held
   step_turning BeginRoll turn old new (inl (a, begins)) (headed, listed) =
       let d = old.knows in (

@@ -13,8 +13,8 @@ use Rattle.master.specs.log_head.Head.{HeadValue, is_open}
 use Rattle.master.specs.log_head.Steps.{fresh_roll, in_force, with_closed_replica, with_new_replica}
 use Rattle.master.specs.log_head.Steps.{with_opened_replica}
 use Rattle.master.specs.log_laws.Heads.{Start}
-use Rattle.master.specs.master_failover.declared.mending.Mend.{Mend}
-use Rattle.master.specs.master_failover.declared.mending.Mend.TheVariants as mend
+use Rattle.master.specs.master_failover.declared.push.Push.{Push as PushKind}
+use Rattle.master.specs.master_failover.declared.push.Push.TheVariants as push
 use Rattle.master.specs.master_failover.Mending.{IsInPart, IsNextMend, closed_more, mended_data, turn_roll}
 use Rattle.master.specs.master_failover.Mending.{was_headless}
 use Rattle.versioned_map.specs.declared.command.Record.{Record}
@@ -32,6 +32,7 @@ use Rattle.master.specs.master_state.Causes.{roll_refusal}
 use Rattle.master.specs.master_state.Steps.{start_now}
 use Rattle.master.specs.Steps.{Accepts, Declines, Steps}
 use Rattle.master.specs.World.{World}
+use Rattle.master.proofs.PushKinds.{kinds}
 use Rattle.driving.specs.Rolls.{Advances, ArePushed, PushesUntil, GoesRolling, HasTurned, IsRolled, IsNotRolled}
 use Rattle.driving.proofs.Losses.{none_is, push_lost}
 use Rattle.driving.proofs.MasterSteps.{accepted_fixed, nothing_waits, open_push}
@@ -135,15 +136,16 @@ ends_turned false o turned = turned
 abbrev IsLed : (ℕ → Type 0) → Outline → Type 0
 IsLed P o = Turned o.failover × Leads P o.head
 
-mend_led : (P : ℕ → Type 0) (d : MasterData) (m : Mend) → IsNextMend d m → IsLed P (outline d)
+mend_led : (P : ℕ → Type 0) (d : MasterData) (m : PushKind) → IsNextMend d m → IsLed P (outline d)
     → IsLed P (outline (mended_data d m))
-mend_led P d (mend.Extend j) next led = absurd (unturned d next.0 led.0)
-mend_led P d (mend.Replace j) next led = absurd (unturned d next.0 led.0)
-mend_led P d mend.Turn next led = absurd (unturned d next.0 led.0)
-mend_led P d (mend.Open j) next led = (led.0, opened_leads P d.head led.1)
-mend_led P d (mend.Raise id) next led =
+mend_led P d (push.Head (next.Extend j)) next led = absurd (unturned d next.0 led.0)
+mend_led P d (push.Head (next.OpenWhole j)) next led = absurd (unturned d next.0 led.0)
+mend_led P d push.Turn next led = absurd (unturned d next.0 led.0)
+mend_led P d (push.Head (next.OpenNew j)) next led = (led.0, opened_leads P d.head led.1)
+mend_led P d (push.Head (next.OpenFirst j)) next led = (led.0, opened_leads P d.head led.1)
+mend_led P d (push.Raise id) next led =
     subst (IsLed P) (sym (raised_outline d)) (raised_turned (was_headless d) d.failover, led.1)
-mend_led P d (mend.Close j) next led = go d.head.roll refl
+mend_led P d (push.Head (next.CloseOld j)) next led = go d.head.roll refl
   where
     go : (o : Option Roll) → d.head.roll ≡ o → IsLed P (outline (option_map_or (closed_more d j) o d))
     go None is = led
@@ -153,17 +155,17 @@ mend_led P d (mend.Close j) next led = go d.head.roll refl
           closes_turned (suc j == d.config.replicas) whole d.failover led.0,
           closing_leads P d.head r (rolls_to P d.head r is led.1),
         )
-mend_led P d (mend.Repair s j) next led =
+mend_led P d (push.Repair s j) next led =
     let (whole, sealed) = sealed_anew_outline d s j in
     subst (IsLed P) (sym sealed) (ends_turned whole d.failover led.0, led.1)
 
 accepted_led : (P : ℕ → Type 0) (old new : World) (a : StepAnswer) → Accepts old Push a new
     → IsLed P (outline old.knows) → IsLed P (outline new.knows)
-accepted_led P old new a (inl push) led =
-    subst (IsLed P) (sym (ap outline push.rest ∙ push_outline old.knows push.push))
-    (led.0, head_leads P old.knows.head push.push led.1)
-accepted_led P old new a (inr push) led =
-    subst (IsLed P) (sym (ap outline push.rest)) (mend_led P old.knows push.mend push.next led)
+accepted_led P old new a accepts led = elim (kinds old a new accepts) as (λ _. IsLed P (outline new.knows)) [
+  | inl push ↦ subst (IsLed P) (sym (ap outline push.rest ∙ push_outline old.knows push.push))
+      (led.0, head_leads P old.knows.head push.push led.1)
+  | inr push ↦ subst (IsLed P) (sym (ap outline push.rest)) (mend_led P old.knows push.mend push.next led)
+]
 
 -- so it is as long as no more backups have failed
 abbrev IsLedFrom : ℕ → (ℕ → Type 0) → World → Type 0
@@ -210,13 +212,13 @@ past_later n d p in_part other (most, inl leads) = leads
 past_later n d p in_part other (most, inr (none, f, some, is)) =
     absurd (other (part_in d p part.Mends in_part (f, some, is)))
 
-mend_past : (n : ℕ) (d : MasterData) (m : Mend) → IsNextMend d m → IsPast n (outline d)
+mend_past : (n : ℕ) (d : MasterData) (m : PushKind) → IsNextMend d m → IsPast n (outline d)
     → IsPast n (outline (mended_data d m))
-mend_past n d (mend.Extend j) next (most, inl leads) = (most, inl leads)
-mend_past n d (mend.Extend j) next (most, inr mends) = (most, inr mends)
-mend_past n d (mend.Replace j) next (most, inl leads) = (most, inl leads)
-mend_past n d (mend.Replace j) next (most, inr mends) = (most, inr mends)
-mend_past n d mend.Turn next past =
+mend_past n d (push.Head (next.Extend j)) next (most, inl leads) = (most, inl leads)
+mend_past n d (push.Head (next.Extend j)) next (most, inr mends) = (most, inr mends)
+mend_past n d (push.Head (next.OpenWhole j)) next (most, inl leads) = (most, inl leads)
+mend_past n d (push.Head (next.OpenWhole j)) next (most, inr mends) = (most, inr mends)
+mend_past n d push.Turn next past =
     subst (IsPast n) (sym (ap (λ (o : Outline). record o { head = opened_head o.head }) (turned_is d)))
     (go (was_headless d))
   where
@@ -231,11 +233,13 @@ mend_past n d mend.Turn next past =
         subst (λ (i : ℕ). n ≤ i) (sym (next_id d)) past.0,
       )),
     )
-mend_past n d (mend.Open j) next past =
-    (past.0, inl (opened_leads _ d.head (past_later n d part.Opens next.0 (λ e. cc) past)))
-mend_past n d (mend.Raise id) next past =
+mend_past n d (push.Head (next.OpenNew j)) next past =
+    (past.0, inl (opened_leads _ d.head (past_later n d part.Opens next.0.0 (λ e. cc) past)))
+mend_past n d (push.Head (next.OpenFirst j)) next past =
+    (past.0, inl (opened_leads _ d.head (past_later n d part.Opens next.0.0 (λ e. cc) past)))
+mend_past n d (push.Raise id) next past =
     subst (IsPast n) (sym (raised_outline d)) (past.0, inl (past_later n d part.Opens next.0 (λ e. cc) past))
-mend_past n d (mend.Close j) next past = go d.head.roll refl
+mend_past n d (push.Head (next.CloseOld j)) next past = go d.head.roll refl
   where
     leads : Leads (λ i. n ≤ i) d.head
     leads = past_later n d part.Closes next.0 (λ e. cc) past
@@ -244,7 +248,7 @@ mend_past n d (mend.Close j) next past = go d.head.roll refl
     go None is = past
     go (Some r) is = subst (IsPast n) (sym (closed_more_outline d j r).1)
         (past.0, inl (closing_leads _ d.head r (rolls_to _ d.head r is leads)))
-mend_past n d (mend.Repair s j) next past =
+mend_past n d (push.Repair s j) next past =
     subst (IsPast n) (sym (sealed_anew_outline d s j).1)
     (past.0, inl (past_later n d part.Repairs next.0 (λ e. cc) past))
 
@@ -254,11 +258,11 @@ pushed_past n o push calm (most, inr (none, f, some, is)) = let never = sym calm
 
 push_past : (n : ℕ) (old new : World) → Advances Push old new → IsPast n (outline old.knows)
     → IsPast n (outline new.knows)
-push_past n old new (inl (a, inl push)) past =
-    subst (IsPast n) (sym (ap outline push.rest ∙ push_outline old.knows push.push))
-    (pushed_past n (outline old.knows) push.push push.calm past)
-push_past n old new (inl (a, inr push)) past =
-    subst (IsPast n) (sym (ap outline push.rest)) (mend_past n old.knows push.mend push.next past)
+push_past n old new (inl (a, accepts)) past = elim (kinds old a new accepts) as (λ _. IsPast n (outline new.knows)) [
+  | inl push ↦ subst (IsPast n) (sym (ap outline push.rest ∙ push_outline old.knows push.push))
+      (pushed_past n (outline old.knows) push.push push.calm past)
+  | inr push ↦ subst (IsPast n) (sym (ap outline push.rest)) (mend_past n old.knows push.mend push.next past)
+]
 push_past n old new (inr (b, push)) past =
     subst (IsPast n) (sym (ap outline (push_lost old new b push).knows)) (past.0, inr (refl, _, refl, refl))
 

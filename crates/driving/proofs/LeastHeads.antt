@@ -84,8 +84,7 @@ module _ (old new : World) where
   accepted (Compact id) a h = beside (ap (λ (d : MasterData). d.config) h.0.rest) h.1
   accepted (BeginClean ids) a h = beside (ap (λ (d : MasterData). d.config) h.0.rest) h.1
   accepted Copy a h = beside (ap (λ (d : MasterData). d.config) h.0.rest) h.1
-  accepted Push a (inl h) = taken h.op (ap config_in (accepted_fixed old new a (inl h))) h.takes
-  accepted Push a (inr h) = taken h.op (ap config_in (accepted_fixed old new a (inr h))) h.takes
+  accepted Push a h = taken h.op (ap config_in (accepted_fixed old new a h)) h.takes
   accepted Seal a h = taken h.op (ap (λ (o : Outline). o.config) (seals_outline old new a h)) h.takes
   accepted Free a h = taken h.op (ap (λ (d : MasterData). d.config) h.rest) h.takes
 

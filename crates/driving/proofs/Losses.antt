@@ -136,8 +136,7 @@ loss_lowers old new b h =
 
 -- a push that is accepted is counted
 pub push_counts : (old new : World) (a : StepAnswer) → Accepts old Push a new → ops_left new < ops_left old
-push_counts old new a (inl push) = fewer_to_take old.knows.config.master old.fleet push.op new.fleet push.takes
-push_counts old new a (inr push) = fewer_to_take old.knows.config.master old.fleet push.op new.fleet push.takes
+push_counts old new a push = fewer_to_take old.knows.config.master old.fleet push.op new.fleet push.takes
 
 -- each push that goes on lowers it
 pub push_lowers : (old new : World) → Advances Push old new → left_to_push new < left_to_push old

@@ -32,6 +32,7 @@ use Rattle.driving.specs.Rolls.{is_lost}
 use Rattle.driving.specs.Served.{LivesOn, IsSpent, record_of, is_of_push}
 pub use Rattle.driving.specs.GoesOn.{goes_nowhere}
 use Rattle.master.proofs.Keeping.{steps_remember}
+use Rattle.master.proofs.PushKinds.{kinds}
 use Rattle.driving.proofs.Outlines.{fixed, mended_fixed, pushed_fixed, turned_fixed}
 
 -- ---- a push
@@ -54,8 +55,10 @@ history_in f = f.1
 -- a push that is accepted leaves the configuration, the history, and which backups failed
 pub accepted_fixed : (old new : World) (a : StepAnswer) → Accepts old Push a new
     → fixed new.knows ≡ fixed old.knows
-accepted_fixed old new a (inl h) = ap fixed h.rest ∙ pushed_fixed old.knows h.push
-accepted_fixed old new a (inr h) = ap fixed h.rest ∙ mended_fixed old.knows h.mend
+accepted_fixed old new a accepts = elim (kinds old a new accepts) as (λ _. fixed new.knows ≡ fixed old.knows) [
+  | inl h ↦ ap fixed h.rest ∙ pushed_fixed old.knows h.push
+  | inr h ↦ ap fixed h.rest ∙ mended_fixed old.knows h.mend
+]
 
 pub pushed_history : (old new : World) (r : Result StepAnswer Refusal) → Steps old Push r new
     → new.knows.history ≡ old.knows.history

@@ -15,8 +15,8 @@ use Rattle.master.specs.log_head.Steps.{old_image, with_all_taken, with_closed_r
 use Rattle.master.specs.log_head.Steps.{with_opened_replica}
 use Rattle.master.specs.log_head.Steps.{with_whole_replica}
 use Rattle.versioned_map.specs.declared.command.Record.{Record}
-use Rattle.master.specs.master_failover.declared.mending.Mend.{Mend}
-use Rattle.master.specs.master_failover.declared.mending.Mend.TheVariants as mend
+use Rattle.master.specs.master_failover.declared.push.Push.{Push}
+use Rattle.master.specs.master_failover.declared.push.Push.TheVariants as push
 use Rattle.master.specs.master_failover.Mending.{closed_more, first_lost, mended_data, opening, raised_data}
 use Rattle.master.specs.master_failover.Mending.{repaired_data}
 use Rattle.master.specs.master_failover.Mending.{sealed_anew, turn_roll, turned_data, was_headless, with_part}
@@ -274,15 +274,16 @@ turned_fixed d = ap fixed_in (turned_is d) ∙ go (was_headless d)
     go true = refl
     go false = refl
 
-pub mended_fixed : (d : MasterData) (m : Mend) → fixed (mended_data d m) ≡ fixed d
-mended_fixed d (mend.Extend j) = pushed_fixed d (next.Extend j)
-mended_fixed d (mend.Replace j) = pushed_fixed d (next.OpenWhole j)
-mended_fixed d mend.Turn = turned_fixed d
-mended_fixed d (mend.Open j) = refl
-mended_fixed d (mend.Raise id) = ap fixed_in (raised_outline d)
-mended_fixed d (mend.Close j) = go d.head.roll
+pub mended_fixed : (d : MasterData) (m : Push) → fixed (mended_data d m) ≡ fixed d
+mended_fixed d (push.Head (next.Extend j)) = pushed_fixed d (next.Extend j)
+mended_fixed d (push.Head (next.OpenWhole j)) = pushed_fixed d (next.OpenWhole j)
+mended_fixed d push.Turn = turned_fixed d
+mended_fixed d (push.Head (next.OpenNew j)) = refl
+mended_fixed d (push.Head (next.OpenFirst j)) = refl
+mended_fixed d (push.Raise id) = ap fixed_in (raised_outline d)
+mended_fixed d (push.Head (next.CloseOld j)) = go d.head.roll
   where
     go : (o : Option Roll) → fixed (option_map_or (closed_more d j) o d) ≡ fixed d
     go None = refl
     go (Some r) = ap fixed_in (closed_more_outline d j r).1
-mended_fixed d (mend.Repair s j) = ap fixed_in (sealed_anew_outline d s j).1
+mended_fixed d (push.Repair s j) = ap fixed_in (sealed_anew_outline d s j).1

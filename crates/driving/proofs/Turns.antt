@@ -16,8 +16,8 @@ use Rattle.master.specs.log_head.declared.head.Roll.{Roll}
 use Rattle.master.specs.log_head.declared.next.Next.{Next}
 use Rattle.master.specs.log_head.declared.next.Next.TheVariants as next
 use Rattle.master.specs.log_head.Head.{HeadValue, is_open}
-use Rattle.master.specs.master_failover.declared.mending.Mend.{Mend}
-use Rattle.master.specs.master_failover.declared.mending.Mend.TheVariants as mend
+use Rattle.master.specs.master_failover.declared.push.Push.{Push as PushKind}
+use Rattle.master.specs.master_failover.declared.push.Push.TheVariants as push
 use Rattle.master.specs.master_failover.Mending.{closed_more, mended_data, was_headless}
 use Rattle.master.specs.master_space.Choosing.{pass_step, pending_step, pending_without}
 use Rattle.master.specs.master_rolls.Ends.{pass_left}
@@ -39,6 +39,7 @@ use Rattle.master.specs.master_state.Steps.{rolling_data}
 use Rattle.master.specs.Keeps.{Keeps}
 use Rattle.master.specs.Steps.{Accepts, Declines, Steps}
 use Rattle.master.specs.World.{World}
+use Rattle.master.proofs.PushKinds.{kinds}
 use Rattle.driving.specs.Cleans.{AreMended, AreTurned}
 use Rattle.driving.specs.GoesOn.{goes_further}
 use Rattle.driving.specs.Rolls.{Advances}
@@ -228,33 +229,34 @@ module _ (P : Option Pass → Type 0) (none : P None)
       go None = held
       go (Some r) = left_keeps (suc r.closed == h.replicas) o held
 
-  mend_keeps : (d : MasterData) (m : Mend) → P d.pass → P (mended_data d m).pass
-  mend_keeps d (mend.Extend j) held = held
-  mend_keeps d (mend.Replace j) held = held
-  mend_keeps d mend.Turn held =
+  mend_keeps : (d : MasterData) (m : PushKind) → P d.pass → P (mended_data d m).pass
+  mend_keeps d (push.Head (next.Extend j)) held = held
+  mend_keeps d (push.Head (next.OpenWhole j)) held = held
+  mend_keeps d push.Turn held =
       subst (λ (o : Outline). P o.pass)
       (sym (ap (λ (o : Outline). record o { head = opened_head o.head }) (turned_is d))) (go (was_headless d))
     where
       go : (first : Bool) → P (turned_outline d first).pass
       go true = held
       go false = each_ready (is_ready_pass d.config.replicas d.closed) d.pass held
-  mend_keeps d (mend.Open j) held = held
-  mend_keeps d (mend.Raise id) held = subst (λ (o : Outline). P o.pass) (sym (raised_outline d)) held
-  mend_keeps d (mend.Close j) held = go d.head.roll
+  mend_keeps d (push.Head (next.OpenNew j)) held = held
+  mend_keeps d (push.Head (next.OpenFirst j)) held = held
+  mend_keeps d (push.Raise id) held = subst (λ (o : Outline). P o.pass) (sym (raised_outline d)) held
+  mend_keeps d (push.Head (next.CloseOld j)) held = go d.head.roll
     where
       go : (o : Option Roll) → P (option_map_or (closed_more d j) o d).pass
       go None = held
       go (Some r) = subst (λ (o : Outline). P o.pass) (sym (closed_more_outline d j r).1)
           (left_keeps (suc r.closed == d.head.replicas) d.pass held)
-  mend_keeps d (mend.Repair s j) held =
+  mend_keeps d (push.Repair s j) held =
       subst (λ (o : Outline). P o.pass) (sym (sealed_anew_outline d s j).1) held
 
   accepted_keeps : (old new : World) (a : StepAnswer) → Accepts old Push a new → P old.knows.pass → P new.knows.pass
-  accepted_keeps old new a (inl push) held =
-      subst (λ (o : Outline). P o.pass) (sym (ap outline push.rest ∙ push_outline old.knows push.push))
-      (after_keeps old.knows.head old.knows.pass push.push held)
-  accepted_keeps old new a (inr push) held =
-      subst (λ (d : MasterData). P d.pass) (sym push.rest) (mend_keeps old.knows push.mend held)
+  accepted_keeps old new a accepts held = elim (kinds old a new accepts) as (λ _. P new.knows.pass) [
+    | inl push ↦ subst (λ (o : Outline). P o.pass) (sym (ap outline push.rest ∙ push_outline old.knows push.push))
+        (after_keeps old.knows.head old.knows.pass push.push held)
+    | inr push ↦ subst (λ (d : MasterData). P d.pass) (sym push.rest) (mend_keeps old.knows push.mend held)
+  ]
 
   loss_keeps : (old new : World) (b : ℕ) → IsLoss old b new → P old.knows.pass → P new.knows.pass
   loss_keeps old new b lost held =

@@ -35,12 +35,12 @@ use Rattle.master_core.specs.master_state.Waits.{next_seal}
 use Rattle.master_core.proofs.master_state.Refusals.{may_begin, unit_working, working_parts}
 use Rattle.master_core.proofs.master_state.Calm.{calm_parts, passes_first}
 use Rattle.master_core.specs.master_failover.Left.{left_in, left_now}
+use Rattle.master_core.proofs.master_failover.PushKinds.{not_calm}
 use Rattle.master_core.proofs.master_failover.LeftSteps.{mend_lowers, turn_lowers}
 use Rattle.master.specs.Invariant.{IsWellKept}
 use Rattle.master.specs.Left.{GoesOn}
-use Rattle.master.specs.Mends.{MendsOn}
 use Rattle.master.specs.Passes.{IsSealOp, IsFreeOp}
-use Rattle.master.specs.Pushes.{Pushes}
+use Rattle.master.proofs.PushKinds.{CalmPush, MendsOn, kinds}
 use Rattle.master.specs.Steps.{Accepts, Declines, FailsTake, IsPushOp, Steps}
 use Rattle.master.specs.World.{World}
 
@@ -142,7 +142,7 @@ mends_lower old answer new core is =
     let less = mend_lowers old.knows is.mend core is.next in
     let same = ap left_now is.rest in omega arith
 
-pushes_none : (old : World) (answer : StepAnswer) (new : World) → Pushes old answer new → new.knows.failover ≡ None
+pushes_none : (old : World) (answer : StepAnswer) (new : World) → CalmPush old answer new → new.knows.failover ≡ None
 pushes_none old answer new is =
     ap (λ (x : MasterData). x.failover) is.rest ∙ pushed_failover old.knows is.push ∙ is.calm
 
@@ -151,9 +151,11 @@ accepted_stays : (old : World) (step : Step) (answer : StepAnswer) (new : World)
     → Accepts old step answer new → left_now new.knows ≤ left_now old.knows
 accepted_stays old (Apply seat command) answer new core is =
     applied_stays old.knows new.knows seat command answer is.0
-accepted_stays old Push answer new core (inl is) = calm_stays old.knows new.knows (pushes_none old answer new is)
-accepted_stays old Push answer new core (inr is) =
-    let less = mends_lower old answer new core is in omega arith
+accepted_stays old Push answer new core is =
+    elim (kinds old answer new is) as (λ _. left_now new.knows ≤ left_now old.knows) [
+      | inl p ↦ calm_stays old.knows new.knows (pushes_none old answer new p)
+      | inr m ↦ (let less = mends_lower old answer new core m in omega arith)
+    ]
 accepted_stays old BeginRoll answer new core is =
     calm_stays old.knows new.knows (ap (λ (x : MasterData). x.failover) is.0.rest
     ∙ (may_begin old.knows is.0.passed).calm)
@@ -222,13 +224,11 @@ declined_stays old Free r new core other (inr is) = fails_stays (IsFreeOp old.kn
 
 pushed_lowers : (old : World) (answer : StepAnswer) (new : World) → IsCore old.knows → Accepts old Push answer new
     → IsSome old.knows.failover → left_now new.knows < left_now old.knows
-pushed_lowers old answer new core (inl is) some =
-    absurd (none_some old.knows.failover is.calm some)
-  where
-    none_some : (o : Option Failover) → o ≡ None → IsSome o → ⊥
-    none_some None is some = cc
-    none_some (Some f) is some = cc
-pushed_lowers old answer new core (inr is) some = mends_lower old answer new core is
+pushed_lowers old answer new core is some =
+    elim (kinds old answer new is) as (λ _. left_now new.knows < left_now old.knows) [
+      | inl p ↦ absurd (not_calm old.knows.failover p.calm some)
+      | inr m ↦ mends_lower old answer new core m
+    ]
 
 accepted_lowers : (old : World) (step : Step) (answer : StepAnswer) (new : World) → IsCore old.knows
     → Accepts old step answer new → step ≡ Push → IsSome old.knows.failover

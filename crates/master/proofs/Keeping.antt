@@ -67,12 +67,12 @@ use Rattle.master_core.proofs.master_space.SealedCore.{seals_next}
 use Rattle.master.specs.Invariant.{IsWellKept}
 use Rattle.master.specs.Keeps.{Keeps}
 use Rattle.master.specs.Passes.{IsSealOp, Seals, IsFreeOp, Frees}
-use Rattle.master.specs.Pushes.{IsAfter, IsNextOp, Pushes}
-use Rattle.master.specs.Mends.{MendsOn}
+use Rattle.master.specs.Pushes.{IsAfter, IsNextOp}
 use Rattle.master.specs.Steps.{FailsTake, IsPushOp, IsStuck, FailsTurn, FailsPush, Steps}
 use Rattle.master.specs.World.{World}
 use Rattle.master.proofs.Counting.{counted_of, counted, kept_unfailed}
 use Rattle.master.proofs.InForce.{never_fails, fails}
+use Rattle.master.proofs.PushKinds.{CalmPush, MendsOn, kinds, pushes_rest}
 use Rattle.master.proofs.MendedRest.{mended_rest, turned_rest, turned_durable, failing_is, mend_durable}
 use Rattle.master.proofs.Placements.{not_begun, forgotten_below}
 use Rattle.master.proofs.PushedRest.{same_rest}
@@ -344,9 +344,7 @@ module _ (old new : World) where
   steps_remember (BeginClean ids) (Err r) t = by_nothing t.0
   steps_remember Copy (Ok answer) t = by_rest _ t.0.rest refl
   steps_remember Copy (Err r) t = by_nothing t.0
-  steps_remember Push (Ok answer) (inl t) = by_rest (pushed_data old.knows t.push) t.rest (same_rest old.knows t.push).5
-  steps_remember Push (Ok answer) (inr t) = by_rest (mended_data old.knows t.mend) t.rest
-      (mended_rest old.knows t.mend).5
+  steps_remember Push (Ok answer) t = (pushes_rest old answer new t).5
   steps_remember Push (Err r) (inl t) = by_nothing t.1
   steps_remember Push (Err r) (inr t) = by_push r t.1
   steps_remember Seal (Ok answer) t =
@@ -469,7 +467,7 @@ module _ (old new : World) (kept : IsWellKept old.knows old.fleet)
       silent (ap (λ (x : MasterData). x.config) c.rest) (ap (λ (x : MasterData). x.origin) c.rest)
       (ap (λ (x : MasterData). x.history) c.rest) (quiet fleet) (same_log c.log)
 
-  pushed : (answer : StepAnswer) → Pushes old answer new → Keeps 1 old new
+  pushed : (answer : StepAnswer) → CalmPush old answer new → Keeps 1 old new
   pushed answer p =
       let same = same_rest old.knows p.push in
       silent (ap (λ (d : MasterData). d.config) p.rest ∙ same.0) (ap (λ (d : MasterData). d.origin) p.rest ∙ same.3)
@@ -588,8 +586,10 @@ module _ (old new : World) (kept : IsWellKept old.knows old.fleet)
   step_keeps (BeginClean ids) (Err r) t = unchanged t.0
   step_keeps Copy (Ok answer) t = copied answer t.0 t.1
   step_keeps Copy (Err r) t = unchanged t.0
-  step_keeps Push (Ok answer) (inl t) = pushed answer t
-  step_keeps Push (Ok answer) (inr t) = mended answer t
+  step_keeps Push (Ok answer) t = elim (kinds old answer new t) as (λ _. Keeps 1 old new) [
+    | inl p ↦ pushed answer p
+    | inr m ↦ mended answer m
+  ]
   step_keeps Push (Err r) (inl t) = unchanged t.1
   step_keeps Push (Err r) (inr t) = push_failed r t.1
   step_keeps Seal (Ok answer) t = sealed answer t

@@ -6,17 +6,15 @@ use Rattle.master_core.specs.master_state.declared.step.Refusal.{Refusal}
 use Rattle.master_core.specs.master_state.declared.step.Refusal.TheVariants as refusal
 use Rattle.master_core.specs.master_state.declared.step.Step.TheVariants.{Push}
 use Rattle.master_core.specs.master_state.declared.step.StepAnswer.{StepAnswer}
-use Rattle.master_core.specs.master_failover.Mending.{mended_data}
 use Rattle.master_core.specs.master_state.Data.{MasterData}
-use Rattle.master_core.specs.master_state.Steps.{BeginsRoll, pushed_data}
+use Rattle.master_core.specs.master_state.Steps.{BeginsRoll}
 use Rattle.master.specs.Loading.{KeepsLoading}
-use Rattle.master.specs.Mends.{MendsOn}
 use Rattle.master.specs.Pushes.{Pushes}
 use Rattle.master.specs.Steps.{FailsTake, IsPushOp, IsStuck, FailsTurn, FailsPush, Accepts, Declines}
 use Rattle.master.specs.World.{World, world_of}
 use Rattle.master.proofs.Keeping.{IsBeside, beside_same, op_beside, op_faulted, take_failed}
-use Rattle.master.proofs.MendedRest.{mended_rest, turned_rest}
-use Rattle.master.proofs.PushedRest.{SameRest, same_rest}
+use Rattle.master.proofs.PushKinds.{pushes_rest}
+use Rattle.master.proofs.MendedRest.{turned_rest}
 
 module _ (old new : World) where
   beside : new.knows.config ≡ old.knows.config → new.knows.origin ≡ old.knows.origin
@@ -40,21 +38,10 @@ module _ (old new : World) where
       quiet (ap (λ (w : World). w.knows.config) same) (ap (λ (w : World). w.knows.origin) same)
       (ap (λ (w : World). w.fleet) same)
 
-  -- an op that the fleet took, or that ended in a fault
-  handed : (e : MasterData) → new.knows ≡ e → SameRest e old.knows
-      → IsBeside old.knows.config.master old.fleet new.fleet → KeepsLoading old new
-  handed e is same =
-      beside (ap (λ (d : MasterData). d.config) is ∙ same.0) (ap (λ (d : MasterData). d.origin) is ∙ same.3)
-
   pushed : (answer : StepAnswer) → Pushes old answer new → KeepsLoading old new
   pushed answer p =
-      handed (pushed_data old.knows p.push) p.rest (same_rest old.knows p.push)
-      (op_beside old.knows.config.master old.fleet new.fleet p.op p.takes)
-
-  mended : (answer : StepAnswer) → MendsOn old answer new → KeepsLoading old new
-  mended answer p =
-      handed (mended_data old.knows p.mend) p.rest (mended_rest old.knows p.mend)
-      (op_beside old.knows.config.master old.fleet new.fleet p.op p.takes)
+      let same = pushes_rest old answer new p in
+      beside same.0 same.3 (op_beside old.knows.config.master old.fleet new.fleet p.op p.takes)
 
   halts : FailsTake (IsPushOp old) old refusal.Halted new → KeepsLoading old new
   halts t = beside (ap (λ (d : MasterData). d.config) t.1) (ap (λ (d : MasterData). d.origin) t.1)
@@ -76,8 +63,7 @@ module _ (old new : World) where
   pub push_keeps : (result : Result StepAnswer Refusal) → IfOk result (λ a. Accepts old Push a new)
       → IfErr result (λ r. Declines old Push r new)
       → KeepsLoading old new
-  push_keeps (Ok answer) (inl t) refused = pushed answer t
-  push_keeps (Ok answer) (inr t) refused = mended answer t
+  push_keeps (Ok answer) t refused = pushed answer t
   push_keeps (Err r) accepted (inl t) = unchanged t.1
   push_keeps (Err r) accepted (inr t) = failed r t.1
 

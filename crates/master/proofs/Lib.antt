@@ -63,6 +63,8 @@ pub mod MendKeeps
 pub mod MendServed
 pub mod MendFirsts
 pub mod StuckPushes
+pub mod PushKinds
+pub mod Handing
 pub use Rattle.log_head.proofs.log_laws
 pub use Rattle.log_head.proofs as log_head
 pub use Rattle.master_core.proofs.master_state

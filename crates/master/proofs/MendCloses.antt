@@ -15,9 +15,10 @@ use Rattle.log_head.proofs.Rolls.{rolls, zeros_length}
 use Rattle.log_head.specs.log_laws.Heads.{Head as LogHead, Start}
 use Rattle.log_head.specs.log_laws.Ids.{has, without}
 use Rattle.log_head.specs.log_laws.HeadSteps.{no_units}
+use Rattle.log_head.specs.declared.next.Next.TheVariants as nexts
 use Rattle.master_core.specs.log_laws.Data.{Calm, Rolls, Repairs, FailData}
 use Rattle.master_core.specs.log_laws.Steps.{ended, mended, EndsRoll}
-use Rattle.master_core.specs.master_failover.declared.mending.Mend.TheVariants as mend
+use Rattle.master_core.specs.master_failover.declared.push.Push.TheVariants as push
 use Rattle.master_core.specs.master_failover.Mending.{mended_data, first_lost, repaired_data, with_part}
 use Rattle.master_core.proofs.master_rolls.RollEnds.{closed_images}
 use Rattle.master_core.specs.master_state.declared.failover.Failover.{Failover}
@@ -31,7 +32,7 @@ use Rattle.master_core.specs.master_state.Ledger.{shut_in}
 use Rattle.master_core.specs.master_state.Log.{home, placed, is_opened, log_of, is_headless}
 use Rattle.master_core.specs.master_state.Steps.{pass_ended, roll_ended}
 use Rattle.master_core.proofs.master_state.Imaging.{same_roll}
-use Rattle.master.specs.Mends.{IsMended, IsOnward}
+use Rattle.master.specs.Pushes.{IsMended, IsOnward}
 use Rattle.master.specs.Placed.{closed_by, holders, IsPlaced, is_opening}
 use Rattle.master.proofs.Ended.{same_model, apart_then, ended_model}
 use Rattle.master.proofs.InForce.{real_head, none_head}
@@ -48,7 +49,7 @@ none_of (suc n) zero k at = same_Some 0 k at
 none_of (suc n) (suc j) k at = none_of n j k at
 
 module _ (d0 : MasterData) (r : Roll) (f : Failover)
-    (may : MayMend (at_part d0 (Some r) (as_part f part.Closes false)) (mend.Close r.closed)) where
+    (may : MayMend (at_part d0 (Some r) (as_part f part.Closes false)) (push.Head (nexts.CloseOld r.closed))) where
   abbrev d : MasterData
   d = at_part d0 (Some r) (as_part f part.Closes false)
 
@@ -87,7 +88,7 @@ module _ (d0 : MasterData) (r : Roll) (f : Failover)
       if t then repaired_data (with_part (record e { abandoned = []; ledger = posting.Ended ∷ e.ledger }) part.Repairs)
       else e
 
-  close_is : mended_data d (mend.Close r.closed)
+  close_is : mended_data d (push.Head (nexts.CloseOld r.closed))
       ≡ gives (suc r.closed == d0.config.replicas) (closed_then (suc r.closed == d0.config.replicas))
   close_is = λ i. gives (suc r.closed == d0.config.replicas) (closed_then (suc r.closed == may.core.replicas i))
 
@@ -356,7 +357,7 @@ module _ (d0 : MasterData) (r : Roll) (f : Failover)
   closed_by_test true is = last_after (eqb-true (suc r.closed) d0.config.replicas is)
   closed_by_test false is = (λ later. inl (early_counted later), early_placed, λ later. inl (inl refl))
 
-  pub close_push : IsMendPush (at_part d0 (Some r) (as_part f part.Closes false)) (mend.Close r.closed)
+  pub close_push : IsMendPush (at_part d0 (Some r) (as_part f part.Closes false)) (push.Head (nexts.CloseOld r.closed))
   close_push =
       let closes = mend_closes d0 r f may.core may.placed may.unfailed in
       let all = subst GivesClosed (sym close_is) (closed_by_test (suc r.closed == d0.config.replicas) refl) in

@@ -11,14 +11,14 @@ use Rattle.master_core.specs.log_bytes.Text.{entries_for}
 use Rattle.master_core.specs.log_memory.Loading.{IsLoadingOp}
 use Rattle.master_core.specs.log_memory.Memory.{Spot, text_in}
 use Rattle.master_core.specs.log_memory.Steps.{finished}
-use Rattle.master_core.specs.master_failover.declared.mending.Mend.{Mend}
-use Rattle.master_core.specs.master_failover.declared.mending.Mend.TheVariants as mend
+use Rattle.master_core.specs.master_failover.declared.push.Push.{Push}
+use Rattle.master_core.specs.master_failover.declared.push.Push.TheVariants as push
 use Rattle.master_core.specs.master_failover.Mending.{mended_data, IsNextMend}
 use Rattle.master_core.specs.master_state.Budget.{victims_of, is_committing}
 use Rattle.master_core.specs.master_state.Data.{MasterData}
 use Rattle.master_core.specs.master_state.Invariant.{AreApart, IsCore}
 use Rattle.master_core.specs.master_state.Log.{log_of, memory_of, images_of}
-use Rattle.master.specs.Mends.{IsMended, IsMendOp}
+use Rattle.master.specs.Pushes.{IsMended, IsMendOp}
 use Rattle.master.specs.Placed.{IsPlaced}
 use Rattle.master.proofs.Counting.{AreUnfailed}
 use Rattle.master.proofs.Ended.{segments_in}
@@ -58,12 +58,12 @@ abbrev pub IsAfterMend : MasterData → MasterData → FailData → Type 0
 IsAfterMend d e mid = IsCounted d e mid ⊎ (IsRolled d e mid ⊎ IsCommitted d e mid)
 
 -- what is sealed anew is within the limit of a segment
-abbrev pub IsLimited : MasterData → Mend → Type 0
-IsLimited d (mend.Repair s j) = length (text_of (images_of d s)) ≤ 8388608
+abbrev pub IsLimited : MasterData → Push → Type 0
+IsLimited d (push.Repair s j) = length (text_of (images_of d s)) ≤ 8388608
 IsLimited d _ = Unit {0}
 
 -- A push that is next, of a master that is well.
-pub record MayMend (d : MasterData) (m : Mend) : Type 0 where
+pub record MayMend (d : MasterData) (m : Push) : Type 0 where
   pub core : IsCore d
   pub placed : IsPlaced d
   pub unfailed : AreUnfailed d
@@ -75,7 +75,7 @@ pub record MayMend (d : MasterData) (m : Mend) : Type 0 where
       → entries_for d.config.master s (text_in (memory_of d) s) ≡ images_of d s
 
 -- What it does.
-pub record IsMendPush (d : MasterData) (m : Mend) : Type 0 where
+pub record IsMendPush (d : MasterData) (m : Push) : Type 0 where
   pub mid : FailData
   pub op : IsLoadingOp (log_of d) (memory_of d) (mend_op d m) mid
   -- its op is one of the push

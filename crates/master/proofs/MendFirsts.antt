@@ -14,10 +14,13 @@ use Rattle.replica.specs.Take.{Takes, Refuses}
 use Rattle.replica.specs.declared.op.TakeFault.{TakeFault}
 use Rattle.replica.specs.declared.op.TakeFault.TheVariants as take_fault
 use Rattle.log_head.specs.declared.head.Roll.{Roll}
+use Rattle.log_head.specs.declared.next.Next.{Next}
+use Rattle.log_head.specs.declared.next.Next.TheVariants as nexts
 use Rattle.log_head.specs.Head.{HeadValue, IsHeadValue}
 use Rattle.log_head.specs.Steps.{lone_start, fresh_head, start_after}
 use Rattle.log_head.specs.log_laws.Heads.{Start}
 use Rattle.master_core.specs.log_laws.Data.{bare, Opens, FailData}
+use Rattle.master_core.specs.log_laws.Shown.{Op}
 use Rattle.master_core.specs.log_laws.Steps.{rolling, next_start, OpensNew}
 use Rattle.master_core.specs.log_bytes.Ops.{TakesOp, RefusesOp}
 use Rattle.master_core.specs.log_bytes.Text.{IsWholeText}
@@ -25,13 +28,14 @@ use Rattle.master_core.specs.log_memory.Memory.{FailMemory}
 use Rattle.master_core.specs.log_memory.Steps.{MayCommit, commit_start, rolled}
 use Rattle.master_core.specs.log_laws.Intact.{IsCommit}
 use Rattle.master_core.proofs.log_memory.FleetSteps.{commit_holds_all}
-use Rattle.master_core.specs.master_failover.declared.mending.Mend.TheVariants as mend
+use Rattle.master_core.specs.master_failover.declared.push.Push.TheVariants as push
 use Rattle.master_core.specs.master_failover.declared.turning.NewHead.{NewHead}
 use Rattle.master_core.specs.master_failover.declared.turning.NewHead.TheVariants as new_head
-use Rattle.master_core.specs.master_failover.Mending.{IsNextMend, IsNewHead, MayPut, put_data, turned_data, turn_roll}
-use Rattle.master_core.specs.master_failover.Mending.{mended_data}
-use Rattle.master_core.specs.master_failover.Mending.{new_id, was_headless, backup_for, segment_for, op_now}
+use Rattle.master_core.specs.master_failover.Mending.{IsNextMend, IsNextOpen, IsNewHead, MayPut, put_data, turned_data, turn_roll}
+use Rattle.master_core.specs.master_failover.Mending.{mended_data, opened_more, replica_for}
+use Rattle.master_core.specs.master_failover.Mending.{was_headless, backup_for, segment_for, op_now}
 use Rattle.master_core.specs.master_failover.Mending.{opening}
+use Rattle.master_core.proofs.master_failover.PushKinds.{mend_fails}
 use Rattle.master_core.proofs.master_failover.TurnedCore.{turned_core, turned_next, turned_is}
 use Rattle.master_core.specs.master_state.declared.ledger.Posting.TheVariants as posting
 use Rattle.master_core.specs.master_state.declared.step.Refusal.{Refusal}
@@ -46,7 +50,7 @@ use Rattle.master_core.specs.master_state.Log.{home, log_of, memory_of}
 use Rattle.master_core.specs.master_state.Steps.{halted, listed_in, next_now, start_now}
 use Rattle.master_core.proofs.master_state.Posted.{halted_core}
 use Rattle.master.specs.Invariant.{IsWellKept, IsWellLoaded, IsServed, StaysServed}
-use Rattle.master.specs.Mends.{MendsOn, first_open, OpensFirst, IsNewValid}
+use Rattle.master.specs.Pushes.{IsMendOp, Pushes, first_open, OpensFirst, IsNewValid}
 use Rattle.master.specs.Placed.{IsPlaced}
 use Rattle.master.specs.Steps.{Declines, FailsTurn}
 use Rattle.master.specs.World.{world_of}
@@ -57,7 +61,8 @@ use Rattle.master.proofs.LostPlaces.{placed_halted}
 use Rattle.master.proofs.MendEnds.{MayMend, IsMendPush}
 use Rattle.master.proofs.MendOps.{mend_op, mend_act}
 use Rattle.master.proofs.MendPushes.{bytes_op, mend_bytes, few_for_mend}
-use Rattle.master.proofs.MendServed.{mend_fails, mend_passed, served_core, served_may, served_push, served_mended}
+use Rattle.master.proofs.PushKinds.{mends_on}
+use Rattle.master.proofs.MendServed.{mend_passed, served_core, served_may, served_push, served_mended}
 use Rattle.master.proofs.MendServed.{mend_not_wrong, op_of_master}
 use Rattle.master.proofs.MendTurns.{IsTurn, turns}
 use Rattle.master.proofs.MendedRest.{turned_rest}
@@ -104,12 +109,6 @@ module _ (d : MasterData) where
     go true = refl
     go false = refl
 
-  turned_id : new_id (turned_data d) ≡ d.next
-  turned_id = go (was_headless d) where
-    go : (t : Bool) → new_id (turned_by t) ≡ d.next
-    go true = refl
-    go false = start_id
-
   none_kept : d.pass ≡ None → (turned_data d).pass ≡ None
   none_kept none = go (was_headless d) where
     go : (t : Bool) → (turned_by t).pass ≡ None
@@ -124,22 +123,61 @@ module _ (d : MasterData) where
     waiting = turned_waiting ∙ bare.waiting;
   }
 
-  -- the op of its first Open
+-- ---- the first Open of the new head, as the push that comes next
+
+abbrev opens_by : Bool → Next
+opens_by t = if t then nexts.OpenFirst 0 else nexts.OpenNew 0
+
+module _ (d : MasterData) where
+  abbrev first_next : Next
+  first_next = opens_by (was_headless d)
+
+  open_next : IsNextOpen (turned_data d) 0 → IsNextMend (turned_data d) (push.Head first_next)
+  open_next = go (was_headless d) where
+    go : (t : Bool) → IsNextOpen (turned_by d t) 0 → IsNextMend (turned_by d t) (push.Head (opens_by t))
+    go true is = (is, refl)
+    go false is = (is, refl)
+
+  open_counts : mended_data (turned_data d) (push.Head first_next) ≡ mended_data d push.Turn
+  open_counts = go (was_headless d) where
+    go : (t : Bool) → mended_data (turned_by d t) (push.Head (opens_by t)) ≡ opened_more (turned_by d t) 0
+    go true = refl
+    go false = refl
+
+  open_asks : (o : Op) (e : FailData) → IsMendOp (turned_data d) (push.Head first_next) o e → OpensNew (log_of (turned_data d)) o e
+  open_asks o e = go (was_headless d) where
+    go : (t : Bool) → IsMendOp (turned_by d t) (push.Head (opens_by t)) o e → OpensNew (log_of (turned_by d t)) o e
+    go true is = is
+    go false is = is
+
+  open_segment : segment_for (turned_data d) (push.Head first_next) ≡ d.next
+  open_segment = go (was_headless d) where
+    go : (t : Bool) → segment_for (turned_by d t) (push.Head (opens_by t)) ≡ d.next
+    go true = refl
+    go false = start_id d
+
+  open_replica : replica_for (push.Head first_next) ≡ 0
+  open_replica = go (was_headless d) where
+    go : (t : Bool) → replica_for (push.Head (opens_by t)) ≡ 0
+    go true = refl
+    go false = refl
+
+  -- its op
   first_bytes : (new : NewHead) → IsNewHead d new
-      → op_now (turned_data d) (mend.Open 0) ≡ Some (first_open d.config.master d.next new)
+      → op_now (turned_data d) (push.Head first_next) ≡ Some (first_open d.config.master d.next new)
   first_bytes (new_head.First h) made =
       let image = (fresh_head d.config.master d.config.replicas (lone_start d.next d.config.format d.safe)).image in
-      ap (λ (t : Bool). op_now (turned_by t) (mend.Open 0)) made.0
+      ap (λ (t : Bool). op_now (turned_by d t) (push.Head (opens_by t))) made.0
       ∙ ap (λ (bs : List ℕ). Some (record { master = d.config.master; segment = d.next; act = OpenBytes bs }))
       (take_all (length (text_of image)) (text_of image) (omega arith))
       ∙ ap (λ (h : HeadValue). Some (first_open d.config.master d.next (new_head.First h))) (sym made.1)
   first_bytes (new_head.Next r) made =
-      ap (λ (t : Bool). op_now (turned_by t) (mend.Open 0)) made.0
+      ap (λ (t : Bool). op_now (turned_by d t) (push.Head (opens_by t))) made.0
       ∙ ap (λ (s : ℕ). Some (record {
         master = d.config.master;
         segment = s;
         act = OpenBytes (text_of (turn_roll d).image);
-      })) start_id
+      })) (start_id d)
       ∙ ap (λ (q : Roll). Some (first_open d.config.master d.next (new_head.Next q))) (sym made.1)
 
 -- ---- the log, memory and the fleet
@@ -218,7 +256,7 @@ stuck_served d f failing = (
 
 -- ---- the Turn
 
-module _ (d : MasterData) (f : FleetState) (running : d.is_halted ≡ false) (next : IsNextMend d mend.Turn)
+module _ (d : MasterData) (f : FleetState) (running : d.is_halted ≡ false) (next : IsNextMend d push.Turn)
     (served : IsServed d f) (may : may_turn d ≡ true) (new : NewHead) (made : IsNewHead d new) where
   core : IsCore d
   core = served_core d f served
@@ -281,76 +319,85 @@ module _ (d : MasterData) (f : FleetState) (running : d.is_halted ≡ false) (ne
       | inr loaded ↦ turn_of loaded.core loaded.placed
     ]
 
-    t_next : IsNextMend (turned_data d) (mend.Open 0)
-    t_next = turned_next d core next
+    t_next : IsNextMend (turned_data d) (push.Head (first_next d))
+    t_next = open_next d (turned_next d core next)
 
-    open_may : MayMend (turned_data d) (mend.Open 0)
-    open_may = served_may (turned_data d) (mend.Open 0) f t_running t_next tt tt t_served
+    open_may : MayMend (turned_data d) (push.Head (first_next d))
+    open_may = served_may (turned_data d) (push.Head (first_next d)) f t_running t_next tt tt t_served
 
     -- ---- its op
 
-    same_backup : backup_for d mend.Turn ≡ backup_for (turned_data d) (mend.Open 0)
+    same_backup : backup_for d push.Turn ≡ backup_for (turned_data d) (push.Head (first_next d))
     same_backup =
-        λ i. home (sym (turned_rest d).0 i) (sym (turned_failed d) i) (sym (turned_id d) i) 0
+        λ i. home (sym (turned_rest d).0 i) (sym (turned_failed d) i) (sym (open_segment d) i) (sym (open_replica d) i)
 
-    same_bytes : first_open d.config.master d.next new ≡ bytes_op (turned_data d) (mend.Open 0)
+    same_bytes : first_open d.config.master d.next new ≡ bytes_op (turned_data d) (push.Head (first_next d))
     same_bytes =
-        same_Some (first_open d.config.master d.next new) (bytes_op (turned_data d) (mend.Open 0))
-        (sym (first_bytes d new made) ∙ mend_bytes (turned_data d) (mend.Open 0) open_may tt)
+        same_Some (first_open d.config.master d.next new) (bytes_op (turned_data d) (push.Head (first_next d)))
+        (sym (first_bytes d new made) ∙ mend_bytes (turned_data d) (push.Head (first_next d)) open_may tt)
 
     refuses : (g : FleetState) (x : TakeFault)
-        → Refuses f (backup_for d mend.Turn) (first_open d.config.master d.next new) x g
-        → Refuses f (backup_for (turned_data d) (mend.Open 0)) (bytes_op (turned_data d) (mend.Open 0)) x g
+        → Refuses f (backup_for d push.Turn) (first_open d.config.master d.next new) x g
+        → Refuses f (backup_for (turned_data d) (push.Head (first_next d))) (bytes_op (turned_data d) (push.Head (first_next d))) x g
     refuses g x = subst (λ (y : ℕ × OpValue). Refuses f y.0 y.1 x g) (λ i. (same_backup i, same_bytes i))
 
-    takes : (g : FleetState) → Takes f (backup_for d mend.Turn) (first_open d.config.master d.next new) g
-        → TakesOp (turned_data d).config.master f (mend_op (turned_data d) (mend.Open 0)) g
+    takes : (g : FleetState) → Takes f (backup_for d push.Turn) (first_open d.config.master d.next new) g
+        → TakesOp (turned_data d).config.master f (mend_op (turned_data d) (push.Head (first_next d))) g
     takes g = subst (λ (y : ℕ × OpValue). Takes f y.0 y.1 g) (λ i. (same_backup i, same_bytes i))
 
     pub turn_not_wrong : (g : FleetState)
-        → Refuses f (backup_for d mend.Turn) (first_open d.config.master d.next new) take_fault.Wrong g → ⊥
+        → Refuses f (backup_for d push.Turn) (first_open d.config.master d.next new) take_fault.Wrong g → ⊥
     turn_not_wrong g refused =
-        mend_not_wrong (turned_data d) (mend.Open 0) f t_running t_next tt tt tt t_served g take_fault.Wrong
+        mend_not_wrong (turned_data d) (push.Head (first_next d)) f t_running t_next tt tt tt t_served g take_fault.Wrong
         (refuses g take_fault.Wrong refused) refl
 
-    push : IsMendPush (turned_data d) (mend.Open 0)
-    push = served_push (turned_data d) (mend.Open 0) f t_running t_next tt tt t_served
+    opening_push : IsMendPush (turned_data d) (push.Head (first_next d))
+    opening_push = served_push (turned_data d) (push.Head (first_next d)) f t_running t_next tt tt t_served
 
-    opens : (e : FailData) → OpensNew (log_of (turned_data d)) (mend_op (turned_data d) (mend.Open 0)) e
-        → (n : Start) × OpensNew (rolling (log_of d) n (Opens n)) (mend_op (turned_data d) (mend.Open 0)) e
+    opens : (e : FailData) → IsMendOp (turned_data d) (push.Head (first_next d)) (mend_op (turned_data d) (push.Head (first_next d))) e
+        → (n : Start) × OpensNew (rolling (log_of d) n (Opens n)) (mend_op (turned_data d) (push.Head (first_next d))) e
     opens e is =
-        (next_now d, subst (λ (l : FailData). OpensNew l (mend_op (turned_data d) (mend.Open 0)) e) turn.log is)
+        (next_now d, subst (λ (l : FailData). OpensNew l (mend_op (turned_data d) (push.Head (first_next d))) e) turn.log
+        (open_asks d (mend_op (turned_data d) (push.Head (first_next d))) e is))
+
+    counted : IsCore (mended_data d push.Turn) → IsCore (mended_data (turned_data d) (push.Head (first_next d)))
+    counted = subst IsCore (sym (open_counts d))
 
     -- ---- it was taken
 
-    pub turn_mends : IsCore (mended_data d mend.Turn) → (g : FleetState)
-        → Takes f (backup_for d mend.Turn) (first_open d.config.master d.next new) g
-        → MendsOn (world_of d f) (Opened (backup_for d mend.Turn) d.next) (world_of (mended_data d mend.Turn) g)
-    turn_mends own g took = record {
-      op = mend_op (turned_data d) (mend.Open 0);
-      running = running;
-      failing = mend_fails d mend.Turn next;
-      mend = mend.Turn;
-      next = next;
-      may = λ turn. may;
-      does = opens (log_of (mended_data d mend.Turn)) (push.does own);
-      told = refl;
-      rest = refl;
-      takes = subst (λ (c : _). TakesOp c.master f (mend_op (turned_data d) (mend.Open 0)) g) (turned_rest d).0
-          (takes g took);
-    }
+    pub turn_mends : IsCore (mended_data d push.Turn) → (g : FleetState)
+        → Takes f (backup_for d push.Turn) (first_open d.config.master d.next new) g
+        → Pushes (world_of d f) (Opened (backup_for d push.Turn) d.next) (world_of (mended_data d push.Turn) g)
+    turn_mends own g took =
+        mends_on (world_of d f) (Opened (backup_for d push.Turn) d.next) (world_of (mended_data d push.Turn) g) (record {
+          op = mend_op (turned_data d) (push.Head (first_next d));
+          running = running;
+          failing = mend_fails d push.Turn next;
+          mend = push.Turn;
+          next = next;
+          may = λ turn. may;
+          does = subst (λ (x : MasterData). IsMendOp d push.Turn (mend_op (turned_data d) (push.Head (first_next d))) (log_of x))
+              (open_counts d)
+              (opens (log_of (mended_data (turned_data d) (push.Head (first_next d)))) (opening_push.does (counted own)));
+          told = refl;
+          rest = refl;
+          takes = subst (λ (c : _). TakesOp c.master f (mend_op (turned_data d) (push.Head (first_next d))) g) (turned_rest d).0
+              (takes g took);
+        })
 
-    pub turn_mended : IsCore (mended_data d mend.Turn) → (g : FleetState)
-        → Takes f (backup_for d mend.Turn) (first_open d.config.master d.next new) g
-        → StaysServed d f (mended_data d mend.Turn) g
+    pub turn_mended : IsCore (mended_data d push.Turn) → (g : FleetState)
+        → Takes f (backup_for d push.Turn) (first_open d.config.master d.next new) g
+        → StaysServed d f (mended_data d push.Turn) g
     turn_mended own g took =
-        let both = served_mended (turned_data d) (mend.Open 0) f t_running t_next tt tt own g (takes g took) in
-        (λ kept. both.0 (turns_kept kept), λ loaded. both.1 (turns_loaded loaded))
+        let both = served_mended (turned_data d) (push.Head (first_next d)) f t_running t_next tt tt (counted own) g (takes g took) in (
+          λ kept. subst (λ (x : MasterData). IsWellKept x g) (open_counts d) (both.0 (turns_kept kept)),
+          λ loaded. subst (λ (x : MasterData). IsWellLoaded x g) (open_counts d) (both.1 (turns_loaded loaded)),
+        )
 
     -- ---- nobody knows whether it was
 
     pub turn_faults : (g : FleetState)
-        → Refuses f (backup_for d mend.Turn) (first_open d.config.master d.next new) take_fault.Fault g
+        → Refuses f (backup_for d push.Turn) (first_open d.config.master d.next new) take_fault.Fault g
         → FailsTurn (world_of d f) refusal.Halted (world_of (halted (turned_data d)) g)
     turn_faults g refused = (
       next,
@@ -358,27 +405,27 @@ module _ (d : MasterData) (f : FleetState) (running : d.is_halted ≡ false) (ne
       refl,
       refl,
       (
-        mend_op (turned_data d) (mend.Open 0),
-        push.asks.0,
-        opens push.asks.0 push.asks.1,
-        subst (λ (c : _). RefusesOp c.master f (mend_op (turned_data d) (mend.Open 0)) take_fault.Fault g)
+        mend_op (turned_data d) (push.Head (first_next d)),
+        opening_push.asks.0,
+        opens opening_push.asks.0 opening_push.asks.1,
+        subst (λ (c : _). RefusesOp c.master f (mend_op (turned_data d) (push.Head (first_next d))) take_fault.Fault g)
             (turned_rest d).0 (refuses g take_fault.Fault refused),
       ),
     )
 
     pub turn_halts : (g : FleetState)
-        → Refuses f (backup_for d mend.Turn) (first_open d.config.master d.next new) take_fault.Fault g
+        → Refuses f (backup_for d push.Turn) (first_open d.config.master d.next new) take_fault.Fault g
         → StaysServed d f (halted (turned_data d)) g
     turn_halts g refused =
         let now = refuses g take_fault.Fault refused in
-        let o = mend.Open 0 in (
+        let o = push.Head (first_next d) in (
           λ kept.
               let own = turns_kept kept in
               let is = served_push (turned_data d) o f t_running t_next tt tt (inl own) in
               fault_halts (turned_data d) f own t_running (backup_for (turned_data d) o) (segment_for (turned_data d) o)
               (mend_act (turned_data d) o) is.mid (memory_of (turned_data d))
               (op_of_master (log_of (turned_data d)) is.mid (memory_of (turned_data d)) _ is.op)
-              (core_within (turned_data d) later (segment_for (turned_data d) o) 0
+              (core_within (turned_data d) later (segment_for (turned_data d) o) (replica_for o)
               (few_for_mend (turned_data d) o later t_next tt)) g now,
           λ loaded.
               loading_halts (turned_data d) f (turns_loaded loaded)
@@ -388,19 +435,19 @@ module _ (d : MasterData) (f : FleetState) (running : d.is_halted ≡ false) (ne
 
 -- ---- it wasn't taken
 
-pub turn_declines : (d : MasterData) (f : FleetState) → d.is_halted ≡ false → (next : IsNextMend d mend.Turn)
+pub turn_declines : (d : MasterData) (f : FleetState) → d.is_halted ≡ false → (next : IsNextMend d push.Turn)
     → may_turn d ≡ true → (b : ℕ) (handed : OpValue) (r : Refusal) (g : FleetState) → OpensFirst f b handed (Err r) g
     → Declines (world_of d f) Push r (world_of d g) × (g ≡ f)
 turn_declines d f running next may b handed refusal.NoMemory g is = (
   inr (
-    mend_passed d running (mend_fails d mend.Turn next),
+    mend_passed d running (mend_fails d push.Turn next),
     inr (inr (λ turn. may, ap (λ (h : FleetState). world_of d h) is)),
   ),
   is,
 )
 turn_declines d f running next may b handed refusal.Spent g is = (
   inr (
-    mend_passed d running (mend_fails d mend.Turn next),
+    mend_passed d running (mend_fails d push.Turn next),
     inr (inr (λ turn. may, (is.0, ap (λ (h : FleetState). world_of d h) is.1))),
   ),
   is.1,

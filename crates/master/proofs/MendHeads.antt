@@ -8,9 +8,10 @@ use Rattle.entry.specs.Text.{text_of}
 use Rattle.log_head.specs.declared.head.Roll.{Roll}
 use Rattle.log_head.specs.Log.{head_of, units_from}
 use Rattle.log_head.specs.log_laws.Heads.{Start}
+use Rattle.log_head.specs.declared.next.Next.TheVariants as nexts
 use Rattle.master_core.specs.log_laws.Data.{Calm, Rolls, Closes, Repairs, FailData}
 use Rattle.master_core.specs.log_laws.Steps.{ended, mended, EndsRoll}
-use Rattle.master_core.specs.master_failover.declared.mending.Mend.TheVariants as mend
+use Rattle.master_core.specs.master_failover.declared.push.Push.TheVariants as push
 use Rattle.master_core.specs.master_failover.Mending.{mended_data}
 use Rattle.master_core.specs.master_state.declared.failover.Failover.{Failover}
 use Rattle.master_core.specs.master_state.declared.failover.Part.TheVariants as part
@@ -19,7 +20,7 @@ use Rattle.master_core.specs.master_state.Data.{MasterData}
 use Rattle.master_core.specs.master_state.Invariant.{IsCore, IsOpenPass}
 use Rattle.master_core.specs.master_state.Log.{is_opened, log_of}
 use Rattle.master_core.proofs.master_state.Imaging.{same_roll}
-use Rattle.master.specs.Mends.{IsMended}
+use Rattle.master.specs.Pushes.{IsMended}
 use Rattle.master.proofs.Ended.{same_model}
 use Rattle.master.proofs.InForce.{real_head, none_head}
 use Rattle.master.proofs.MendEnds.{MayMend, IsMendPush}
@@ -47,36 +48,36 @@ module _ (d0 : MasterData) (f : Failover) where
   abbrev mending : MasterData
   mending = at_part d0 None (as_part f part.Mends false)
 
-  pub extend_push : (j : ℕ) → MayMend (at_part d0 None (as_part f part.Mends false)) (mend.Extend j)
-      → IsMendPush (at_part d0 None (as_part f part.Mends false)) (mend.Extend j)
+  pub extend_push : (j : ℕ) → MayMend (at_part d0 None (as_part f part.Mends false)) (push.Head (nexts.Extend j))
+      → IsMendPush (at_part d0 None (as_part f part.Mends false)) (push.Head (nexts.Extend j))
   extend_push j may =
       let extends = mend_extends d0 f may.core may.placed may.shut j may.next.2 in
       record {
-        mid = log_of (mended_data mending (mend.Extend j));
+        mid = log_of (mended_data mending (push.Head (nexts.Extend j)));
         op = inl (inl extends);
-        asks = (log_of (mended_data mending (mend.Extend j)), extends);
+        asks = (log_of (mended_data mending (push.Head (nexts.Extend j))), extends);
         does = λ later. extends;
         after = λ later. inl (record {
           log = inl refl;
-          model = same_model mending (mended_data mending (mend.Extend j)) may.core later refl refl (λ s. refl)
+          model = same_model mending (mended_data mending (push.Head (nexts.Extend j))) may.core later refl refl (λ s. refl)
               refl refl refl (omega arith);
           waiting = refl;
         });
         placed = extended_placed d0 f may.core may.placed j may.next.2;
       }
 
-  pub replace_push : MayMend (at_part d0 None (as_part f part.Mends false)) (mend.Replace (length d0.head.taken))
-      → IsMendPush (at_part d0 None (as_part f part.Mends false)) (mend.Replace (length d0.head.taken))
+  pub replace_push : MayMend (at_part d0 None (as_part f part.Mends false)) (push.Head (nexts.OpenWhole (length d0.head.taken)))
+      → IsMendPush (at_part d0 None (as_part f part.Mends false)) (push.Head (nexts.OpenWhole (length d0.head.taken)))
   replace_push may =
       let replaces = mend_replaces d0 f may.core may.placed may.next.4 in
       record {
-        mid = log_of (mended_data mending (mend.Replace (length d0.head.taken)));
+        mid = log_of (mended_data mending (push.Head (nexts.OpenWhole (length d0.head.taken))));
         op = inl (inr (inr (inl replaces)));
-        asks = (log_of (mended_data mending (mend.Replace (length d0.head.taken))), replaces);
+        asks = (log_of (mended_data mending (push.Head (nexts.OpenWhole (length d0.head.taken)))), replaces);
         does = λ later. replaces;
         after = λ later. inl (record {
           log = inl refl;
-          model = same_model mending (mended_data mending (mend.Replace (length d0.head.taken))) may.core later
+          model = same_model mending (mended_data mending (push.Head (nexts.OpenWhole (length d0.head.taken)))) may.core later
               refl refl (λ s. refl) refl refl refl (omega arith);
           waiting = refl;
         });
@@ -89,40 +90,40 @@ module _ (d0 : MasterData) (r : Roll) (f : Failover) where
   abbrev opening_now : MasterData
   opening_now = at_part d0 (Some r) (as_part f part.Opens false)
 
-  pub open_push : MayMend (at_part d0 (Some r) (as_part f part.Opens false)) (mend.Open r.opened)
-      → IsMendPush (at_part d0 (Some r) (as_part f part.Opens false)) (mend.Open r.opened)
+  pub open_push : MayMend (at_part d0 (Some r) (as_part f part.Opens false)) (push.Head (nexts.OpenNew r.opened))
+      → IsMendPush (at_part d0 (Some r) (as_part f part.Opens false)) (push.Head (nexts.OpenNew r.opened))
   open_push may =
-      let opens = mend_opens d0 r f may.core may.placed may.unfailed may.next.2 in
+      let opens = mend_opens d0 r f may.core may.placed may.unfailed may.next.0.2 in
       record {
-        mid = log_of (mended_data opening_now (mend.Open r.opened));
+        mid = log_of (mended_data opening_now (push.Head (nexts.OpenNew r.opened)));
         op = inl (inr (inl opens));
-        asks = (log_of (mended_data opening_now (mend.Open r.opened)), opens);
+        asks = (log_of (mended_data opening_now (push.Head (nexts.OpenNew r.opened))), opens);
         does = λ later. opens;
         after = λ later. inl (record {
           log = inl refl;
-          model = same_model opening_now (mended_data opening_now (mend.Open r.opened)) may.core later refl refl
+          model = same_model opening_now (mended_data opening_now (push.Head (nexts.OpenNew r.opened))) may.core later refl refl
               (same_roll opening_now.head d0.closed r (record r { opened = suc r.opened }) refl refl refl) refl refl
               refl (omega arith);
           waiting = refl;
         });
-        placed = opened_placed d0 r f may.core may.placed may.next.2;
+        placed = opened_placed d0 r f may.core may.placed may.next.0.2;
       }
 
-  pub raise_push : MayMend (at_part d0 (Some r) (as_part f part.Opens false)) (mend.Raise r.id)
-      → IsMendPush (at_part d0 (Some r) (as_part f part.Opens false)) (mend.Raise r.id)
+  pub raise_push : MayMend (at_part d0 (Some r) (as_part f part.Opens false)) (push.Raise r.id)
+      → IsMendPush (at_part d0 (Some r) (as_part f part.Opens false)) (push.Raise r.id)
   raise_push may =
       let raises = mend_raises d0 r f may.core may.placed may.unfailed may.next.1 in
       record {
-        mid = log_of (mended_data opening_now (mend.Raise r.id));
+        mid = log_of (mended_data opening_now (push.Raise r.id));
         op = inl (inr (inr (inr (inl raises))));
         asks = (
-          log_of (mended_data opening_now (mend.Raise r.id)),
-          (log_of (mended_data opening_now (mend.Raise r.id)), raises, inl (inl refl)),
+          log_of (mended_data opening_now (push.Raise r.id)),
+          (log_of (mended_data opening_now (push.Raise r.id)), raises, inl (inl refl)),
         );
-        does = λ later. (log_of (mended_data opening_now (mend.Raise r.id)), raises, inl (inl refl));
+        does = λ later. (log_of (mended_data opening_now (push.Raise r.id)), raises, inl (inl refl));
         after = λ later. inl (record {
           log = inl refl;
-          model = same_model opening_now (mended_data opening_now (mend.Raise r.id)) may.core later refl refl
+          model = same_model opening_now (mended_data opening_now (push.Raise r.id)) may.core later refl refl
               (λ s. refl) refl refl refl (omega arith);
           waiting = refl;
         });
@@ -135,26 +136,26 @@ module _ (d0 : MasterData) (f : Failover) where
   abbrev first_now : MasterData
   first_now = at_part d0 None (as_part f part.Opens true)
 
-  pub open_first_push : MayMend (at_part d0 None (as_part f part.Opens true)) (mend.Open (length d0.head.taken))
-      → IsMendPush (at_part d0 None (as_part f part.Opens true)) (mend.Open (length d0.head.taken))
+  pub open_first_push : MayMend (at_part d0 None (as_part f part.Opens true)) (push.Head (nexts.OpenFirst (length d0.head.taken)))
+      → IsMendPush (at_part d0 None (as_part f part.Opens true)) (push.Head (nexts.OpenFirst (length d0.head.taken)))
   open_first_push may =
-      let opens = mend_opens_first d0 f may.core may.placed may.unfailed may.next.2 in
+      let opens = mend_opens_first d0 f may.core may.placed may.unfailed may.next.0.2 in
       record {
-        mid = log_of (mended_data first_now (mend.Open (length d0.head.taken)));
+        mid = log_of (mended_data first_now (push.Head (nexts.OpenFirst (length d0.head.taken))));
         op = inl (inr (inl opens));
-        asks = (log_of (mended_data first_now (mend.Open (length d0.head.taken))), opens);
+        asks = (log_of (mended_data first_now (push.Head (nexts.OpenFirst (length d0.head.taken)))), opens);
         does = λ later. opens;
         after = λ later. inl (record {
           log = inl refl;
-          model = same_model first_now (mended_data first_now (mend.Open (length d0.head.taken))) may.core later
+          model = same_model first_now (mended_data first_now (push.Head (nexts.OpenFirst (length d0.head.taken)))) may.core later
               refl refl (λ s. refl) refl refl refl (omega arith);
           waiting = refl;
         });
-        placed = first_placed d0 f may.core may.placed may.next.2;
+        placed = first_placed d0 f may.core may.placed may.next.0.2;
       }
 
   -- the first head is in force with the raise, and the failover has ended
-  module _ (may : MayMend (at_part d0 None (as_part f part.Opens true)) (mend.Raise d0.head.id)) where
+  module _ (may : MayMend (at_part d0 None (as_part f part.Opens true)) (push.Raise d0.head.id)) where
     abbrev n : Start
     n = (head_of d0.head).start
 
@@ -173,7 +174,7 @@ module _ (d0 : MasterData) (f : Failover) where
     opened : is_opened d0.head ≡ true
     opened = opened_is d0.head (may.next.1 ∙ sym may.core.replicas)
 
-    log_is : log_of (mended_data first_now (mend.Raise d0.head.id)) ≡ mended (ended raised n Repairs)
+    log_is : log_of (mended_data first_now (push.Raise d0.head.id)) ≡ mended (ended raised n Repairs)
     log_is =
         let first = may.core.first refl in
         ap (λ (t : Bool). record (mended (ended raised n Repairs)) {
@@ -188,14 +189,14 @@ module _ (d0 : MasterData) (f : Failover) where
           };
         })
 
-    has_ended : IsCore (mended_data first_now (mend.Raise d0.head.id))
-        → IsMended (ended raised n Repairs) (log_of (mended_data first_now (mend.Raise d0.head.id)))
+    has_ended : IsCore (mended_data first_now (push.Raise d0.head.id))
+        → IsMended (ended raised n Repairs) (log_of (mended_data first_now (push.Raise d0.head.id)))
     has_ended later =
         let at = in_force_placed d0 f may.core may.placed in
-        let e = mended_data first_now (mend.Raise d0.head.id) in
+        let e = mended_data first_now (push.Raise d0.head.id) in
         inr (refl, none_was_lost e (ended raised n Repairs) later at refl log_is, log_is)
 
-    pub raise_first_push : IsMendPush (at_part d0 None (as_part f part.Opens true)) (mend.Raise d0.head.id)
+    pub raise_first_push : IsMendPush (at_part d0 None (as_part f part.Opens true)) (push.Raise d0.head.id)
     raise_first_push =
         let raises = mend_raises_first d0 f may.core may.placed may.unfailed may.next.1 in
         record {
@@ -208,7 +209,7 @@ module _ (d0 : MasterData) (f : Failover) where
             ends = ends;
             log = has_ended later;
             ordinary = no_commit first_now may.core refl;
-            model = same_model first_now (mended_data first_now (mend.Raise d0.head.id)) may.core later refl refl
+            model = same_model first_now (mended_data first_now (push.Raise d0.head.id)) may.core later refl refl
                 (λ s. refl) refl refl refl (omega arith);
             waiting = refl;
           }));

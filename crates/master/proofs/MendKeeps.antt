@@ -23,8 +23,8 @@ use Rattle.master_core.proofs.log_memory.Ids.{now_others}
 use Rattle.master_core.proofs.log_memory.LoadingFleets.{ok_holds_loading, repair_holds_loading, mend_holds_loading}
 use Rattle.master_core.proofs.log_memory.TextsIn.{image_text}
 use Rattle.log_head.specs.log_laws.Ops.{op_of}
-use Rattle.master_core.specs.master_failover.declared.mending.Mend.{Mend}
-use Rattle.master_core.specs.master_failover.declared.mending.Mend.TheVariants as mend
+use Rattle.master_core.specs.master_failover.declared.push.Push.{Push}
+use Rattle.master_core.specs.master_failover.declared.push.Push.TheVariants as push
 use Rattle.master_core.specs.master_failover.Mending.{IsNextMend, IsLater, IsOnReplica, mended_data, backup_for}
 use Rattle.master_core.specs.master_failover.Mending.{segment_for}
 use Rattle.master_core.specs.master_failover.Mending.{replica_for}
@@ -32,7 +32,7 @@ use Rattle.master_core.specs.master_state.Budget.{victims_of}
 use Rattle.master_core.specs.master_state.Data.{MasterData}
 use Rattle.master_core.specs.master_state.Invariant.{AreApart, IsCore}
 use Rattle.master_core.specs.master_state.Log.{images_of, log_of, memory_of}
-use Rattle.master.specs.Mends.{IsMended}
+use Rattle.master.specs.Pushes.{IsMended}
 use Rattle.master.proofs.Counting.{held_unfailed}
 use Rattle.master.proofs.Ended.{segments_in}
 use Rattle.master.proofs.Handed.{IsSameSize, taken_size, raised_size, handed_kept}
@@ -105,7 +105,7 @@ module _ {Holds : FailData → FailMemory → FleetState → Type 0} (on : Lasts
       let is = has.1 s counts in
       ap (entries_for d.config.master s) (image_text d.config.master s (has.0.text s) (images_of d s) is) ∙ sym is
 
-  pub may_mend : (m : Mend) → IsNextMend d m → IsLimited d m → MayMend d m
+  pub may_mend : (m : Push) → IsNextMend d m → IsLimited d m → MayMend d m
   may_mend m next limited = record {
     core = kept.core;
     placed = kept.placed;
@@ -118,7 +118,7 @@ module _ {Holds : FailData → FailMemory → FleetState → Type 0} (on : Lasts
 
   -- ---- the op is taken
 
-  module _ (m : Mend) (may : MayMend d m) (later : IsLater m) (passing : EndsPassOn Holds d)
+  module _ (m : Push) (may : MayMend d m) (later : IsLater m) (passing : EndsPassOn Holds d)
       (core : IsCore (mended_data d m)) (g : FleetState) (takes : TakesOp d.config.master f (mend_op d m) g) where
     abbrev e : MasterData
     e = mended_data d m
@@ -126,19 +126,16 @@ module _ {Holds : FailData → FailMemory → FleetState → Type 0} (on : Lasts
     is : IsMendPush d m
     is = mend_push d m may later
 
-    there_on : (x : Mend) → IsNextMend d x → IsOnReplica x
+    there_on : (x : Push) → IsNextMend d x → IsOnReplica x
         → IsThere (log_of d).config (On (backup_for d x) (segment_for d x) (mend_act d x))
     there_on x next is_on =
         core_within d kept.core (segment_for d x) (replica_for x) (few_for_mend d x kept.core next is_on)
 
-    there : (x : Mend) → IsNextMend d x → IsLater x → IsThere (log_of d).config (mend_op d x)
-    there (mend.Extend j) next later = there_on (mend.Extend j) next tt
-    there (mend.Replace j) next later = there_on (mend.Replace j) next tt
-    there mend.Turn next later = absurd later
-    there (mend.Open j) next later = there_on (mend.Open j) next tt
-    there (mend.Raise id) next later = tt
-    there (mend.Close j) next later = there_on (mend.Close j) next tt
-    there (mend.Repair s j) next later = there_on (mend.Repair s j) next tt
+    there : (x : Push) → IsNextMend d x → IsLater x → IsThere (log_of d).config (mend_op d x)
+    there (push.Head n) next later = there_on (push.Head n) next tt
+    there push.Turn next later = absurd later
+    there (push.Raise id) next later = tt
+    there (push.Repair s j) next later = there_on (push.Repair s j) next tt
 
     size_of : (o : Op) → TakesOp d.config.master f o g → IsSameSize f g
     size_of (On b s act) took = taken_size f b (op_of d.config.master (log_op_for d.config.master b s act)) g took.1

@@ -6,7 +6,6 @@ use Rattle.std.specs.List.{AllByRecursion}
 use Rattle.std.specs.Option.{option_map_or}
 use Rattle.std.proofs.lemmas.Option.{slice_get_within, slice_get-get_or}
 use Rattle.log_head.specs.declared.head.Roll.{Roll}
-use Rattle.log_head.specs.declared.next.Next.TheVariants as next
 use Rattle.log_head.specs.Head.{HeadValue, IsLagging}
 use Rattle.log_head.specs.Log.{head_of, start_of}
 use Rattle.log_head.specs.Next.{units_of}
@@ -15,13 +14,14 @@ use Rattle.log_head.proofs.Rolls.{rolls}
 use Rattle.log_head.specs.log_laws.Heads.{Start, entries_of}
 use Rattle.log_head.specs.log_laws.Ids.{has, without}
 use Rattle.log_head.specs.log_laws.HeadSteps.{units_between}
+use Rattle.log_head.specs.declared.next.Next.TheVariants as nexts
 use Rattle.master_core.specs.log_laws.Data.{Head, front, bare, Closes, FailData, IsHome}
 use Rattle.master_core.specs.log_laws.Shown.{Act, Open, Extend, Close, Seal, Op, On, Raise}
 use Rattle.master_core.specs.log_laws.Steps.{with_taken, with_count, Extends, OpensNew, Replaces, Raises, ClosesOld}
 use Rattle.master_core.specs.log_laws.Text.{length_of}
 use Rattle.master_core.specs.log_memory.Memory.{text_in}
-use Rattle.master_core.specs.master_failover.declared.mending.Mend.{Mend}
-use Rattle.master_core.specs.master_failover.declared.mending.Mend.TheVariants as mend
+use Rattle.master_core.specs.master_failover.declared.push.Push.{Push}
+use Rattle.master_core.specs.master_failover.declared.push.Push.TheVariants as push
 use Rattle.master_core.specs.master_failover.Mending.{backup_for, segment_for, opened_more, raised_data}
 use Rattle.master_core.specs.master_state.declared.failover.Failover.{Failover}
 use Rattle.master_core.specs.master_state.declared.failover.Part.{Part}
@@ -40,32 +40,20 @@ use Rattle.master.proofs.Placing.{left_has, has_left, left_not, all_work}
 
 -- ---- the ops
 
--- the new head that is being opened: a roll's, or the first
-abbrev pub new_start_in : HeadValue → Start
-new_start_in h = option_map_or start_of h.roll (head_of h).start
-
 -- what a push does to the replica that it is for
-abbrev pub mend_act : MasterData → Mend → Act
-mend_act d (mend.Extend j) = act_now d (next.Extend j)
-mend_act d (mend.Replace j) = act_now d (next.OpenWhole j)
-mend_act d mend.Turn = Close
-mend_act d (mend.Open j) = Open (bare (new_start_in d.head))
-mend_act d (mend.Raise id) = Close
-mend_act d (mend.Close j) = Close
-mend_act d (mend.Repair s j) = Seal (text_in (memory_of d) s)
+abbrev pub mend_act : MasterData → Push → Act
+mend_act d (push.Head n) = act_now d n
+mend_act d push.Turn = Close
+mend_act d (push.Raise id) = Close
+mend_act d (push.Repair s j) = Seal (text_in (memory_of d) s)
 
 -- its op as the log sees it; that of a Turn is the first Open of the new head
-abbrev pub mend_op : MasterData → Mend → Op
-mend_op d (mend.Extend j) =
-    On (backup_for d (mend.Extend j)) (segment_for d (mend.Extend j)) (mend_act d (mend.Extend j))
-mend_op d (mend.Replace j) =
-    On (backup_for d (mend.Replace j)) (segment_for d (mend.Replace j)) (mend_act d (mend.Replace j))
-mend_op d mend.Turn = On (backup_for d mend.Turn) (segment_for d mend.Turn) (mend_act d mend.Turn)
-mend_op d (mend.Open j) = On (backup_for d (mend.Open j)) (segment_for d (mend.Open j)) (mend_act d (mend.Open j))
-mend_op d (mend.Raise id) = Raise id
-mend_op d (mend.Close j) = On (backup_for d (mend.Close j)) (segment_for d (mend.Close j)) (mend_act d (mend.Close j))
-mend_op d (mend.Repair s j) =
-    On (backup_for d (mend.Repair s j)) (segment_for d (mend.Repair s j)) (mend_act d (mend.Repair s j))
+abbrev pub mend_op : MasterData → Push → Op
+mend_op d (push.Head n) = On (backup_for d (push.Head n)) (segment_for d (push.Head n)) (act_now d n)
+mend_op d push.Turn = On (backup_for d push.Turn) (segment_for d push.Turn) (mend_act d push.Turn)
+mend_op d (push.Raise id) = Raise id
+mend_op d (push.Repair s j) =
+    On (backup_for d (push.Repair s j)) (segment_for d (push.Repair s j)) (mend_act d (push.Repair s j))
 
 -- ---- a master whose failover is open, with roll and failover written out
 
@@ -166,8 +154,8 @@ module _ (d0 : MasterData) (f : Failover) (core : IsCore (at_part d0 None (as_pa
   module _ (shut : WholeOnceShut (at_part d0 None (as_part f part.Mends false))) (j : ℕ)
       (lagging : IsLagging (length d0.head.units) d0.head.taken (Some j)) where
     pub mend_extends : Extends (log_of (at_part d0 None (as_part f part.Mends false)))
-        (mend_op (at_part d0 None (as_part f part.Mends false)) (mend.Extend j))
-        (log_of (pushed_data (at_part d0 None (as_part f part.Mends false)) (next.Extend j)))
+        (mend_op (at_part d0 None (as_part f part.Mends false)) (push.Head (nexts.Extend j)))
+        (log_of (pushed_data (at_part d0 None (as_part f part.Mends false)) (nexts.Extend j)))
     mend_extends =
         let d = mending in
         let b = home d.config d.failed d.head.id j in
@@ -191,8 +179,8 @@ module _ (d0 : MasterData) (f : Failover) (core : IsCore (at_part d0 None (as_pa
 
   module _ (few : length d0.head.taken < d0.config.replicas) where
     pub mend_replaces : Replaces (log_of (at_part d0 None (as_part f part.Mends false)))
-        (mend_op (at_part d0 None (as_part f part.Mends false)) (mend.Replace (length d0.head.taken)))
-        (log_of (pushed_data (at_part d0 None (as_part f part.Mends false)) (next.OpenWhole (length d0.head.taken))))
+        (mend_op (at_part d0 None (as_part f part.Mends false)) (push.Head (nexts.OpenWhole (length d0.head.taken))))
+        (log_of (pushed_data (at_part d0 None (as_part f part.Mends false)) (nexts.OpenWhole (length d0.head.taken))))
     mend_replaces =
         let d = mending in
         let j = length d0.head.taken in
@@ -237,7 +225,7 @@ module _ (d0 : MasterData) (r : Roll) (f : Failover)
 
   module _ (lt : r.opened < d0.config.replicas) where
     pub mend_opens : OpensNew (log_of (at_part d0 (Some r) (as_part f part.Opens false)))
-        (mend_op (at_part d0 (Some r) (as_part f part.Opens false)) (mend.Open r.opened))
+        (mend_op (at_part d0 (Some r) (as_part f part.Opens false)) (push.Head (nexts.OpenNew r.opened)))
         (log_of (opened_more (at_part d0 (Some r) (as_part f part.Opens false)) r.opened))
     mend_opens =
         let d = opening_now in
@@ -262,7 +250,7 @@ module _ (d0 : MasterData) (r : Roll) (f : Failover)
 
   module _ (all : r.opened ≡ d0.config.replicas) where
     pub mend_raises : Raises (log_of (at_part d0 (Some r) (as_part f part.Opens false)))
-        (mend_op (at_part d0 (Some r) (as_part f part.Opens false)) (mend.Raise r.id))
+        (mend_op (at_part d0 (Some r) (as_part f part.Opens false)) (push.Raise r.id))
         (log_of (raised_data (at_part d0 (Some r) (as_part f part.Opens false))))
     mend_raises =
         let count = ap length took_opening ∙ placed_length d0.config d0.failed r.id r.opened in
@@ -295,7 +283,7 @@ module _ (d0 : MasterData) (f : Failover) (core : IsCore (at_part d0 None (as_pa
 
   module _ (lt : length d0.head.taken < d0.config.replicas) where
     pub mend_opens_first : OpensNew (log_of (at_part d0 None (as_part f part.Opens true)))
-        (mend_op (at_part d0 None (as_part f part.Opens true)) (mend.Open (length d0.head.taken)))
+        (mend_op (at_part d0 None (as_part f part.Opens true)) (push.Head (nexts.OpenFirst (length d0.head.taken))))
         (log_of (opened_more (at_part d0 None (as_part f part.Opens true)) (length d0.head.taken)))
     mend_opens_first =
         let d = first_now in
@@ -322,7 +310,7 @@ module _ (d0 : MasterData) (f : Failover) (core : IsCore (at_part d0 None (as_pa
 
   module _ (all : length d0.head.taken ≡ d0.config.replicas) where
     pub mend_raises_first : Raises (log_of (at_part d0 None (as_part f part.Opens true)))
-        (mend_op (at_part d0 None (as_part f part.Opens true)) (mend.Raise d0.head.id))
+        (mend_op (at_part d0 None (as_part f part.Opens true)) (push.Raise d0.head.id))
         (record (log_of (at_part d0 None (as_part f part.Opens true))) { mode = Closes (head_of d0.head).start })
     mend_raises_first =
         let count = ap length took_alone ∙ placed_length d0.config d0.failed d0.head.id (length d0.head.taken) in
@@ -363,7 +351,7 @@ module _ (d0 : MasterData) (r : Roll) (f : Failover)
       omega (arith, count)
 
   pub mend_closes : ClosesOld (log_of (at_part d0 (Some r) (as_part f part.Closes false)))
-      (mend_op (at_part d0 (Some r) (as_part f part.Closes false)) (mend.Close r.closed))
+      (mend_op (at_part d0 (Some r) (as_part f part.Closes false)) (push.Head (nexts.CloseOld r.closed)))
       (record (log_of (at_part d0 (Some r) (as_part f part.Closes false))) {
         shut = home d0.config d0.failed d0.head.id r.closed ∷ shut_in d0.ledger;
       })

@@ -14,12 +14,13 @@ use Rattle.log_head.proofs.HeadLog.{end_is, front_is, part_is, count_is}
 use Rattle.log_head.proofs.Rolls.{rolls}
 use Rattle.log_head.specs.log_laws.Heads.{start_entries}
 use Rattle.log_head.specs.log_laws.Ops.{op_of}
+use Rattle.log_head.specs.declared.next.Next.TheVariants as nexts
 use Rattle.master_core.specs.log_laws.Data.{front, bare}
 use Rattle.master_core.specs.log_laws.Shown.{Open, On}
 use Rattle.master_core.specs.log_bytes.Ops.{act_for, log_op_for}
 use Rattle.master_core.proofs.log_bytes.Texts.{length_is}
-use Rattle.master_core.specs.master_failover.declared.mending.Mend.{Mend}
-use Rattle.master_core.specs.master_failover.declared.mending.Mend.TheVariants as mend
+use Rattle.master_core.specs.master_failover.declared.push.Push.{Push}
+use Rattle.master_core.specs.master_failover.declared.push.Push.TheVariants as push
 use Rattle.master_core.specs.master_failover.Mending.{IsNextMend, IsLater, IsOnReplica, was_headless, backup_for}
 use Rattle.master_core.specs.master_failover.Mending.{segment_for, replica_for, op_now}
 use Rattle.master_core.proofs.master_failover.Changed.{own, was_is, headless_is}
@@ -39,7 +40,7 @@ use Rattle.master.proofs.NextOps.{roll_of, start_id}
 
 -- ---- each push
 
-module _ (d : MasterData) (m : Mend) (roll : Option Roll) (f : Failover) (p : Part) (first : Bool)
+module _ (d : MasterData) (m : Push) (roll : Option Roll) (f : Failover) (p : Part) (first : Bool)
     (rolling : d.head.roll ≡ roll) (failing : d.failover ≡ Some f) (part_is : f.part ≡ p)
     (first_is : f.is_first ≡ first) where
   -- it is enough to look at a master whose roll and failover are written out
@@ -68,115 +69,115 @@ module _ (d : MasterData) (core : IsCore d) (f : Failover) (is : d.failover ≡ 
     go true test = test
     go false test = absurd (let some = subst (λ (o : Option Roll). IsSome o) none (fails.opens opens test).0 in cc)
 
-pub mend_push : (d : MasterData) (m : Mend) → MayMend d m → IsLater m → IsMendPush d m
-mend_push d (mend.Extend j) may later =
+pub mend_push : (d : MasterData) (m : Push) → MayMend d m → IsLater m → IsMendPush d m
+mend_push d (push.Head (nexts.Extend j)) may later =
     let f = may.next.0.0 in
     let is = may.next.0.1 in
-    at_its_part d (mend.Extend j) None f part.Mends false ((fails d may.core f is).mends may.next.0.2).0 is may.next.0.2
+    at_its_part d (push.Head (nexts.Extend j)) None f part.Mends false ((fails d may.core f is).mends may.next.0.2).0 is may.next.0.2
     (headed_first d may.core f is may.next.1) (extend_push d f j) may
-mend_push d (mend.Replace j) may later =
+mend_push d (push.Head (nexts.OpenWhole j)) may later =
     let f = may.next.0.0 in
     let is = may.next.0.1 in
-    subst (λ (i : ℕ). IsMendPush d (mend.Replace i)) (sym may.next.3)
-    (at_its_part d (mend.Replace (length d.head.taken)) None f part.Mends false
+    subst (λ (i : ℕ). IsMendPush d (push.Head (nexts.OpenWhole i))) (sym may.next.3)
+    (at_its_part d (push.Head (nexts.OpenWhole (length d.head.taken))) None f part.Mends false
     ((fails d may.core f is).mends may.next.0.2).0 is may.next.0.2 (headed_first d may.core f is may.next.1)
-    (replace_push d f) (subst (λ (i : ℕ). MayMend d (mend.Replace i)) may.next.3 may))
-mend_push d mend.Turn may later = absurd later
-mend_push d (mend.Open j) may later = go d.head.roll refl where
-  go : (o : Option Roll) → d.head.roll ≡ o → IsMendPush d (mend.Open j)
+    (replace_push d f) (subst (λ (i : ℕ). MayMend d (push.Head (nexts.OpenWhole i))) may.next.3 may))
+mend_push d push.Turn may later = absurd later
+mend_push d (push.Head (nexts.OpenNew j)) may later = go d.head.roll refl where
+  go : (o : Option Roll) → d.head.roll ≡ o → IsMendPush d (push.Head (nexts.OpenNew j))
   go (Some r) rolling =
-      let f = may.next.0.0 in
-      let is = may.next.0.1 in
+      let f = may.next.0.0.0 in
+      let is = may.next.0.0.1 in
       let at : j ≡ r.opened =
-      may.next.1 ∙ ap (λ (o : Option Roll). option_map_or (λ (q : Roll). q.opened) o (length d.head.taken)) rolling in
-      subst (λ (i : ℕ). IsMendPush d (mend.Open i)) (sym at)
-      (at_its_part d (mend.Open r.opened) (Some r) f part.Opens false rolling is may.next.0.2
+      may.next.0.1 ∙ ap (λ (o : Option Roll). option_map_or (λ (q : Roll). q.opened) o (length d.head.taken)) rolling in
+      subst (λ (i : ℕ). IsMendPush d (push.Head (nexts.OpenNew i))) (sym at)
+      (at_its_part d (push.Head (nexts.OpenNew r.opened)) (Some r) f part.Opens false rolling is may.next.0.0.2
       (rolls_later d may.core f is r rolling) (open_push d r f)
-      (subst (λ (i : ℕ). MayMend d (mend.Open i)) at may))
-  go None none =
-      let f = may.next.0.0 in
-      let is = may.next.0.1 in
-      let at : j ≡ length d.head.taken =
-      may.next.1 ∙ ap (λ (o : Option Roll). option_map_or (λ (q : Roll). q.opened) o (length d.head.taken)) none in
-      subst (λ (i : ℕ). IsMendPush d (mend.Open i)) (sym at)
-      (at_its_part d (mend.Open (length d.head.taken)) None f part.Opens true none is may.next.0.2
-      (none_first d may.core f is may.next.0.2 none) (open_first_push d f)
-      (subst (λ (i : ℕ). MayMend d (mend.Open i)) at may))
-mend_push d (mend.Raise id) may later = go d.head.roll refl where
-  go : (o : Option Roll) → d.head.roll ≡ o → IsMendPush d (mend.Raise id)
+      (subst (λ (i : ℕ). MayMend d (push.Head (nexts.OpenNew i))) at may))
+  go None none = absurd (let some = subst (λ (o : Option Roll). IsSome o) none may.next.1 in cc)
+mend_push d (push.Head (nexts.OpenFirst j)) may later =
+    let f = may.next.0.0.0 in
+    let is = may.next.0.0.1 in
+    let none = may.next.1 in
+    let at : j ≡ length d.head.taken =
+    may.next.0.1 ∙ ap (λ (o : Option Roll). option_map_or (λ (q : Roll). q.opened) o (length d.head.taken)) none in
+    subst (λ (i : ℕ). IsMendPush d (push.Head (nexts.OpenFirst i))) (sym at)
+    (at_its_part d (push.Head (nexts.OpenFirst (length d.head.taken))) None f part.Opens true none is may.next.0.0.2
+    (none_first d may.core f is may.next.0.0.2 none) (open_first_push d f)
+    (subst (λ (i : ℕ). MayMend d (push.Head (nexts.OpenFirst i))) at may))
+mend_push d (push.Raise id) may later = go d.head.roll refl where
+  go : (o : Option Roll) → d.head.roll ≡ o → IsMendPush d (push.Raise id)
   go (Some r) rolling =
       let f = may.next.0.0 in
       let is = may.next.0.1 in
       let at : id ≡ r.id =
       may.next.2 ∙ ap (λ (o : Option Roll). option_map_or (λ (q : Roll). q.id) o d.head.id) rolling in
-      subst (λ (i : ℕ). IsMendPush d (mend.Raise i)) (sym at)
-      (at_its_part d (mend.Raise r.id) (Some r) f part.Opens false rolling is may.next.0.2
+      subst (λ (i : ℕ). IsMendPush d (push.Raise i)) (sym at)
+      (at_its_part d (push.Raise r.id) (Some r) f part.Opens false rolling is may.next.0.2
       (rolls_later d may.core f is r rolling) (raise_push d r f)
-      (subst (λ (i : ℕ). MayMend d (mend.Raise i)) at may))
+      (subst (λ (i : ℕ). MayMend d (push.Raise i)) at may))
   go None none =
       let f = may.next.0.0 in
       let is = may.next.0.1 in
       let at : id ≡ d.head.id =
       may.next.2 ∙ ap (λ (o : Option Roll). option_map_or (λ (q : Roll). q.id) o d.head.id) none in
-      subst (λ (i : ℕ). IsMendPush d (mend.Raise i)) (sym at)
-      (at_its_part d (mend.Raise d.head.id) None f part.Opens true none is may.next.0.2
+      subst (λ (i : ℕ). IsMendPush d (push.Raise i)) (sym at)
+      (at_its_part d (push.Raise d.head.id) None f part.Opens true none is may.next.0.2
       (none_first d may.core f is may.next.0.2 none) (raise_first_push d f)
-      (subst (λ (i : ℕ). MayMend d (mend.Raise i)) at may))
-mend_push d (mend.Close j) may later =
+      (subst (λ (i : ℕ). MayMend d (push.Raise i)) at may))
+mend_push d (push.Head (nexts.CloseOld j)) may later =
     let f = may.next.0.0 in
     let is = may.next.0.1 in
     let r = may.next.1 in
-    subst (λ (i : ℕ). IsMendPush d (mend.Close i)) (sym may.next.3)
-    (at_its_part d (mend.Close r.closed) (Some r) f part.Closes false may.next.2 is may.next.0.2
+    subst (λ (i : ℕ). IsMendPush d (push.Head (nexts.CloseOld i))) (sym may.next.3)
+    (at_its_part d (push.Head (nexts.CloseOld r.closed)) (Some r) f part.Closes false may.next.2 is may.next.0.2
     ((fails d may.core f is).closes may.next.0.2).0 (close_push d r f)
-    (subst (λ (i : ℕ). MayMend d (mend.Close i)) may.next.3 may))
-mend_push d (mend.Repair s j) may later =
+    (subst (λ (i : ℕ). MayMend d (push.Head (nexts.CloseOld i))) may.next.3 may))
+mend_push d (push.Repair s j) may later =
     let f = may.next.0.0 in
     let is = may.next.0.1 in
-    at_its_part d (mend.Repair s j) None f part.Repairs false ((fails d may.core f is).repairs may.next.0.2).2 is
+    at_its_part d (push.Repair s j) None f part.Repairs false ((fails d may.core f is).repairs may.next.0.2).2 is
     may.next.0.2 ((fails d may.core f is).repairs may.next.0.2).0 (seal_push d f s j) may
 
 -- ---- it is for one of the replicas that there should be
 
-pub few_for_mend : (d : MasterData) (m : Mend) → IsCore d → IsNextMend d m → IsOnReplica m
+pub few_for_mend : (d : MasterData) (m : Push) → IsCore d → IsNextMend d m → IsOnReplica m
     → replica_for m < d.config.replicas
-few_for_mend d (mend.Extend j) core next on =
+few_for_mend d (push.Head (nexts.Extend j)) core next on =
     let lt = slice_get_within d.head.taken j next.2.0 next.2.1 in
     let few = core.head.opened in
     let same = core.replicas in
     omega (arith, lt, few, same)
-few_for_mend d (mend.Replace j) core next on = next.4
-few_for_mend d mend.Turn core next on = absurd on
-few_for_mend d (mend.Open j) core next on = next.2
-few_for_mend d (mend.Raise id) core next on = absurd on
-few_for_mend d (mend.Close j) core next on =
+few_for_mend d (push.Head (nexts.OpenWhole j)) core next on = next.4
+few_for_mend d push.Turn core next on = absurd on
+few_for_mend d (push.Head (nexts.OpenNew j)) core next on = next.0.2
+few_for_mend d (push.Head (nexts.OpenFirst j)) core next on = next.0.2
+few_for_mend d (push.Raise id) core next on = absurd on
+few_for_mend d (push.Head (nexts.CloseOld j)) core next on =
     let lt = (rolls d.head next.1 core.head next.2).closed in
     let at = next.3 in
     let same = core.replicas in
     omega (arith, lt, at, same)
-few_for_mend d (mend.Repair s j) core next on = fewer d core s j next
+few_for_mend d (push.Repair s j) core next on = fewer d core s j next
 
-pub op_on : (d : MasterData) (m : Mend) → IsOnReplica m
+pub op_on : (d : MasterData) (m : Push) → IsOnReplica m
     → mend_op d m ≡ On (backup_for d m) (segment_for d m) (mend_act d m)
-op_on d (mend.Extend j) on = refl
-op_on d (mend.Replace j) on = refl
-op_on d mend.Turn on = absurd on
-op_on d (mend.Open j) on = refl
-op_on d (mend.Raise id) on = absurd on
-op_on d (mend.Close j) on = refl
-op_on d (mend.Repair s j) on = refl
+op_on d (push.Head n) on = refl
+op_on d push.Turn on = absurd on
+op_on d (push.Raise id) on = absurd on
+op_on d (push.Repair s j) on = refl
 
 -- ---- its bytes
 
 -- the op in bytes
-abbrev pub bytes_op : MasterData → Mend → OpValue
+abbrev pub bytes_op : MasterData → Push → OpValue
 bytes_op d m = op_of d.config.master (log_op_for d.config.master (backup_for d m) (segment_for d m) (mend_act d m))
 
 module _ (d : MasterData) (core : IsCore d) (f : Failover) (is : d.failover ≡ Some f) where
   units_are : length d.head.units ≡ length (head_of d.head).units
   units_are = count_is d.config.master d.head (head_of d.head) core.image
 
-  extend_bytes : (j : ℕ) → IsNextMend d (mend.Extend j) → op_now d (mend.Extend j) ≡ Some (bytes_op d (mend.Extend j))
+  extend_bytes : (j : ℕ) → IsNextMend d (push.Head (nexts.Extend j)) → op_now d (push.Head (nexts.Extend j)) ≡ Some (bytes_op d (push.Head (nexts.Extend j)))
   extend_bytes j waits =
       let from = units_of d.head j in
       let units : from ≡ waits.2.0 = ap (λ (x : Option ℕ). unwrap_or x 0) waits.2.1 in
@@ -189,7 +190,7 @@ module _ (d : MasterData) (core : IsCore d) (f : Failover) (is : d.failover ≡ 
             (let lt = waits.2.2 in omega (arith, units, lt)) i);
       })
 
-  replace_bytes : (j : ℕ) → op_now d (mend.Replace j) ≡ Some (bytes_op d (mend.Replace j))
+  replace_bytes : (j : ℕ) → op_now d (push.Head (nexts.OpenWhole j)) ≡ Some (bytes_op d (push.Head (nexts.OpenWhole j)))
   replace_bytes j =
       let master = d.config.master in
       ap (λ (es : List Entry). Some (record { master = master; segment = d.head.id; act = OpenBytes (text_of es) }))
@@ -201,12 +202,12 @@ module _ (d : MasterData) (core : IsCore d) (f : Failover) (is : d.failover ≡ 
       }))
 
   -- a new head that is a roll's
-  rolled_bytes : (r : Roll) → d.head.roll ≡ Some r → (j : ℕ) → op_now d (mend.Open j) ≡ Some (bytes_op d (mend.Open j))
+  rolled_bytes : (r : Roll) → d.head.roll ≡ Some r → (j : ℕ) → op_now d (push.Head (nexts.OpenNew j)) ≡ Some (bytes_op d (push.Head (nexts.OpenNew j)))
   rolled_bytes r rolling j =
       let master = d.config.master in
       let path : d ≡ record d { head = record d.head { roll = Some r } } =
       λ i. record d { head = record d.head { roll = rolling i } } in
-      subst (λ (x : MasterData). op_now x (mend.Open j) ≡ Some (bytes_op x (mend.Open j))) (sym path)
+      subst (λ (x : MasterData). op_now x (push.Head (nexts.OpenNew j)) ≡ Some (bytes_op x (push.Head (nexts.OpenNew j)))) (sym path)
       (ap (λ (es : List Entry). Some (record { master = master; segment = r.id; act = OpenBytes (text_of es) }))
       (roll_of d core r rolling).image
       ∙ ap (λ (s : ℕ).
@@ -215,30 +216,33 @@ module _ (d : MasterData) (core : IsCore d) (f : Failover) (is : d.failover ≡ 
 
   -- and the first
   first_bytes : d.head.roll ≡ None → f.part ≡ part.Opens → (j : ℕ)
-      → op_now d (mend.Open j) ≡ Some (bytes_op d (mend.Open j))
+      → op_now d (push.Head (nexts.OpenFirst j)) ≡ Some (bytes_op d (push.Head (nexts.OpenFirst j)))
   first_bytes none opens j =
       let master = d.config.master in
       let n = (head_of d.head).start in
       let first = core.first (headless_is d core f is d.head ∙ none_first d core f is opens none) in
       let path : d ≡ record d { head = record d.head { roll = None } } =
       λ i. record d { head = record d.head { roll = none i } } in
-      subst (λ (x : MasterData). op_now x (mend.Open j) ≡ Some (bytes_op x (mend.Open j))) (sym path)
+      subst (λ (x : MasterData). op_now x (push.Head (nexts.OpenFirst j)) ≡ Some (bytes_op x (push.Head (nexts.OpenFirst j)))) (sym path)
       (ap (λ (bs : List ℕ). Some (record { master = master; segment = d.head.id; act = OpenBytes bs }))
       (front_is master d.head (head_of d.head) core.image 0
       ∙ ap (λ (es : List Entry). text_of (start_entries master n ++ (es ++ []))) first.loaded)
       ∙ ap (λ (s : ℕ). Some (record { master = master; segment = d.head.id; act = act_for master s (Open (bare n)) }))
       core.image.id)
 
-pub mend_bytes : (d : MasterData) (m : Mend) → MayMend d m → IsOnReplica m → op_now d m ≡ Some (bytes_op d m)
-mend_bytes d (mend.Extend j) may on = extend_bytes d may.core may.next.0.0 may.next.0.1 j may.next
-mend_bytes d (mend.Replace j) may on = replace_bytes d may.core may.next.0.0 may.next.0.1 j
-mend_bytes d mend.Turn may on = absurd on
-mend_bytes d (mend.Open j) may on = go d.head.roll refl where
-  go : (o : Option Roll) → d.head.roll ≡ o → op_now d (mend.Open j) ≡ Some (bytes_op d (mend.Open j))
-  go (Some r) rolling = rolled_bytes d may.core may.next.0.0 may.next.0.1 r rolling j
-  go None none = first_bytes d may.core may.next.0.0 may.next.0.1 none may.next.0.2 j
-mend_bytes d (mend.Raise id) may on = absurd on
-mend_bytes d (mend.Close j) may on = refl
-mend_bytes d (mend.Repair s j) may on =
+pub mend_bytes : (d : MasterData) (m : Push) → MayMend d m → IsOnReplica m → op_now d m ≡ Some (bytes_op d m)
+mend_bytes d (push.Head (nexts.Extend j)) may on = extend_bytes d may.core may.next.0.0 may.next.0.1 j may.next
+mend_bytes d (push.Head (nexts.OpenWhole j)) may on = replace_bytes d may.core may.next.0.0 may.next.0.1 j
+mend_bytes d push.Turn may on = absurd on
+mend_bytes d (push.Head (nexts.OpenNew j)) may on = go d.head.roll refl where
+  go : (o : Option Roll) → d.head.roll ≡ o
+      → op_now d (push.Head (nexts.OpenNew j)) ≡ Some (bytes_op d (push.Head (nexts.OpenNew j)))
+  go (Some r) rolling = rolled_bytes d may.core may.next.0.0.0 may.next.0.0.1 r rolling j
+  go None none = absurd (let some = subst (λ (o : Option Roll). IsSome o) none may.next.1 in cc)
+mend_bytes d (push.Head (nexts.OpenFirst j)) may on =
+    first_bytes d may.core may.next.0.0.0 may.next.0.0.1 may.next.1 may.next.0.0.2 j
+mend_bytes d (push.Raise id) may on = absurd on
+mend_bytes d (push.Head (nexts.CloseOld j)) may on = refl
+mend_bytes d (push.Repair s j) may on =
     ap (λ (es : List Entry). Some (record { master = d.config.master; segment = s; act = SealBytes (text_of es) }))
     (sym (may.texts s (others_in d may.core s (is_other d may.core s j may.next))))

@@ -19,8 +19,8 @@ use Rattle.master_core.specs.log_laws.Steps.{with_taken, mended, MayRepair}
 use Rattle.master_core.specs.log_bytes.Text.{entries_for, IsWholeText}
 use Rattle.master_core.specs.log_memory.Memory.{text_in}
 use Rattle.master_core.specs.log_memory.Ops.{RepairsImage}
-use Rattle.master_core.specs.master_failover.declared.mending.Mend.{Mend}
-use Rattle.master_core.specs.master_failover.declared.mending.Mend.TheVariants as mend
+use Rattle.master_core.specs.master_failover.declared.push.Push.{Push}
+use Rattle.master_core.specs.master_failover.declared.push.Push.TheVariants as push
 use Rattle.master_core.specs.master_failover.Mending.{first_lost, IsNextMend}
 use Rattle.master_core.proofs.master_failover.Sought.{is_other, held, fewer, older, image_is, has_image, segment_there}
 use Rattle.master_core.specs.master_state.declared.failover.Failover.{Failover}
@@ -35,7 +35,7 @@ use Rattle.master_core.specs.master_state.Log.{memory_of}
 use Rattle.master_core.proofs.master_state.Imaging.{ids_in}
 use Rattle.master_core.proofs.master_state.LogIds.{closed_rise}
 use Rattle.master_core.proofs.master_state.Refusals.{sizes_of}
-use Rattle.master.specs.Mends.{IsMended}
+use Rattle.master.specs.Pushes.{IsMended}
 use Rattle.master.specs.Placed.{closed_by, holders, IsPlaced, is_opening}
 use Rattle.master.proofs.Ended.{same_model}
 use Rattle.master.proofs.InForce.{real_head, none_head}
@@ -79,15 +79,12 @@ segment_short most (c ∷ cs) s all = go (c.id == s) refl (segment_short most cs
   go true is later = rw is all.0
   go false is later = rw is later
 
-pub are_limited : (d : MasterData) (m : Mend) → IsCore d → AreWithin d.config.segment d.closed → IsNextMend d m
+pub are_limited : (d : MasterData) (m : Push) → IsCore d → AreWithin d.config.segment d.closed → IsNextMend d m
     → IsLimited d m
-are_limited d (mend.Extend j) core all next = tt
-are_limited d (mend.Replace j) core all next = tt
-are_limited d mend.Turn core all next = tt
-are_limited d (mend.Open j) core all next = tt
-are_limited d (mend.Raise id) core all next = tt
-are_limited d (mend.Close j) core all next = tt
-are_limited d (mend.Repair s j) core all next =
+are_limited d (push.Head n) core all next = tt
+are_limited d push.Turn core all next = tt
+are_limited d (push.Raise id) core all next = tt
+are_limited d (push.Repair s j) core all next =
     let short = segment_short d.config.segment d.closed s all in
     let most = (sizes_of d.config core.config).most_segment in
     subst (λ (o : Option (List Entry)). length (text_of (unwrap_or o [])) ≤ 8388608) (sym (image_is d core s j next))
@@ -96,7 +93,7 @@ are_limited d (mend.Repair s j) core all next =
 -- ---- the push
 
 module _ (d0 : MasterData) (f : Failover) (s j : ℕ)
-    (may : MayMend (at_part d0 None (as_part f part.Repairs false)) (mend.Repair s j)) where
+    (may : MayMend (at_part d0 None (as_part f part.Repairs false)) (push.Repair s j)) where
   abbrev d : MasterData
   d = at_part d0 None (as_part f part.Repairs false)
 
@@ -148,7 +145,7 @@ module _ (d0 : MasterData) (f : Failover) (s j : ℕ)
   mid = record (log_of d) { took = with_taken (took_in d0.ledger) s b }
 
   repairs_image : RepairsImage (log_of d) (memory_of d)
-      (mend_op d (mend.Repair s j)) mid
+      (mend_op d (push.Repair s j)) mid
   repairs_image = record { s = s; b = b; may = repairs; whole = whole; op = refl; gives = refl }
 
   -- ---- what it leaves
@@ -246,7 +243,7 @@ module _ (d0 : MasterData) (f : Failover) (s j : ℕ)
     λ later. inl refl,
   )
 
-  pub seal_push : IsMendPush (at_part d0 None (as_part f part.Repairs false)) (mend.Repair s j)
+  pub seal_push : IsMendPush (at_part d0 None (as_part f part.Repairs false)) (push.Repair s j)
   seal_push =
       let all = either (is_none (first_lost sealed)) in
       record {

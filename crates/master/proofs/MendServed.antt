@@ -14,6 +14,7 @@ use Rattle.images.specs.Steps.{more_replicas}
 use Rattle.log_head.specs.declared.head.Roll.{Roll}
 use Rattle.log_head.specs.Steps.{with_closed_replica, old_image}
 use Rattle.log_head.specs.log_laws.Ids.{has}
+use Rattle.log_head.specs.declared.next.Next.TheVariants as nexts
 use Rattle.master_core.specs.log_laws.Data.{FailData, Repairs}
 use Rattle.master_core.specs.log_laws.Shown.{Op, On, Raise}
 use Rattle.master_core.specs.log_bytes.Ops.{TakesOp}
@@ -21,13 +22,14 @@ use Rattle.master_core.specs.log_memory.Fleet.{HoldsAll, HoldsLoading}
 use Rattle.master_core.specs.log_memory.Loading.{IsLoadingOp}
 use Rattle.master_core.specs.log_memory.Ops.{IsOp}
 use Rattle.master_core.proofs.log_memory.FleetSteps.{finish_holds_all}
-use Rattle.master_core.specs.master_failover.declared.mending.Mend.{Mend}
-use Rattle.master_core.specs.master_failover.declared.mending.Mend.TheVariants as mend
+use Rattle.master_core.specs.master_failover.declared.push.Push.{Push as PushKind}
+use Rattle.master_core.specs.master_failover.declared.push.Push.TheVariants as push
 use Rattle.master_core.specs.master_failover.Mending.{IsInPart, IsNextMend, IsLater, IsOnReplica, mended_data}
 use Rattle.master_core.specs.master_failover.Mending.{backup_for}
 use Rattle.master_core.specs.master_failover.Mending.{segment_for, replica_for, was_headless, first_lost, repaired_data}
 use Rattle.master_core.specs.master_failover.Mending.{with_part}
 use Rattle.master_core.specs.master_failover.Mending.{closed_more}
+use Rattle.master_core.proofs.master_failover.PushKinds.{mend_fails, next_of}
 use Rattle.master_core.specs.master_state.declared.failover.Part.{Part}
 use Rattle.master_core.specs.master_state.declared.failover.Part.TheVariants as part
 use Rattle.master_core.specs.master_state.declared.ledger.Posting.TheVariants as posting
@@ -41,7 +43,7 @@ use Rattle.master_core.specs.master_state.Loading.{IsBare}
 use Rattle.master_core.specs.master_state.Log.{home, log_of, memory_of}
 use Rattle.master_core.specs.master_state.Steps.{refusal_of, failed_data, roll_ended, closed_data}
 use Rattle.master.specs.Invariant.{IsServed, StaysServed}
-use Rattle.master.specs.Mends.{IsMendOp, MendsOn, mend_answer}
+use Rattle.master.specs.Pushes.{IsMendOp, Pushes, push_answer}
 use Rattle.master.specs.Steps.{IsPushOp, Declines}
 use Rattle.master.specs.World.{world_of}
 use Rattle.master.proofs.Handed.{failed_tells, raise_tells, not_wrong, op_failed, loading_not_wrong, loading_failed}
@@ -49,6 +51,7 @@ use Rattle.master.proofs.Handed.{raise_failed, raise_loading_failed, failing_lag
 use Rattle.master.proofs.Lasting.{kept_as, well_kept, loaded_as, well_loaded}
 use Rattle.master.proofs.MendEnds.{IsLimited, MayMend, IsMendPush}
 use Rattle.master.proofs.MendKeeps.{all_on, loading_on, EndsPassOn, may_mend, mended_kept}
+use Rattle.master.proofs.PushKinds.{mends_on}
 use Rattle.master.proofs.MendOps.{mend_op, mend_act}
 use Rattle.master.proofs.MendPushes.{mend_push, few_for_mend, op_on, bytes_op}
 use Rattle.master.proofs.MendedRest.{mended_rest}
@@ -56,18 +59,6 @@ use Rattle.master.proofs.NextMends.{later_may}
 use Rattle.master.proofs.Placing.{core_within, core_left}
 
 -- ---- a failover is open
-
-in_part_fails : (d : MasterData) (p : Part) → IsInPart d p → IsSome d.failover
-in_part_fails d p is = subst (λ (o : Option _). IsSome o) (sym is.1) refl
-
-pub mend_fails : (d : MasterData) (m : Mend) → IsNextMend d m → IsSome d.failover
-mend_fails d (mend.Extend j) next = in_part_fails d part.Mends next.0
-mend_fails d (mend.Replace j) next = in_part_fails d part.Mends next.0
-mend_fails d mend.Turn next = in_part_fails d part.Mends next.0
-mend_fails d (mend.Open j) next = in_part_fails d part.Opens next.0
-mend_fails d (mend.Raise id) next = in_part_fails d part.Opens next.0
-mend_fails d (mend.Close j) next = in_part_fails d part.Closes next.0
-mend_fails d (mend.Repair s j) next = in_part_fails d part.Repairs next.0
 
 -- no test refuses a push of it
 pub mend_passed : (d : MasterData) → d.is_halted ≡ false → IsSome d.failover → push_refusal d ≡ None
@@ -104,7 +95,7 @@ repaired_none d none = go (is_none (first_lost d)) where
   go true = none
   go false = none
 
-raised_none : (d : MasterData) (id : ℕ) → HasNone d → HasNone (mended_data d (mend.Raise id))
+raised_none : (d : MasterData) (id : ℕ) → HasNone d → HasNone (mended_data d (push.Raise id))
 raised_none d id none = go (was_headless d) where
   gives : Bool → MasterData
   gives t =
@@ -151,25 +142,26 @@ closed_more_none d j r none = go (suc j == d.config.replicas) where
   go true = repaired_none last (closed_none k r none)
   go false = closed_none k r none
 
-mended_none : (d : MasterData) (m : Mend) → IsLater m → HasNone d → HasNone (mended_data d m)
-mended_none d (mend.Extend j) later none = none
-mended_none d (mend.Replace j) later none = none
-mended_none d mend.Turn later none = absurd later
-mended_none d (mend.Open j) later none = none
-mended_none d (mend.Raise id) later none = raised_none d id none
-mended_none d (mend.Close j) later none = go d.head.roll where
+mended_none : (d : MasterData) (m : PushKind) → IsLater m → HasNone d → HasNone (mended_data d m)
+mended_none d (push.Head (nexts.Extend j)) later none = none
+mended_none d (push.Head (nexts.OpenWhole j)) later none = none
+mended_none d push.Turn later none = absurd later
+mended_none d (push.Head (nexts.OpenNew j)) later none = none
+mended_none d (push.Head (nexts.OpenFirst j)) later none = none
+mended_none d (push.Raise id) later none = raised_none d id none
+mended_none d (push.Head (nexts.CloseOld j)) later none = go d.head.roll where
   gives : Option Roll → MasterData
   gives o = option_map_or (closed_more d j) o d
 
   go : (o : Option Roll) → HasNone (gives o)
   go None = none
   go (Some r) = closed_more_none d j r none
-mended_none d (mend.Repair s j) later none = repaired_none (record d {
+mended_none d (push.Repair s j) later none = repaired_none (record d {
   closed = changed d.closed s more_replicas;
   ledger = posting.Took s (home d.config d.failed s j) ∷ d.ledger;
 }) none
 
-mended_bare : (d : MasterData) (m : Mend) → IsLater m → IsBare d → IsBare (mended_data d m)
+mended_bare : (d : MasterData) (m : PushKind) → IsLater m → IsBare d → IsBare (mended_data d m)
 mended_bare d m later bare =
     let none = mended_none d m later (bare.pass, bare.waiting) in
     record { history = (mended_rest d m).1 ∙ bare.history; pass = none.0; waiting = none.1 }
@@ -181,23 +173,20 @@ pub op_of_master : (d e : FailData) (m : _) (o : Op) → IsLoadingOp d m o e →
 op_of_master d e m o (inl head) = inl (head, refl)
 op_of_master d e m o (inr repair) = inr (inr (inl (repair, refl)))
 
-pub on_later : (m : Mend) → IsOnReplica m → IsLater m
-on_later (mend.Extend j) on = tt
-on_later (mend.Replace j) on = tt
-on_later mend.Turn on = absurd on
-on_later (mend.Open j) on = tt
-on_later (mend.Raise id) on = tt
-on_later (mend.Close j) on = tt
-on_later (mend.Repair s j) on = tt
+pub on_later : (m : PushKind) → IsOnReplica m → IsLater m
+on_later (push.Head n) on = tt
+on_later push.Turn on = absurd on
+on_later (push.Raise id) on = tt
+on_later (push.Repair s j) on = tt
 
 pub served_core : (d : MasterData) (f : FleetState) → IsServed d f → IsCore d
 served_core d f (inl kept) = kept.core
 served_core d f (inr loaded) = loaded.core
 
-not_turn : (m : Mend) → IsLater m → m ≡ mend.Turn → ⊥
+not_turn : (m : PushKind) → IsLater m → m ≡ push.Turn → ⊥
 not_turn m later is = subst IsLater is later
 
-module _ (d : MasterData) (m : Mend) (f : FleetState) (running : d.is_halted ≡ false) (next : IsNextMend d m)
+module _ (d : MasterData) (m : PushKind) (f : FleetState) (running : d.is_halted ≡ false) (next : IsNextMend d m)
     (limited : IsLimited d m) (later : IsLater m) where
   pub served_may : IsServed d f → MayMend d m
   served_may (inl kept) = may_mend all_on d f (kept_as d f kept running) m next limited
@@ -210,19 +199,20 @@ module _ (d : MasterData) (m : Mend) (f : FleetState) (running : d.is_halted ≡
 
   pub served_mends : IsServed d f → IsCore (mended_data d m) → (g : FleetState)
       → TakesOp d.config.master f (mend_op d m) g
-      → MendsOn (world_of d f) (mend_answer d m) (world_of (mended_data d m) g)
-  served_mends served core g takes = record {
-    op = mend_op d m;
-    running = running;
-    failing = mend_fails d m next;
-    mend = m;
-    next = next;
-    may = λ turn. absurd (not_turn m later turn);
-    does = (served_push served).does core;
-    told = refl;
-    rest = refl;
-    takes = takes;
-  }
+      → Pushes (world_of d f) (push_answer d m) (world_of (mended_data d m) g)
+  served_mends served core g takes =
+      mends_on (world_of d f) (push_answer d m) (world_of (mended_data d m) g) (record {
+        op = mend_op d m;
+        running = running;
+        failing = mend_fails d m next;
+        mend = m;
+        next = next;
+        may = λ turn. absurd (not_turn m later turn);
+        does = (served_push served).does core;
+        told = refl;
+        rest = refl;
+        takes = takes;
+      })
 
   pub served_mended : IsCore (mended_data d m) → (g : FleetState) → TakesOp d.config.master f (mend_op d m) g
       → StaysServed d f (mended_data d m) g
@@ -279,7 +269,7 @@ module _ (d : MasterData) (m : Mend) (f : FleetState) (running : d.is_halted ≡
           inr (inr (
             later_may d m later next,
             failed_tells d f b (segment_for d m) (mend_act d m) (IsPushOp (world_of d f))
-                (inr (m, op.2.0, next, not_turn m later, op.2.1)) g x refused
+                (m, op.2.0, next_of d m next, not_turn m later, inr (mend_fails d m next, op.2.1)) g x refused
                 (mend_not_wrong served g x refused),
           )),
         )
@@ -300,27 +290,27 @@ module _ (d : MasterData) (m : Mend) (f : FleetState) (running : d.is_halted ≡
 -- ---- a raise is refused
 
 module _ (d : MasterData) (id : ℕ) (f : FleetState) (running : d.is_halted ≡ false)
-    (next : IsNextMend d (mend.Raise id)) where
-  raised_push : IsServed d f → IsMendPush d (mend.Raise id)
-  raised_push = served_push d (mend.Raise id) f running next tt tt
+    (next : IsNextMend d (push.Raise id)) where
+  raised_push : IsServed d f → IsMendPush d (push.Raise id)
+  raised_push = served_push d (push.Raise id) f running next tt tt
 
   failing : IsSome d.failover
-  failing = mend_fails d (mend.Raise id) next
+  failing = mend_fails d (push.Raise id) next
 
   pub raise_declines : IsServed d f → (g : FleetState) (x : TakeFault) → RefusesRaise f d.config.master id x g → (b : ℕ)
       → Declines (world_of d f) Push (refusal_of d b x) (world_of (failed_data d b x) g)
   raise_declines served g x refused b = inr (
     mend_passed d running failing,
     inr (inr (
-      later_may d (mend.Raise id) tt next,
+      later_may d (push.Raise id) tt next,
       raise_tells d f id (IsPushOp (world_of d f))
-          (inr (
-            mend.Raise id,
+          (
+            push.Raise id,
             (raised_push served).asks.0,
             next,
-            not_turn (mend.Raise id) tt,
-            (raised_push served).asks.1,
-          )) failing b g x refused,
+            not_turn (push.Raise id) tt,
+            inr (failing, (raised_push served).asks.1),
+          ) failing b g x refused,
     )),
   )
 

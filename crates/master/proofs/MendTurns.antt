@@ -28,7 +28,7 @@ use Rattle.master_core.specs.log_laws.Steps.{rolling, next_start, len_now}
 use Rattle.master_core.specs.log_bytes.Text.{IsWholeText}
 use Rattle.master_core.specs.log_memory.Memory.{FailMemory}
 use Rattle.master_core.specs.log_memory.Steps.{rolled}
-use Rattle.master_core.specs.master_failover.declared.mending.Mend.TheVariants as mend
+use Rattle.master_core.specs.master_failover.declared.push.Push.TheVariants as push
 use Rattle.master_core.specs.master_failover.Mending.{IsNextMend, turned_data, turn_roll}
 use Rattle.master_core.proofs.master_failover.Changed.{own}
 use Rattle.master_core.proofs.master_rolls.RollLaws.{next_is, next_id, is_commit}
@@ -58,7 +58,7 @@ use Rattle.master.proofs.Victims.{victim_below, never_both}
 pub record MayTurnNow (d : MasterData) : Type 0 where
   pub core : IsCore d
   pub placed : IsPlaced d
-  pub next : IsNextMend d mend.Turn
+  pub next : IsNextMend d push.Turn
   pub later : IsCore (turned_data d)
 
 -- A roll begins to the new head, which is the one that the log's model says.

@@ -18,8 +18,8 @@ use Rattle.master_core.specs.log_laws.Data.{Head as FailHead, Calm, Rolls, Close
 use Rattle.master_core.specs.log_laws.Data.{taken_records, durable_of}
 use Rattle.master_core.specs.log_laws.Shown.{Op}
 use Rattle.master_core.specs.log_laws.Steps.{ended, mended, with_taken}
-use Rattle.master_core.specs.master_failover.declared.mending.Mend.{Mend}
-use Rattle.master_core.specs.master_failover.declared.mending.Mend.TheVariants as mend
+use Rattle.master_core.specs.master_failover.declared.push.Push.{Push}
+use Rattle.master_core.specs.master_failover.declared.push.Push.TheVariants as push
 use Rattle.master_core.specs.master_failover.Mending.{IsInPart, IsNextMend, was_headless, opening, turned_data}
 use Rattle.master_core.specs.master_failover.Mending.{raised_data, first_lost, repaired_data, with_part, closed_more}
 use Rattle.master_core.specs.master_failover.Mending.{mended_data, turn_roll, backup_for}
@@ -30,7 +30,7 @@ use Rattle.master_core.specs.master_state.Data.{MasterData}
 use Rattle.master_core.specs.master_state.Invariant.{IsCore}
 use Rattle.master_core.specs.master_state.Log.{home, log_of}
 use Rattle.master_core.specs.master_state.Steps.{closed_data}
-use Rattle.master.specs.Mends.{IsMended, IsOnward, IsMendOp}
+use Rattle.master.specs.Pushes.{IsMended, IsOnward, IsMendOp}
 use Rattle.master.proofs.InForce.{headed_or, fails, failover_of, force_headed, force_headless}
 use Rattle.master.proofs.PushedRest.{SameRest, closed_rest, same_rest}
 
@@ -110,20 +110,21 @@ closed_more_rest d j r = go (suc j == d.config.replicas) where
   go true = rest_on (repaired_data last) e d (repaired_rest last) closed
   go false = closed
 
-pub mended_rest : (d : MasterData) (m : Mend) → SameRest (mended_data d m) d
-mended_rest d (mend.Extend j) = same_rest d (next.Extend j)
-mended_rest d (mend.Replace j) = same_rest d (next.OpenWhole j)
-mended_rest d mend.Turn = turned_rest d
-mended_rest d (mend.Open j) = (refl, refl, refl, refl, refl, refl)
-mended_rest d (mend.Raise id) = raised_rest d
-mended_rest d (mend.Close j) = go d.head.roll where
+pub mended_rest : (d : MasterData) (m : Push) → SameRest (mended_data d m) d
+mended_rest d (push.Head (next.Extend j)) = same_rest d (next.Extend j)
+mended_rest d (push.Head (next.OpenWhole j)) = same_rest d (next.OpenWhole j)
+mended_rest d push.Turn = turned_rest d
+mended_rest d (push.Head (next.OpenNew j)) = (refl, refl, refl, refl, refl, refl)
+mended_rest d (push.Head (next.OpenFirst j)) = (refl, refl, refl, refl, refl, refl)
+mended_rest d (push.Raise id) = raised_rest d
+mended_rest d (push.Head (next.CloseOld j)) = go d.head.roll where
   gives : Option Roll → MasterData
   gives o = option_map_or (closed_more d j) o d
 
   go : (o : Option Roll) → SameRest (gives o) d
   go None = (refl, refl, refl, refl, refl, refl)
   go (Some r) = closed_more_rest d j r
-mended_rest d (mend.Repair s j) = repaired_rest (record d {
+mended_rest d (push.Repair s j) = repaired_rest (record d {
   closed = changed d.closed s more_replicas;
   ledger = posting.Took s (home d.config d.failed s j) ∷ d.ledger;
 })
@@ -207,24 +208,26 @@ module _ (d : MasterData) (core : IsCore d) (f : Failover) (open_now : d.failove
     none [] is = refl
     none (u ∷ us) is = absurd (cc)
 
-  pub mend_durable : (m : Mend) (o : Op) (e : FailData) → IsNextMend d m → IsMendOp d m o e
+  pub mend_durable : (m : Push) (o : Op) (e : FailData) → IsNextMend d m → IsMendOp d m o e
       → durable_of (log_of d) ≤ durable_of e
-  mend_durable (mend.Extend j) o e next is =
+  mend_durable (push.Head (next.Extend j)) o e next is =
       same e (ap (λ (x : FailData). is_failing x.mode) is.gives ∙ failing) (ap (λ (x : FailData). x.frozen) is.gives)
-  mend_durable (mend.Replace j) o e next is =
+  mend_durable (push.Head (next.OpenWhole j)) o e next is =
       same e (ap (λ (x : FailData). is_failing x.mode) is.gives ∙ failing) (ap (λ (x : FailData). x.frozen) is.gives)
-  mend_durable mend.Turn o e next (n, is) =
+  mend_durable push.Turn o e next (n, is) =
       same e (ap (λ (x : FailData). is_failing x.mode) is.gives) (ap (λ (x : FailData). x.frozen) is.gives)
-  mend_durable (mend.Open j) o e next is =
+  mend_durable (push.Head (next.OpenNew j)) o e next is =
       same e (ap (λ (x : FailData). is_failing x.mode) is.gives ∙ failing) (ap (λ (x : FailData). x.frozen) is.gives)
-  mend_durable (mend.Raise id) o e next (mid, is, on) =
+  mend_durable (push.Head (next.OpenFirst j)) o e next is =
+      same e (ap (λ (x : FailData). is_failing x.mode) is.gives ∙ failing) (ap (λ (x : FailData). x.frozen) is.gives)
+  mend_durable (push.Raise id) o e next (mid, is, on) =
       let closes : mid.mode ≡ Closes is.n = ap (λ (x : FailData). x.mode) is.gives in
       let frozen : mid.frozen ≡ (log_of d).frozen = ap (λ (x : FailData). x.frozen) is.gives in
       let all : length mid.history ≡ length d.history = ap (λ (x : FailData). length x.history) is.gives in
       let le = onward_keeps mid (ap is_failing closes) (omega (arith, frozen, all, within))
       (λ repairs. absurd (let never = sym closes ∙ repairs in cc)) e on in
       more e (omega (arith, le, frozen))
-  mend_durable (mend.Close j) o e next (mid, is, on) =
+  mend_durable (push.Head (next.CloseOld j)) o e next (mid, is, on) =
       let mode : mid.mode ≡ (log_of d).mode = ap (λ (x : FailData). x.mode) is.gives in
       let frozen : mid.frozen ≡ (log_of d).frozen = ap (λ (x : FailData). x.frozen) is.gives in
       let all : length mid.history ≡ length d.history = ap (λ (x : FailData). length x.history) is.gives in
@@ -235,9 +238,9 @@ module _ (d : MasterData) (core : IsCore d) (f : Failover) (open_now : d.failove
       other : ((log_of d).mode ≡ Rolls is.n) ⊎ ((log_of d).mode ≡ Closes is.n) → (log_of d).mode ≡ Repairs → ⊥
       other (inl roll) repairs = (let never = sym roll ∙ repairs in cc)
       other (inr closes) repairs = (let never = sym closes ∙ repairs in cc)
-  mend_durable (mend.Repair s j) o e next is =
+  mend_durable (push.Repair s j) o e next is =
       more e (mended_keeps (record (log_of d) {
-        took = with_taken (log_of d).took s (backup_for d (mend.Repair s j));
+        took = with_taken (log_of d).took s (backup_for d (push.Repair s j));
       }) failing within (λ repairs. no_units (in_repairs next.0)) e is.2)
     where
       in_repairs : IsInPart d part.Repairs → f.part ≡ part.Repairs

@@ -138,19 +138,6 @@ start_id r = go (opening_at r.image) where
   go None = refl
   go (Some o) = refl
 
--- a replica has a small number
-pub few_replicas : (h : HeadValue) → IsHeadValue h → (push : Next) → IsNextPush h (Some push) → replica_of push < 64
-few_replicas h is (next.OpenFirst j) waits = let few = is.few in let lt = waits.1 in omega arith
-few_replicas h is (next.Extend j) waits =
-    let lt = slice_get_within h.taken j waits.1.0 waits.1.1 in
-    let few = is.few in let le = is.opened in omega arith
-few_replicas h is (next.OpenWhole j) waits = absurd waits
-few_replicas h is (next.OpenNew j) waits = let few = is.few in let lt = waits.4 in omega arith
-few_replicas h is (next.CloseOld j) waits =
-    let lt = (rolls h waits.1 is waits.2).closed in
-    let at = waits.3 in
-    let few = is.few in omega arith
-
 -- ---- the op in bytes
 
 module _ (d : MasterData) (core : IsCore d) where

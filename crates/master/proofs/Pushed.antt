@@ -39,6 +39,7 @@ use Rattle.master_core.specs.master_state.declared.ledger.Posting.TheVariants as
 use Rattle.master_core.specs.master_state.declared.step.Step.TheVariants.{Push}
 use Rattle.master_core.specs.master_state.declared.waiting.Waiting.{Waiting}
 use Rattle.master_core.specs.master_state.Budget.{victims_of, is_committing}
+use Rattle.master_core.specs.master_failover.declared.push.Push.TheVariants as kind
 use Rattle.master_core.specs.master_state.Data.{MasterData}
 use Rattle.master_core.specs.master_state.Invariant.{AreApart, IsOpenPass, IsCore}
 use Rattle.master_core.specs.master_state.Ledger.{ended_with}
@@ -370,7 +371,13 @@ module _ {Holds : FailData → FailMemory → FleetState → Type 0} (lasts : La
     inr (inr (
       calm_may d calm,
       failed_tells d f backup (segment_of d.head push) (act_now d push) (IsPushOp (world_of d f))
-          (inl (answer_of push backup (segment_of d.head push), log_of (pushed_data d push), told)) g x refused
+          (
+            kind.Head push,
+            log_of (pushed_data d push),
+            inl (calm, waits),
+            (λ turn. (cc)),
+            inl (calm, told),
+          ) g x refused
           (push_not_wrong g x refused),
     )),
   )

@@ -9,7 +9,6 @@ pub mod Laws
 pub mod Loading
 pub mod Registry
 pub mod Placed
-pub mod Mends
 pub mod Invariant
 pub mod Shown
 pub mod Segments

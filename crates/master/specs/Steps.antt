@@ -20,13 +20,12 @@ use Rattle.master_core.specs.master_state.Log.{log_of}
 use Rattle.master_core.specs.master_state.Budget.{may_turn}
 use Rattle.master_core.specs.master_state.Steps.{Applies, BeginsRoll, Compacts, BeginsPass, Copies, halted, may_lose}
 use Rattle.master_core.specs.master_state.Steps.{lost_data}
-use Rattle.master_core.specs.master_failover.declared.mending.Mend.{Mend}
-use Rattle.master_core.specs.master_failover.declared.mending.Mend.TheVariants as mend
-use Rattle.master_core.specs.master_failover.Mending.{IsNextMend, turned_data}
-use Rattle.master.specs.Mends.{IsMendOp, MendsOn}
+use Rattle.master_core.specs.master_failover.declared.push.Push.{Push as PushKind}
+use Rattle.master_core.specs.master_failover.declared.push.Push.TheVariants as push
+use Rattle.master_core.specs.master_failover.Mending.{IsNextPushOf, turned_data}
 use Rattle.master.specs.Keeps.{Keeps}
 use Rattle.master.specs.Passes.{IsSealOp, Seals, IsFreeOp, Frees}
-use Rattle.master.specs.Pushes.{IsNextOp, Pushes}
+use Rattle.master.specs.Pushes.{IsMendOp, IsOpOf, Pushes}
 use Rattle.master.specs.Valid.{IsValid}
 use Rattle.master.specs.World.{World}
 
@@ -36,7 +35,7 @@ use Rattle.master.specs.World.{World}
 -- it was; a push, a seal and a free are one op each that the fleet took
 abbrev pub Accepts : World → Step → StepAnswer → World → Type 0
 Accepts old (Apply seat command) answer new = Applies old.knows seat command answer new.knows × (new.fleet ≡ old.fleet)
-Accepts old Push answer new = Pushes old answer new ⊎ MendsOn old answer new
+Accepts old Push answer new = Pushes old answer new
 Accepts old BeginRoll answer new = BeginsRoll old.knows answer new.knows × (new.fleet ≡ old.fleet)
 Accepts old (Compact id) answer new = Compacts old.knows id answer new.knows × (new.fleet ≡ old.fleet)
 Accepts old (BeginClean ids) answer new = BeginsPass old.knows ids answer new.knows × (new.fleet ≡ old.fleet)
@@ -58,15 +57,14 @@ FailsTake IsOp old refusal.Halted new = (may_lose old.knows ≡ false) × (new.k
     × ((op : Op) × IsOp op × RefusesOp old.knows.config.master old.fleet op take_fault.Fault new.fleet)
 FailsTake IsOp old _ new = ⊥
 
--- the op is the next one of a push
+-- the op is that of the push that comes next, and the push is no Turn
 abbrev pub IsPushOp : World → Op → Type 0
-IsPushOp old op = ((answer : StepAnswer) × (e : FailData) × IsNextOp old.knows op answer e)
-    ⊎ ((push : Mend) × (e : FailData) × IsNextMend old.knows push × (push ≡ mend.Turn → ⊥)
-    × IsMendOp old.knows push op e)
+IsPushOp old op = (p : PushKind) × (e : FailData) × IsNextPushOf old.knows (Some p) × (p ≡ push.Turn → ⊥)
+    × IsOpOf old.knows p op e
 
 -- if the next push is to open the new head of a failover, it may do so
 abbrev pub MayPush : World → Type 0
-MayPush old = IsNextMend old.knows mend.Turn → may_turn old.knows ≡ true
+MayPush old = IsNextPushOf old.knows (Some push.Turn) → may_turn old.knows ≡ true
 
 -- A push that may be made fails: for want of memory, or because the take of its op failed.
 abbrev pub FailsPush : World → Refusal → World → Type 0
@@ -74,15 +72,15 @@ FailsPush old r new = MayPush old × FailsTake (IsPushOp old) old r new
 
 -- the new head of the open failover may not be opened: the master stays halted, though no backup was asked
 abbrev pub IsStuck : World → Refusal → World → Type 0
-IsStuck old r new = IsNextMend old.knows mend.Turn × (may_turn old.knows ≡ false) × (r ≡ refusal.Halted)
+IsStuck old r new = IsNextPushOf old.knows (Some push.Turn) × (may_turn old.knows ≡ false) × (r ≡ refusal.Halted)
     × (new ≡ record old { knows = halted old.knows })
 
 -- The new head might be opened, and its first Open ended in a fault. It may have been taken, so the head has its id,
 -- and the master stays halted.
 abbrev pub FailsTurn : World → Refusal → World → Type 0
-FailsTurn old r new = IsNextMend old.knows mend.Turn × (may_turn old.knows ≡ true) × (r ≡ refusal.Halted)
+FailsTurn old r new = IsNextPushOf old.knows (Some push.Turn) × (may_turn old.knows ≡ true) × (r ≡ refusal.Halted)
     × (new.knows ≡ halted (turned_data old.knows))
-    × ((op : Op) × (e : FailData) × IsMendOp old.knows mend.Turn op e
+    × ((op : Op) × (e : FailData) × IsMendOp old.knows push.Turn op e
     × RefusesOp old.knows.config.master old.fleet op take_fault.Fault new.fleet)
 
 -- A refusal is the one of the first test that fails. If no test fails, it comes from memory or from the fleet. It

@@ -7,7 +7,7 @@
 //! `specs/Valid.antt` says what is true after each step: whatever backups are left, they hold a prefix of the history
 //! with each durable command in it, or the loss is named. A refused step changes nothing, except after a fault of a
 //! backup: then that backup may have taken one op, and the master stays halted or goes on without that backup. In this
-//! case a failover is open, which pushes end (`specs/Mends.antt`), and `Master::failover_left` says how many are left
+//! case a failover is open, which pushes end (`specs/Pushes.antt`), and `Master::failover_left` says how many are left
 //! (`specs/Left.antt`). What a master knows is `master_core`'s, and the fleet is `replica`'s.
 //!
 //! `Loading` is a master that isn't one yet. It loads what a recovery rebuilt, and then its history begins with that
@@ -21,7 +21,6 @@ mod laws;
 mod listing;
 mod loading;
 mod master;
-mod mending;
 mod pushing;
 mod retiring;
 mod segments;

@@ -1,6 +1,6 @@
 //! A master without its fleet: its core, and what steps do to the core. The crate defines nothing, and exports the
 //! names of five other crates: `master_state` (the core), `master_commands` (commands, and the loading of a core),
-//! `master_rolls` (rolls), `master_space` (compaction and cleaning) and `master_failover` (the pushes of a failover).
+//! `master_rolls` (rolls), `master_space` (compaction and cleaning) and `master_failover` (pushes).
 #![tactic(auto)]
 
 pub use cleaner::{PassFault, Survivors};
@@ -10,10 +10,10 @@ pub use master_commands::{
     would,
 };
 pub use master_failover::{
-    Mend, NewHead, begin_opening, failover_left, ledger_of_turn, mend_op, mend_segment, mended,
-    new_head, next_mend, victims_of_commit,
+    NewHead, Push, begin_opening, failover_left, ledger_of_turn, new_head, next_push, opened,
+    push_op, raised, took, victims_of_commit,
 };
-pub use master_rolls::{begin_roll, mark, next_push, next_push_for, took};
+pub use master_rolls::{begin_roll, mark, next_push_for};
 pub use master_space::{
     ObjectList, begin_clean, choose, compact_segment, copy, freed, image_len_of, kept_bytes_of,
     next_step, opening_len_of, pending_step, recount, seal_op, sealed, sorted_objects,

@@ -15,14 +15,15 @@ use Rattle.log_head.specs.Head.{HeadValue, IsHeadValue}
 use Rattle.log_head.specs.Log.{head_of}
 use Rattle.log_head.specs.Steps.{with_all_taken, with_whole_replica, with_opened_replica}
 use Rattle.log_head.proofs.HeadLog.{image_with_counts}
+use Rattle.log_head.specs.declared.next.Next.TheVariants as nexts
 use Rattle.master_state.specs.declared.failover.Failover.{Failover}
 use Rattle.master_state.specs.declared.failover.Part.TheVariants as part
 use Rattle.master_state.specs.Budget.{used_seglets, whole_seglets, seglets_of, has_abandoned}
 use Rattle.master_state.specs.Data.{MasterData}
 use Rattle.master_state.specs.Invariant.{IsCore, IsFailover, IsFirst, IsOpenPass, IsRollOf, AreWhole}
 use Rattle.master_state.specs.Log.{is_headless, is_opened}
-use Rattle.master_failover.specs.declared.mending.Mend.TheVariants as mend
-use Rattle.master_failover.specs.Mending.{IsNextMend, was_headless}
+use Rattle.master_failover.specs.declared.push.Push.TheVariants as push
+use Rattle.master_failover.specs.Mending.{IsNextMend, IsNextOpen, was_headless}
 
 -- ---- counts of replicas, and the failover
 
@@ -138,19 +139,19 @@ module _ (d : MasterData) (core : IsCore d) (f : Failover) (is : d.failover ≡ 
 -- ---- the pushes that leave the failover in its part
 
 module _ (d : MasterData) (core : IsCore d) where
-  pub extended_core : (j : ℕ) → IsNextMend d (mend.Extend j) → IsHeadValue (with_all_taken d.head j)
+  pub extended_core : (j : ℕ) → IsNextMend d (push.Head (nexts.Extend j)) → IsHeadValue (with_all_taken d.head j)
       → IsCore (record d { head = with_all_taken d.head j })
   extended_core j next valid =
       counted d core next.0.0 next.0.1 (slice_set d.head.taken j (length d.head.units))
       (let same = length-set d.head.taken j (length d.head.units) in omega arith) valid
 
-  pub replaced_core : (j : ℕ) → IsNextMend d (mend.Replace j) → IsHeadValue (with_whole_replica d.head)
+  pub replaced_core : (j : ℕ) → IsNextMend d (push.Head (nexts.OpenWhole j)) → IsHeadValue (with_whole_replica d.head)
       → IsCore (record d { head = with_whole_replica d.head })
   replaced_core j next valid =
       counted d core next.0.0 next.0.1 (d.head.taken ++ length d.head.units ∷ [])
       (let more = length-append d.head.taken (length d.head.units ∷ []) in omega arith) valid
 
-  pub opened_core : (j : ℕ) → IsNextMend d (mend.Open j) → IsHeadValue (with_opened_replica d.head)
+  pub opened_core : (j : ℕ) → IsNextOpen d j → IsHeadValue (with_opened_replica d.head)
       → IsCore (record d { head = with_opened_replica d.head })
   opened_core j next valid =
       counted d core next.0.0 next.0.1 (d.head.taken ++ 0 ∷ [])

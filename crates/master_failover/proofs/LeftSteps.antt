@@ -24,6 +24,7 @@ use Rattle.log_head.proofs.RollLog.{start_is, digest_is}
 use Rattle.log_head.proofs.Rolls.{rolls}
 use Rattle.log_head.specs.log_laws.Heads.{Start, Head}
 use Rattle.log_head.specs.log_laws.Ids.{without}
+use Rattle.log_head.specs.declared.next.Next.TheVariants as nexts
 use Rattle.master_state.specs.declared.failover.Failover.{Failover}
 use Rattle.master_state.specs.declared.failover.Part.TheVariants as part
 use Rattle.master_state.specs.declared.ledger.Posting.TheVariants as posting
@@ -37,8 +38,8 @@ use Rattle.master_state.proofs.Imaging.{same_id, other_id}
 use Rattle.master_rolls.specs.Ends.{pass_left, closed_left, waiting_left}
 use Rattle.master_rolls.proofs.Closing.{ended_is}
 use Rattle.master_rolls.proofs.RollEnds.{head_then}
-use Rattle.master_failover.specs.declared.mending.Mend.TheVariants as mend
-use Rattle.master_failover.specs.Mending.{IsInPart, IsNextMend, was_headless, opened_now, first_lost}
+use Rattle.master_failover.specs.declared.push.Push.TheVariants as push
+use Rattle.master_failover.specs.Mending.{IsInPart, IsNextMend, IsNextOpen, was_headless, opened_now, first_lost}
 use Rattle.master_failover.specs.Mending.{opening, with_part, turned_data, mended_data, opened_more, raised_data}
 use Rattle.master_failover.specs.Mending.{repaired_data, closed_more}
 use Rattle.master_failover.specs.Laws.{MendLowers}
@@ -100,37 +101,37 @@ repaired_left d f is p = go (is_none (first_lost d)) where
   go false = (let same = left_is d part.Repairs (f, is, p) in omega arith)
 
 module _ (d : MasterData) where
-  extends : (j : ℕ) → IsNextMend d (mend.Extend j) → left_now (mended_data d (mend.Extend j)) < left_now d
+  extends : (j : ℕ) → IsNextMend d (push.Head (nexts.Extend j)) → left_now (mended_data d (push.Head (nexts.Extend j))) < left_now d
   extends j next =
       let before = left_is d part.Mends next.0 in
-      let after = left_is (mended_data d (mend.Extend j)) part.Mends next.0 in
+      let after = left_is (mended_data d (push.Head (nexts.Extend j))) part.Mends next.0 in
       let counts = count_set (length d.head.units) d.head.taken j next.2.0 next.2.1 next.2.2 in
       let same = length-set d.head.taken j (length d.head.units) in
       let own : unmended d ≡ count_below (length d.head.units) d.head.taken
       + (d.config.replicas - length d.head.taken) = unmended_is d next.1 in
-      let less : unmended (mended_data d (mend.Extend j))
+      let less : unmended (mended_data d (push.Head (nexts.Extend j)))
       ≡ count_below (length d.head.units) (slice_set d.head.taken j (length d.head.units))
       + (d.config.replicas - length (slice_set d.head.taken j (length d.head.units))) =
-      unmended_is (mended_data d (mend.Extend j)) next.1 in
+      unmended_is (mended_data d (push.Head (nexts.Extend j))) next.1 in
       omega arith
 
-  replaces : (j : ℕ) → IsNextMend d (mend.Replace j) → left_now (mended_data d (mend.Replace j)) < left_now d
+  replaces : (j : ℕ) → IsNextMend d (push.Head (nexts.OpenWhole j)) → left_now (mended_data d (push.Head (nexts.OpenWhole j))) < left_now d
   replaces j next =
       let before = left_is d part.Mends next.0 in
-      let after = left_is (mended_data d (mend.Replace j)) part.Mends next.0 in
+      let after = left_is (mended_data d (push.Head (nexts.OpenWhole j))) part.Mends next.0 in
       let counts = count_push (length d.head.units) d.head.taken in
       let same = length-append d.head.taken (length d.head.units ∷ []) in
       let at = next.3 in
       let lt = next.4 in
       let own : unmended d ≡ count_below (length d.head.units) d.head.taken
       + (d.config.replicas - length d.head.taken) = unmended_is d next.1 in
-      let less : unmended (mended_data d (mend.Replace j))
+      let less : unmended (mended_data d (push.Head (nexts.OpenWhole j)))
       ≡ count_below (length d.head.units) (d.head.taken ++ length d.head.units ∷ [])
       + (d.config.replicas - length (d.head.taken ++ length d.head.units ∷ [])) =
-      unmended_is (mended_data d (mend.Replace j)) next.1 in
+      unmended_is (mended_data d (push.Head (nexts.OpenWhole j))) next.1 in
       omega arith
 
-  opens : (j : ℕ) → IsNextMend d (mend.Open j) → left_now (opened_more d j) < left_now d
+  opens : (j : ℕ) → IsNextOpen d j → left_now (opened_more d j) < left_now d
   opens j next = go d.head.roll refl where
     before : left_now d ≡ (d.config.replicas - opened_now d) + 1 + to_close d + lost_now d
     before = left_is d part.Opens next.0
@@ -173,7 +174,7 @@ module _ (d : MasterData) where
         let lt = next.2 in
         omega arith
 
-  raises : (id : ℕ) → IsNextMend d (mend.Raise id) → left_now (raised_data d) < left_now d
+  raises : (id : ℕ) → IsNextMend d (push.Raise id) → left_now (raised_data d) < left_now d
   raises id next = go (was_headless d) where
     before : left_now d ≡ (d.config.replicas - opened_now d) + 1 + to_close d + lost_now d
     before = left_is d part.Opens next.0
@@ -194,7 +195,7 @@ module _ (d : MasterData) where
     go false = (let was = before in let is = goes_on next.0.1 in omega arith)
 
 -- a lost replica was sealed anew
-module _ (d : MasterData) (core : IsCore d) (s j : ℕ) (next : IsNextMend d (mend.Repair s j)) where
+module _ (d : MasterData) (core : IsCore d) (s j : ℕ) (next : IsNextMend d (push.Repair s j)) where
   abbrev again : List Image
   again = changed d.closed s more_replicas
 
@@ -242,7 +243,7 @@ module _ (d : MasterData) (core : IsCore d) (s j : ℕ) (next : IsNextMend d (me
       lost_less d.config.replicas d.closed again d.head.id d.head.id (others_now d) s
       (subst (λ (ids : List ℕ). IsAmong s ids) (sym others_is) (is_other d core s j next)) at_own (λ z m. at_any z)
 
-  pub repairs : left_now (mended_data d (mend.Repair s j)) < left_now d
+  pub repairs : left_now (mended_data d (push.Repair s j)) < left_now d
   repairs =
       let before = left_is d part.Repairs next.0 in
       let after = repaired_left e next.0.0 next.0.1 next.0.2 in
@@ -250,7 +251,7 @@ module _ (d : MasterData) (core : IsCore d) (s j : ℕ) (next : IsNextMend d (me
       omega arith
 
 -- one more replica of the old head is closed
-module _ (d : MasterData) (core : IsCore d) (j : ℕ) (next : IsNextMend d (mend.Close j)) where
+module _ (d : MasterData) (core : IsCore d) (j : ℕ) (next : IsNextMend d (push.Head (nexts.CloseOld j))) where
   is : d.head.roll ≡ Some next.1
   is = next.2
 
@@ -334,7 +335,7 @@ module _ (d : MasterData) (core : IsCore d) (j : ℕ) (next : IsNextMend d (mend
       let same = core.replicas in
       omega arith
 
-  pub closes : left_now (mended_data d (mend.Close j)) < left_now d
+  pub closes : left_now (mended_data d (push.Head (nexts.CloseOld j))) < left_now d
   closes =
       subst (λ (o : Option Roll). left_now (option_map_or (closed_more d j) o d) < left_now d) (sym is)
       (go (suc j == d.config.replicas) refl)
@@ -342,7 +343,7 @@ module _ (d : MasterData) (core : IsCore d) (j : ℕ) (next : IsNextMend d (mend
 module _ (d : MasterData) (core : IsCore d) where
   -- ---- the new head is put
 
-  pub turn_lowers : IsNextMend d mend.Turn → left_now (turned_data d) ≤ left_now d
+  pub turn_lowers : IsNextMend d push.Turn → left_now (turned_data d) ≤ left_now d
   turn_lowers next = go (was_headless d) refl where
     fails : IsFailover d next.0.0
     fails = own d core next.0.0 next.0.1
@@ -414,13 +415,14 @@ module _ (d : MasterData) (core : IsCore d) where
 -- ---- all
 
 pub mend_lowers : MendLowers
-mend_lowers d (mend.Extend j) core next = extends d j next
-mend_lowers d (mend.Replace j) core next = replaces d j next
-mend_lowers d mend.Turn core next =
+mend_lowers d (push.Head (nexts.Extend j)) core next = extends d j next
+mend_lowers d (push.Head (nexts.OpenWhole j)) core next = replaces d j next
+mend_lowers d push.Turn core next =
     let less = turn_lowers d core next in
     let opened = opens (turned_data d) 0 (turned_next d core next) in
     omega arith
-mend_lowers d (mend.Open j) core next = opens d j next
-mend_lowers d (mend.Raise id) core next = raises d id next
-mend_lowers d (mend.Close j) core next = closes d core j next
-mend_lowers d (mend.Repair s j) core next = repairs d core s j next
+mend_lowers d (push.Head (nexts.OpenNew j)) core next = opens d j next.0
+mend_lowers d (push.Head (nexts.OpenFirst j)) core next = opens d j next.0
+mend_lowers d (push.Raise id) core next = raises d id next
+mend_lowers d (push.Head (nexts.CloseOld j)) core next = closes d core j next
+mend_lowers d (push.Repair s j) core next = repairs d core s j next

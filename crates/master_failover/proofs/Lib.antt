@@ -2,7 +2,7 @@ pub mod Losses
 pub mod Counts
 pub mod Changed
 pub mod Rolled
-pub mod Raised
+pub mod RaisedCore
 pub mod Sought
 pub mod Resealed
 pub mod Turned
@@ -12,3 +12,4 @@ pub mod LeftBounds
 pub mod LeftEnds
 pub mod LeftSteps
 pub mod OldClosed
+pub mod PushKinds

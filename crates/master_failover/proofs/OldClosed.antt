@@ -8,6 +8,7 @@ use Rattle.log_head.specs.declared.head.Roll.{Roll}
 use Rattle.log_head.specs.Head.{HeadValue, IsHeadValue}
 use Rattle.log_head.specs.Log.{head_of}
 use Rattle.log_head.specs.Steps.{with_closed_replica, old_image}
+use Rattle.log_head.specs.declared.next.Next.TheVariants as nexts
 use Rattle.master_state.specs.declared.failover.Failover.{Failover}
 use Rattle.master_state.specs.declared.failover.Part.TheVariants as part
 use Rattle.master_state.specs.declared.ledger.Posting.TheVariants as posting
@@ -18,7 +19,7 @@ use Rattle.master_state.specs.Log.{home}
 use Rattle.master_state.specs.Steps.{closed_data}
 use Rattle.master_rolls.proofs.Closing.{last, core_ended, ended_taken, ended_repairs, more_left, early_head}
 use Rattle.master_rolls.proofs.Closing.{early_taken}
-use Rattle.master_failover.specs.declared.mending.Mend.TheVariants as mend
+use Rattle.master_failover.specs.declared.push.Push.TheVariants as push
 use Rattle.master_failover.specs.Mending.{IsNextMend, with_part, repaired_data, closed_more}
 use Rattle.master_failover.proofs.Rolled.{counting_tallied, old_closed_core}
 
@@ -30,7 +31,7 @@ closing_now k j r =
     then repaired_data (with_part (record e { abandoned = []; ledger = posting.Ended ∷ e.ledger }) part.Repairs)
     else e
 
-module _ (k : MasterData) (core : IsCore k) (j : ℕ) (next : IsNextMend k (mend.Close j)) (h : HeadValue)
+module _ (k : MasterData) (core : IsCore k) (j : ℕ) (next : IsNextMend k (push.Head (nexts.CloseOld j))) (h : HeadValue)
     (image : Option (List Entry)) (counts : IfSome k.head.roll (λ r. h ≡ with_closed_replica k.head r))
     (gives : IfSome k.head.roll (λ r. image ≡ old_image k.head r)) (valid : IsHeadValue h) where
   tested : (t : Bool) → (suc next.1.closed == k.head.replicas) ≡ t → (suc j == k.config.replicas) ≡ t
@@ -114,8 +115,8 @@ module _ (k : MasterData) (core : IsCore k) (j : ℕ) (next : IsNextMend k (mend
 -- ---- the Close is posted
 
 module _ (d k : MasterData) (j b : ℕ) (posted : k ≡ record d { ledger = posting.Shut b ∷ d.ledger })
-    (next : IsNextMend d (mend.Close j)) where
-  abbrev pub closing_next : IsNextMend k (mend.Close j)
+    (next : IsNextMend d (push.Head (nexts.CloseOld j))) where
+  abbrev pub closing_next : IsNextMend k (push.Head (nexts.CloseOld j))
   closing_next = (
     (next.0.0, ap (λ (m : MasterData). m.failover) posted ∙ next.0.1, next.0.2),
     next.1,

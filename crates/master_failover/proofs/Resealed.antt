@@ -41,7 +41,7 @@ use Rattle.master_state.proofs.LogIds.{apart, closed_rise}
 use Rattle.master_state.proofs.Passing.{GoesOn, goes_on}
 use Rattle.master_state.proofs.Rising.{Rise}
 use Rattle.master_state.proofs.Tallying.{tallied_alike}
-use Rattle.master_failover.specs.declared.mending.Mend.TheVariants as mend
+use Rattle.master_failover.specs.declared.push.Push.TheVariants as push
 use Rattle.master_failover.specs.Mending.{IsNextMend, first_lost, repaired_data}
 use Rattle.master_failover.proofs.Changed.{own}
 use Rattle.master_failover.proofs.Sought.{is_other, held, fewer, has_image}
@@ -253,7 +253,7 @@ is_none_then : (o : Option (ℕ × ℕ)) → is_none o ≡ true → o ≡ None
 is_none_then None is = refl
 is_none_then (Some x) is = absurd (cc)
 
-module _ (d : MasterData) (core : IsCore d) (s j : ℕ) (next : IsNextMend d (mend.Repair s j)) where
+module _ (d : MasterData) (core : IsCore d) (s j : ℕ) (next : IsNextMend d (push.Repair s j)) where
   abbrev f : Failover
   f = next.0.0
 

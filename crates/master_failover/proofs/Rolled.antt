@@ -6,13 +6,14 @@ use Rattle.master_state.specs.cleaner.declared.pass.Pass.{Pass}
 use Rattle.log_head.specs.declared.head.Roll.{Roll}
 use Rattle.log_head.specs.Head.{IsHeadValue}
 use Rattle.log_head.specs.Steps.{with_new_replica}
+use Rattle.log_head.specs.declared.next.Next.TheVariants as nexts
 use Rattle.master_state.specs.declared.failover.Failover.{Failover}
 use Rattle.master_state.specs.declared.failover.Part.TheVariants as part
 use Rattle.master_state.specs.Data.{MasterData}
 use Rattle.master_state.specs.Invariant.{IsCore, IsFailover, IsOpenPass, AreTallied}
 use Rattle.master_state.specs.tally.declared.tallies.Tally.{Tally}
-use Rattle.master_failover.specs.declared.mending.Mend.TheVariants as mend
-use Rattle.master_failover.specs.Mending.{IsNextMend}
+use Rattle.master_failover.specs.declared.push.Push.TheVariants as push
+use Rattle.master_failover.specs.Mending.{IsNextMend, IsNextOpen}
 use Rattle.master_failover.proofs.Changed.{some_failed}
 
 -- with this roll under way
@@ -141,13 +142,13 @@ module _ (d : MasterData) (core : IsCore d) (r : Roll) (is : d.head.roll ≡ Som
   pub same : d ≡ with_this d r
   same = ap (λ (o : Option Roll). record d { head = record d.head { roll = o } }) is
 
-  pub new_opened_core : (j : ℕ) → IsNextMend d (mend.Open j) → IsHeadValue (with_new_replica d.head r)
+  pub new_opened_core : (j : ℕ) → IsNextOpen d j → IsHeadValue (with_new_replica d.head r)
       → IsCore (record d { head = with_new_replica d.head r })
   new_opened_core j next valid =
       rolled d r (subst IsCore same core) (suc r.opened) r.closed next.0.0 next.0.1
       (λ closes. (let opens = next.0.2 in absurd (cc))) valid
 
-  pub old_closed_core : (j : ℕ) → IsNextMend d (mend.Close j)
+  pub old_closed_core : (j : ℕ) → IsNextMend d (push.Head (nexts.CloseOld j))
       → IsHeadValue (record d.head { roll = Some (counting r r.opened (suc r.closed)) })
       → IsCore (with_this d (counting r r.opened (suc r.closed)))
   old_closed_core j next valid =

@@ -19,7 +19,7 @@ use Rattle.master_state.specs.Invariant.{IsCore, IsFailover}
 use Rattle.master_state.specs.Log.{image_of as image_now}
 use Rattle.master_state.proofs.Imaging.{ids_in, same_id, other_id}
 use Rattle.master_state.proofs.LogIds.{others_below}
-use Rattle.master_failover.specs.declared.mending.Mend.TheVariants as mend
+use Rattle.master_failover.specs.declared.push.Push.TheVariants as push
 use Rattle.master_failover.specs.Mending.{IsNextMend}
 use Rattle.master_failover.proofs.Changed.{own}
 
@@ -39,7 +39,7 @@ segment_there cs s some = go (image_of cs s) some where
   go None some = absurd (cc)
   go (Some x) some = refl
 
-module _ (d : MasterData) (core : IsCore d) (s j : ℕ) (next : IsNextMend d (mend.Repair s j)) where
+module _ (d : MasterData) (core : IsCore d) (s j : ℕ) (next : IsNextMend d (push.Repair s j)) where
   fails : IsFailover d next.0.0
   fails = own d core next.0.0 next.0.1
 

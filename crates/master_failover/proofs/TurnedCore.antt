@@ -40,10 +40,10 @@ use Rattle.master_state.proofs.Finding.{each_among, index_of}
 use Rattle.master_state.proofs.Imaging.{ids_in}
 use Rattle.master_state.proofs.Indexing.{Shed, index_shed}
 use Rattle.master_state.proofs.Refusals.{sizes_of}
-use Rattle.master_failover.specs.declared.mending.Mend.TheVariants as mend
+use Rattle.master_failover.specs.declared.push.Push.TheVariants as push
 use Rattle.master_failover.specs.declared.turning.NewHead.{NewHead}
 use Rattle.master_failover.specs.declared.turning.NewHead.TheVariants as new_head
-use Rattle.master_failover.specs.Mending.{IsNextMend, IsNewHead, was_headless, turn_roll, closed_before, put_data}
+use Rattle.master_failover.specs.Mending.{IsNextMend, IsNextOpen, IsNewHead, was_headless, turn_roll, closed_before, put_data}
 use Rattle.master_failover.specs.Mending.{opening, turned_data}
 use Rattle.master_failover.proofs.Changed.{own, was_is, headless_is}
 use Rattle.master_rolls.proofs.NewRolls.{rolls_to, pass_then, roll_core}
@@ -239,7 +239,7 @@ turned_if d t =
     }
 
 -- A roll to the new head begins: what the digest of an ordinary roll lists, or that of a commit.
-module _ (d : MasterData) (core : IsCore d) (next : IsNextMend d mend.Turn) where
+module _ (d : MasterData) (core : IsCore d) (next : IsNextMend d push.Turn) where
   abbrev failing : Failover
   failing = next.0.0
 
@@ -329,7 +329,7 @@ module _ (d : MasterData) (core : IsCore d) (next : IsNextMend d mend.Turn) wher
     go false same own_valid = rolling_core (sym same) may own_valid
 
   -- its first replica is to be opened next
-  pub turned_next : IsNextMend (turned_data d) (mend.Open 0)
+  pub turned_next : IsNextOpen (turned_data d) 0
   turned_next = go (was_headless d) where
     fails_now : IsFailover d failing
     fails_now = own d core failing next.0.1
@@ -340,14 +340,14 @@ module _ (d : MasterData) (core : IsCore d) (next : IsNextMend d mend.Turn) wher
     some : 0 < d.config.replicas
     some = (let lt = fails_now.closed in omega arith)
 
-    go : (t : Bool) → IsNextMend (turned_if d t) (mend.Open 0)
+    go : (t : Bool) → IsNextOpen (turned_if d t) 0
     go true = ((opening failing, begins, refl), refl, some)
     go false = ((opening failing, begins, refl), refl, some)
 
 -- ---- the fields one by one
 
 -- A head once the new one is put, and a pass that is marked: what a core is then.
-module _ (d : MasterData) (core : IsCore d) (next : IsNextMend d mend.Turn) (new : NewHead)
+module _ (d : MasterData) (core : IsCore d) (next : IsNextMend d push.Turn) (new : NewHead)
     (made : IsNewHead d new) where
   -- without a head in force no pass is open
   pub lone_pass : was_headless d ≡ true → d.pass ≡ None

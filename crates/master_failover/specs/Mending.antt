@@ -1,6 +1,6 @@
--- The pushes of an open failover: which comes next, its op, and what it makes of a core.
+-- The pushes of a core: which comes next, its op, and what it makes of a core.
 use Rattle.std.specs.Prelude.{◌≡◌, ◌⊎◌, ℕ, suc, ◌+◌, ◌<◌, ◌==◌, List, [], ◌∷◌, length, true, false, Bool}
-use Rattle.std.specs.Prelude.{Option, Some, None, is_none, if◌then◌else◌}
+use Rattle.std.specs.Prelude.{Option, Some, None, IsSome, is_none, if◌then◌else◌}
 use Rattle.std.specs.Option.{option_map, option_map_or}
 use Rattle.master_state.specs.cleaner.declared.pass.Pass.{Pass}
 use Rattle.master_state.specs.cleaner.Passes.{is_ready as is_ready_pass}
@@ -13,7 +13,7 @@ use Rattle.log_head.specs.declared.head.Roll.{Roll}
 use Rattle.log_head.specs.declared.next.Next.TheVariants as next
 use Rattle.log_head.specs.Head.{HeadValue, IsLagging, IsRollValue}
 use Rattle.log_head.specs.Log.{head_of}
-use Rattle.log_head.specs.Next.{op_of}
+use Rattle.log_head.specs.Next.{IsNextPush, op_of, replica_of, segment_of}
 use Rattle.log_head.specs.Steps.{lone_start, fresh_head, fresh_roll, with_opened_replica, with_new_replica}
 use Rattle.log_head.specs.log_laws.Heads.{Start, start_entries}
 use Rattle.replica.specs.Op.{OpValue, Open, Seal}
@@ -24,8 +24,8 @@ use Rattle.master_state.specs.declared.ledger.Posting.TheVariants as posting
 use Rattle.master_state.specs.Data.{MasterData}
 use Rattle.master_state.specs.Log.{home, images_of}
 use Rattle.master_state.specs.Steps.{start_now, closed_data, pushed_data}
-use Rattle.master_failover.specs.declared.mending.Mend.{Mend}
-use Rattle.master_failover.specs.declared.mending.Mend.TheVariants as mend
+use Rattle.master_failover.specs.declared.push.Push.{Push}
+use Rattle.master_failover.specs.declared.push.Push.TheVariants as push
 use Rattle.master_failover.specs.declared.turning.NewHead.{NewHead}
 use Rattle.master_failover.specs.declared.turning.NewHead.TheVariants as new_head
 
@@ -51,43 +51,52 @@ new_id d = option_map_or (λ (r : Roll). r.id) d.head.roll d.head.id
 abbrev pub first_lost : MasterData → Option (ℕ × ℕ)
 first_lost d = first_lacking d.config.replicas d.closed (head_of d.head).start.others
 
+-- one more replica of the new head is to be opened
+abbrev pub IsNextOpen : MasterData → ℕ → Type 0
+IsNextOpen d j = IsInPart d part.Opens × (j ≡ opened_now d) × (j < d.config.replicas)
+
 -- The push is the next one of the failover. The pushes come in this order: The head's replicas that are left get all
 -- its units, the one with the fewest units first. The head's lost replica is replaced. The new head is made, and opened
 -- replica by replica. The registry is raised to the new head. The old head is closed, replica by replica. Each other
 -- lost replica is sealed anew, segment by segment. If no head was open when the failover began, the Turn is its first
 -- push, and the raise its last.
-abbrev pub IsNextMend : MasterData → Mend → Type 0
-IsNextMend d (mend.Extend j) = IsInPart d part.Mends × (was_headless d ≡ false)
+abbrev pub IsNextMend : MasterData → Push → Type 0
+IsNextMend d (push.Head (next.Extend j)) = IsInPart d part.Mends × (was_headless d ≡ false)
     × IsLagging (length d.head.units) d.head.taken (Some j)
-IsNextMend d (mend.Replace j) = IsInPart d part.Mends × (was_headless d ≡ false)
+IsNextMend d (push.Head (next.OpenWhole j)) = IsInPart d part.Mends × (was_headless d ≡ false)
     × IsLagging (length d.head.units) d.head.taken None × (j ≡ length d.head.taken) × (j < d.config.replicas)
-IsNextMend d mend.Turn = IsInPart d part.Mends × ((was_headless d ≡ true)
+IsNextMend d push.Turn = IsInPart d part.Mends × ((was_headless d ≡ true)
     ⊎ (IsLagging (length d.head.units) d.head.taken None × (length d.head.taken ≡ d.config.replicas)))
-IsNextMend d (mend.Open j) = IsInPart d part.Opens × (j ≡ opened_now d) × (j < d.config.replicas)
-IsNextMend d (mend.Raise id) = IsInPart d part.Opens × (opened_now d ≡ d.config.replicas) × (id ≡ new_id d)
-IsNextMend d (mend.Close j) = IsInPart d part.Closes
+IsNextMend d (push.Head (next.OpenNew j)) = IsNextOpen d j × IsSome d.head.roll
+IsNextMend d (push.Head (next.OpenFirst j)) = IsNextOpen d j × (d.head.roll ≡ None)
+IsNextMend d (push.Raise id) = IsInPart d part.Opens × (opened_now d ≡ d.config.replicas) × (id ≡ new_id d)
+IsNextMend d (push.Head (next.CloseOld j)) = IsInPart d part.Closes
     × (r : Roll) × (d.head.roll ≡ Some r) × (j ≡ r.closed)
-IsNextMend d (mend.Repair s j) = IsInPart d part.Repairs × (first_lost d ≡ Some (s, j))
+IsNextMend d (push.Repair s j) = IsInPart d part.Repairs × (first_lost d ≡ Some (s, j))
+
+-- The push comes next: while no failover is open, the head's own next push, and else the failover's. None means that
+-- nothing is left to push.
+abbrev pub IsNextPushOf : MasterData → Option Push → Type 0
+IsNextPushOf d None = (d.failover ≡ None) × IsNextPush d.head None
+IsNextPushOf d (Some (push.Head n)) =
+    ((d.failover ≡ None) × IsNextPush d.head (Some n)) ⊎ IsNextMend d (push.Head n)
+IsNextPushOf d (Some push.Turn) = IsNextMend d push.Turn
+IsNextPushOf d (Some (push.Raise id)) = IsNextMend d (push.Raise id)
+IsNextPushOf d (Some (push.Repair s j)) = IsNextMend d (push.Repair s j)
 
 -- the push is no Turn
-abbrev pub IsLater : Mend → Type 0
-IsLater (mend.Extend j) = Unit {0}
-IsLater (mend.Replace j) = Unit {0}
-IsLater mend.Turn = ⊥
-IsLater (mend.Open j) = Unit {0}
-IsLater (mend.Raise id) = Unit {0}
-IsLater (mend.Close j) = Unit {0}
-IsLater (mend.Repair s j) = Unit {0}
+abbrev pub IsLater : Push → Type 0
+IsLater (push.Head n) = Unit {0}
+IsLater push.Turn = ⊥
+IsLater (push.Raise id) = Unit {0}
+IsLater (push.Repair s j) = Unit {0}
 
 -- the push is neither a Turn nor a raise
-abbrev pub IsOnReplica : Mend → Type 0
-IsOnReplica (mend.Extend j) = Unit {0}
-IsOnReplica (mend.Replace j) = Unit {0}
-IsOnReplica mend.Turn = ⊥
-IsOnReplica (mend.Open j) = Unit {0}
-IsOnReplica (mend.Raise id) = ⊥
-IsOnReplica (mend.Close j) = Unit {0}
-IsOnReplica (mend.Repair s j) = Unit {0}
+abbrev pub IsOnReplica : Push → Type 0
+IsOnReplica (push.Head n) = Unit {0}
+IsOnReplica push.Turn = ⊥
+IsOnReplica (push.Raise id) = ⊥
+IsOnReplica (push.Repair s j) = Unit {0}
 
 -- ---- the new head
 
@@ -190,61 +199,55 @@ sealed_anew d s j = repaired_data (record d {
   ledger = posting.Took s (home d.config d.failed s j) ∷ d.ledger;
 })
 
--- what a core becomes when a push of a failover was taken
-abbrev pub mended_data : MasterData → Mend → MasterData
-mended_data d (mend.Extend j) = pushed_data d (next.Extend j)
-mended_data d (mend.Replace j) = pushed_data d (next.OpenWhole j)
-mended_data d mend.Turn = opened_more (turned_data d) 0
-mended_data d (mend.Open j) = opened_more d j
-mended_data d (mend.Raise id) = raised_data d
-mended_data d (mend.Close j) = option_map_or (closed_more d j) d.head.roll d
-mended_data d (mend.Repair s j) = sealed_anew d s j
+-- what a core becomes when a push was taken while a failover is open
+abbrev pub mended_data : MasterData → Push → MasterData
+mended_data d (push.Head (next.Extend j)) = pushed_data d (next.Extend j)
+mended_data d (push.Head (next.OpenWhole j)) = pushed_data d (next.OpenWhole j)
+mended_data d push.Turn = opened_more (turned_data d) 0
+mended_data d (push.Head (next.OpenNew j)) = opened_more d j
+mended_data d (push.Head (next.OpenFirst j)) = opened_more d j
+mended_data d (push.Raise id) = raised_data d
+mended_data d (push.Head (next.CloseOld j)) = option_map_or (closed_more d j) d.head.roll d
+mended_data d (push.Repair s j) = sealed_anew d s j
+
+-- what a core becomes when a push was taken
+abbrev pub pushed : MasterData → Push → MasterData
+pushed d (push.Head n) =
+    option_map_or (λ (f : Failover). mended_data d (push.Head n)) d.failover (pushed_data d n)
+pushed d push.Turn = mended_data d push.Turn
+pushed d (push.Raise id) = mended_data d (push.Raise id)
+pushed d (push.Repair s j) = mended_data d (push.Repair s j)
 
 -- ---- the op of a push
 
 -- the segment that the push is for
-abbrev pub segment_for : MasterData → Mend → ℕ
-segment_for d (mend.Extend j) = d.head.id
-segment_for d (mend.Replace j) = d.head.id
-segment_for d mend.Turn = d.next
-segment_for d (mend.Open j) = new_id d
-segment_for d (mend.Raise id) = id
-segment_for d (mend.Close j) = d.head.id
-segment_for d (mend.Repair s j) = s
+abbrev pub segment_for : MasterData → Push → ℕ
+segment_for d (push.Head n) = segment_of d.head n
+segment_for d push.Turn = d.next
+segment_for d (push.Raise id) = id
+segment_for d (push.Repair s j) = s
 
 -- the number of the replica that the push is for
-abbrev pub replica_for : Mend → ℕ
-replica_for (mend.Extend j) = j
-replica_for (mend.Replace j) = j
-replica_for mend.Turn = 0
-replica_for (mend.Open j) = j
-replica_for (mend.Raise id) = 0
-replica_for (mend.Close j) = j
-replica_for (mend.Repair s j) = j
+abbrev pub replica_for : Push → ℕ
+replica_for (push.Head n) = replica_of n
+replica_for push.Turn = 0
+replica_for (push.Raise id) = 0
+replica_for (push.Repair s j) = j
 
 -- the backup that the push is for
-abbrev pub backup_for : MasterData → Mend → ℕ
-backup_for d m = home d.config d.failed (segment_for d m) (replica_for m)
-
--- the Open of one more replica of the new head
-abbrev pub open_op : MasterData → ℕ → OpValue
-open_op d j =
-    option_map_or (λ (r : Roll). op_of d.config.master d.head (next.OpenNew j)) d.head.roll
-    (op_of d.config.master d.head (next.OpenFirst j))
+abbrev pub backup_for : MasterData → Push → ℕ
+backup_for d p = home d.config d.failed (segment_for d p) (replica_for p)
 
 -- the op that the push hands to a backup; a raise has none
-abbrev pub op_now : MasterData → Mend → Option OpValue
-op_now d (mend.Extend j) = Some (op_of d.config.master d.head (next.Extend j))
-op_now d (mend.Replace j) = Some (op_of d.config.master d.head (next.OpenWhole j))
-op_now d mend.Turn = Some (record {
+abbrev pub op_now : MasterData → Push → Option OpValue
+op_now d (push.Head n) = Some (op_of d.config.master d.head n)
+op_now d push.Turn = Some (record {
   master = d.config.master;
   segment = d.next;
   act = Open (text_of (start_entries d.config.master (turn_start d)));
 })
-op_now d (mend.Open j) = Some (open_op d j)
-op_now d (mend.Raise id) = None
-op_now d (mend.Close j) = Some (op_of d.config.master d.head (next.CloseOld j))
-op_now d (mend.Repair s j) = Some (record {
+op_now d (push.Raise id) = None
+op_now d (push.Repair s j) = Some (record {
   master = d.config.master;
   segment = s;
   act = Seal (text_of (images_of d s));

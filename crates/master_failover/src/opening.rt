@@ -1,11 +1,11 @@
 //! How the new head of a failover is made, and what else changes in a core when the head is put.
 
-ghost use Rattle.std.specs.Prelude.{◌≡◌, ◌∷◌, [], length, true, IfOk, if◌then◌else◌};
+ghost use Rattle.std.specs.Prelude.{◌≡◌, ◌∷◌, [], length, true, Some, IfOk, if◌then◌else◌};
 ghost use Rattle.std.specs.Option.{option_map};
 ghost use Rattle.master_state.specs.declared.ledger.Posting.{Posting as PostingValue};
 ghost use Rattle.master_state.specs.Budget.{may_turn, is_ready, victims_of};
-ghost use Rattle.master_failover.specs.Mending.{IsNextMend, IsNewHead, MayPut, opening};
-ghost use Rattle.master_failover.specs.declared.mending.Mend.TheVariants as mend;
+ghost use Rattle.master_failover.specs.Mending.{IsNextPushOf, IsNewHead, MayPut, opening};
+ghost use Rattle.master_failover.specs.declared.push.Push.TheVariants as push;
 
 use crate::turning::NewHead;
 use entry::NoMemory;
@@ -17,7 +17,7 @@ use master_state::{Core, Failover, Ledger, Part, Posting};
 /// digest lists the survivors in place of the victims. Otherwise its digest lists the log. If no head was open on all
 /// its backups when the failover began, the digest lists the new head alone.
 pub fn new_head(core: &Core) -> Result<NewHead, NoMemory>
-    requires next { IsNextMend core.now mend.Turn }
+    requires next { IsNextPushOf core.now (Some push.Turn) }
     requires may { may_turn core.now ≡ true }
     ensures made { IfOk result (IsNewHead core.now) }
     ensures may { IfOk result (MayPut core.now.head) }

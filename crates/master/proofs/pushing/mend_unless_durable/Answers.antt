@@ -12,7 +12,7 @@ returns-clause-gives g c =
     let now = c.durable.ensures in
     let le = c.if-place-durable.false in
     let awaited : durable_of (log_of c.args.core.now) ≤ c.args.place = omega (arith, same, now, le) in
-    elim c.match-mend.branch [
+    elim c.match-push.branch [
       | in-Ok w ↦ rw w.result-is (awaited, _, w.in-Ok.ensures.accepted)
       | in-Err w ↦ rw w.result-is (awaited, w.in-Err.ensures.refused)
     ]

@@ -24,10 +24,12 @@ returns-then-is_halted-clause-gives g c =
       inl (rw (sym c.is_halted.ensures ∙ c.if-is_halted.true) refl, refl),
     )
 
-pub hand-requires-clause-calm : goal.hand-requires-clause-calm
-hand-requires-clause-calm g c =
-    none_open c.args.core.now.failover (sym (ap (λ (m : MasterData). is_some m.failover) c.core.view_is)
-    ∙ sym c.is_some.ensures ∙ c.if-is_some.false)
+pub hand-requires-clause-next : goal.hand-requires-clause-next
+hand-requires-clause-next g c = inl (
+  none_open c.args.core.now.failover (sym (ap (λ (m : MasterData). is_some m.failover) c.core.view_is)
+      ∙ sym c.is_some.ensures ∙ c.if-is_some.false),
+  c.in-Some.ensures.next,
+)
 
 pub returns-clause-gives : goal.returns-clause-gives
 returns-clause-gives g c =

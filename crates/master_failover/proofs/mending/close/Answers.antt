@@ -11,6 +11,7 @@ use Rattle.images.specs.Sorted.{image_of, added}
 use Rattle.log_head.specs.declared.head.Roll.{Roll}
 use Rattle.log_head.specs.Head.{digest_of}
 use Rattle.log_head.specs.Log.{head_of, but_last}
+use Rattle.log_head.specs.declared.next.Next.TheVariants as nexts
 use Rattle.master_state.specs.contracts.state.Core.{the_view}
 use Rattle.master_state.specs.declared.failover.Failover.{Failover}
 use Rattle.master_state.specs.declared.failover.Part.TheVariants as part
@@ -24,7 +25,7 @@ use Rattle.master_state.proofs.Tallying.{none_right}
 use Rattle.master_rolls.specs.Ends.{closed_left, waiting_left}
 use Rattle.master_rolls.proofs.Budgets.{closed_seglets, closing_fits, free_again}
 use Rattle.master_rolls.proofs.Closing.{left_early, none_then, old_is}
-use Rattle.master_failover.specs.declared.mending.Mend.TheVariants as mend
+use Rattle.master_failover.specs.declared.push.Push.TheVariants as push
 use Rattle.master_failover.specs.Mending.{IsNextMend}
 use Rattle.master_failover.proofs.Losses.{others_are, none_from}
 use Rattle.master_failover.proofs.OldClosed.{closing_next, closed_then, ended, last_core, last_is, early_core}
@@ -37,7 +38,7 @@ module _ (c : goal.In_default) where
   abbrev k : MasterData
   k = the_view c.core-2.inside
 
-  next : IsNextMend k (mend.Close c.args.replica)
+  next : IsNextMend k (push.Head (nexts.CloseOld c.args.replica))
   next = closing_next c.args.core.now k c.args.replica c.home-backup.result (c.core-2.view_is ∙ c.post.ensures.posted)
       c.requires
 
@@ -69,7 +70,7 @@ module _ (c : goal.After-add_closed-arg-1) where
   abbrev d : MasterData
   d = the_view c.core-2.inside
 
-  waits : IsNextMend d (mend.Close c.args.replica)
+  waits : IsNextMend d (push.Head (nexts.CloseOld c.args.replica))
   waits = closing_next c.args.core.now d c.args.replica c.home-backup.result (c.core-2.view_is ∙ c.post.ensures.posted)
       c.requires
 
@@ -111,7 +112,7 @@ module _ (c : goal.After-end_if) where
   posted : m ≡ record c.args.core.now { ledger = Shut c.home-backup.result ∷ c.args.core.now.ledger }
   posted = c.core-2.view_is ∙ c.post.ensures.posted
 
-  abbrev closes : IsNextMend m (mend.Close c.args.replica)
+  abbrev closes : IsNextMend m (push.Head (nexts.CloseOld c.args.replica))
   closes = closing_next c.args.core.now m c.args.replica c.home-backup.result posted c.requires
 
   abbrev over : MasterData

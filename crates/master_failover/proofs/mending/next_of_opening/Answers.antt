@@ -20,8 +20,8 @@ module _ (d : MasterData) (core : IsCore d) where
   opened_few : opened_now d ≤ d.config.replicas
   opened_few = count_few d.head.roll core.head.roll
 
-pub returns-then-opened-replicas : goal.returns-then-opened-replicas
-returns-then-opened-replicas c =
+pub next_open-requires : goal.next_open-requires
+next_open-requires c =
     let same = ap (λ (m : MasterData). m.config.replicas) c.core.view_is in
     (c.requires, c.opened_now-opened.ensures, omega arith)
 

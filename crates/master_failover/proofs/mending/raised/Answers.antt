@@ -9,9 +9,9 @@ use Rattle.master_state.specs.declared.failover.Part.TheVariants as part
 use Rattle.master_state.specs.declared.ledger.Posting.TheVariants.{Ended}
 use Rattle.master_state.specs.Data.{MasterData}
 use Rattle.master_state.specs.Invariant.{IsCore}
-use Rattle.master_failover.specs.declared.mending.Mend.TheVariants as mend
+use Rattle.master_failover.specs.declared.push.Push.TheVariants as push
 use Rattle.master_failover.specs.Mending.{IsNextMend, raised_data, with_part}
-use Rattle.master_failover.proofs.Raised.{rolling_core, rolling_is, first_core, first_is}
+use Rattle.master_failover.proofs.RaisedCore.{rolling_core, rolling_is, first_core, first_is}
 use Rattle.master_failover.proofs.Rolled.{roll_there, roll_none}
 use Rattle.master_failover.proofs.mending.raised.Goals as goal
 
@@ -21,8 +21,8 @@ module _ (c : goal.After-go_on) where
   abbrev d : MasterData
   d = the_view c.core.inside
 
-  next : IsNextMend d (mend.Raise c.requires.0)
-  next = subst (λ (m : MasterData). IsNextMend m (mend.Raise c.requires.0)) (sym c.core.view_is) c.requires.1
+  next : IsNextMend d (push.Raise c.requires.0)
+  next = subst (λ (m : MasterData). IsNextMend m (push.Raise c.requires.0)) (sym c.core.view_is) c.requires.1
 
   there : (r : Roll) × (d.head.roll ≡ Some r)
   there =
@@ -56,8 +56,8 @@ module _ (c : goal.After-core-2-1) where
   posted : k ≡ record c.args.core.now { ledger = Ended ∷ c.args.core.now.ledger }
   posted = c.core-2.view_is ∙ c.post.ensures.posted
 
-  waits : IsNextMend k (mend.Raise c.requires.0)
-  waits = subst (λ (m : MasterData). IsNextMend m (mend.Raise c.requires.0)) (sym posted) c.requires.1
+  waits : IsNextMend k (push.Raise c.requires.0)
+  waits = subst (λ (m : MasterData). IsNextMend m (push.Raise c.requires.0)) (sym posted) c.requires.1
 
   no_roll : k.head.roll ≡ None
   no_roll =

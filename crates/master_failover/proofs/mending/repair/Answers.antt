@@ -11,7 +11,7 @@ use Rattle.master_state.specs.contracts.state.Core.{the_view}
 use Rattle.master_state.specs.declared.ledger.Posting.TheVariants.{Took}
 use Rattle.master_state.specs.Data.{MasterData}
 use Rattle.master_state.specs.Invariant.{IsCore, AreImagesOf, AreTallied}
-use Rattle.master_failover.specs.declared.mending.Mend.TheVariants as mend
+use Rattle.master_failover.specs.declared.push.Push.TheVariants as push
 use Rattle.master_failover.specs.Mending.{IsNextMend, first_lost, repaired_data}
 use Rattle.master_failover.proofs.Losses.{others_are, none_from}
 use Rattle.master_failover.proofs.Resealed.{sealed_core, sealed_is, sealed_few, sealed_tallied}
@@ -20,14 +20,14 @@ use Rattle.master_failover.proofs.mending.repair.Goals as goal
 
 pub home-backup-requires : goal.home-backup-requires
 home-backup-requires c =
-    let next = subst (λ (m : MasterData). IsNextMend m (mend.Repair c.args.segment c.args.replica))
+    let next = subst (λ (m : MasterData). IsNextMend m (push.Repair c.args.segment c.args.replica))
     (sym c.core.view_is) c.requires in
     let lt = fewer (the_view c.core.inside) c.core.invariant.2 c.args.segment c.args.replica next in
     subst (λ (m : MasterData). c.args.replica < m.config.replicas) c.core.view_is lt
 
 pub add_replica-requires : goal.add_replica-requires
 add_replica-requires c =
-    let next = subst (λ (m : MasterData). IsNextMend m (mend.Repair c.args.segment c.args.replica))
+    let next = subst (λ (m : MasterData). IsNextMend m (push.Repair c.args.segment c.args.replica))
     (sym (c.core-2.view_is ∙ c.post.ensures.posted)) c.requires in
     sealed_few (the_view c.core-2.inside) c.core-2.invariant.2 c.args.segment c.args.replica next
 
@@ -35,8 +35,8 @@ module _ (c : goal.After-end_if) where
   abbrev d : MasterData
   d = the_view c.core-2.inside
 
-  next : IsNextMend d (mend.Repair c.args.segment c.args.replica)
-  next = subst (λ (m : MasterData). IsNextMend m (mend.Repair c.args.segment c.args.replica))
+  next : IsNextMend d (push.Repair c.args.segment c.args.replica)
+  next = subst (λ (m : MasterData). IsNextMend m (push.Repair c.args.segment c.args.replica))
       (sym (c.core-2.view_is ∙ c.post.ensures.posted)) c.requires
 
   images : c.add_replica.new.self.images ≡ changed d.closed c.args.segment more_replicas

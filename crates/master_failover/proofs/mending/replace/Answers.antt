@@ -1,10 +1,11 @@
 use Rattle.std.proofs.Common.{sym, ap, subst, ◌∙◌}
 use Rattle.std.specs.Prelude.{IsSome}
 use Rattle.log_head.specs.Head.{HeadValue, IsHeadValue}
+use Rattle.log_head.specs.declared.next.Next.TheVariants as nexts
 use Rattle.master_state.specs.contracts.state.Core.{the_view}
 use Rattle.master_state.specs.Data.{MasterData}
 use Rattle.master_state.specs.Invariant.{IsCore, AreTallied}
-use Rattle.master_failover.specs.declared.mending.Mend.TheVariants as mend
+use Rattle.master_failover.specs.declared.push.Push.TheVariants as push
 use Rattle.master_failover.specs.Mending.{IsNextMend}
 use Rattle.master_failover.proofs.Changed.{replaced_core}
 use Rattle.master_failover.proofs.mending.replace.Goals as goal
@@ -13,8 +14,8 @@ module _ (c : goal.After-open_whole) where
   abbrev d : MasterData
   d = the_view c.core-2.inside
 
-  next : IsNextMend d (mend.Replace c.args.replica)
-  next = subst (λ (m : MasterData). IsNextMend m (mend.Replace c.args.replica))
+  next : IsNextMend d (push.Head (nexts.OpenWhole c.args.replica))
+  next = subst (λ (m : MasterData). IsNextMend m (push.Head (nexts.OpenWhole c.args.replica)))
       (sym (c.core-2.view_is ∙ c.post_push.ensures.posted)) c.requires
 
   replaced : IsCore (record d { head = c.open_whole.new.self })

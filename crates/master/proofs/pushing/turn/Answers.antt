@@ -12,11 +12,12 @@ use Rattle.replica.specs.Take.{Refuses}
 use Rattle.replica.specs.declared.op.TakeFault.TheVariants as take_fault
 use Rattle.log_head.specs.declared.head.Roll.{Roll}
 use Rattle.log_head.specs.Head.{IsHeadValue}
-use Rattle.master_core.specs.master_failover.declared.mending.Mend.TheVariants as mend
+use Rattle.master_core.specs.master_failover.declared.push.Push.TheVariants as push
 use Rattle.master_core.specs.master_failover.declared.turning.NewHead.{NewHead}
-use Rattle.master_core.specs.master_failover.Mending.{IsNextMend, IsNewHead, MayPut, put_data, turned_data, mended_data}
-use Rattle.master_core.specs.master_failover.Mending.{backup_for}
+use Rattle.master_core.specs.master_failover.Mending.{IsNextMend, IsNextOpen, IsNewHead, MayPut, put_data, turned_data, mended_data}
+use Rattle.master_core.specs.master_failover.Mending.{backup_for, opened_more}
 use Rattle.master_core.proofs.master_failover.Changed.{own}
+use Rattle.master_core.proofs.master_failover.PushKinds.{mend_fails}
 use Rattle.master_core.proofs.master_failover.TurnedCore.{turned_next, turned_is}
 use Rattle.master_core.specs.master_state.declared.step.Refusal.TheVariants.{Halted}
 use Rattle.master_core.specs.master_state.declared.step.Step.TheVariants.{Push}
@@ -29,15 +30,15 @@ use Rattle.master_core.specs.master_state.Steps.{halted}
 use Rattle.master_core.proofs.master_state.Refusals.{sizes_of}
 use Rattle.master_core.proofs.master_state.Tallying.{none_right}
 use Rattle.master.specs.Invariant.{StaysServed}
-use Rattle.master.specs.Mends.{first_open, OpensFirst}
+use Rattle.master.specs.Pushes.{first_open, OpensFirst}
 use Rattle.master.specs.Steps.{Declines}
 use Rattle.master.specs.World.{world_of}
 use Rattle.master.proofs.MendFirsts.{stuck_served, put_valid, turning_core, turn_not_wrong, turn_mends, turn_mended}
 use Rattle.master.proofs.MendFirsts.{turn_faults, turn_halts, turn_declines}
-use Rattle.master.proofs.MendServed.{mend_fails, mend_passed, served_core}
-use Rattle.master.proofs.mending.turn.Given as given
-use Rattle.master.proofs.mending.turn.Goals as goal
-use Rattle.master.proofs.mending.turn.Goals.{After-reserve-2, After-master, After-ledger_of_turn-core-inside}
+use Rattle.master.proofs.MendServed.{mend_passed, served_core}
+use Rattle.master.proofs.pushing.turn.Given as given
+use Rattle.master.proofs.pushing.turn.Goals as goal
+use Rattle.master.proofs.pushing.turn.Goals.{After-reserve-2, After-master, After-ledger_of_turn-core-inside}
 
 -- ---- a pass
 
@@ -63,7 +64,7 @@ returns-then-not-may_turn-clause-refused g c =
     let f = g.F.Fleet.state c.args.fleet.now in
     subst (λ (x : MasterData). Declines (world_of d f) Push Halted (world_of x f)) (sym c.halt.ensures.halted)
     (inr (
-      mend_passed d c.requires.running (mend_fails d mend.Turn c.requires.next),
+      mend_passed d c.requires.running (mend_fails d push.Turn c.requires.next),
       inl (c.requires.next, sym c.may_turn.ensures ∙ c.if-not-may_turn.true, refl, refl),
     ))
 
@@ -72,7 +73,7 @@ returns-then-not-may_turn-clause-served g c =
     let d = c.args.core.now in
     let f = g.F.Fleet.state c.args.fleet.now in
     subst (λ (x : MasterData). StaysServed d f x f) (sym c.halt.ensures.halted)
-    (stuck_served d f (mend_fails d mend.Turn c.requires.next))
+    (stuck_served d f (mend_fails d push.Turn c.requires.next))
 
 -- ---- room is made
 
@@ -83,8 +84,8 @@ module _ (g : given.Over) (c : goal.After-reserve-2 g) where
   core : IsCore v
   core = c.core.invariant.2
 
-  next : IsNextMend v mend.Turn
-  next = subst (λ (m : MasterData). IsNextMend m mend.Turn) (sym c.core.view_is) c.requires.next
+  next : IsNextMend v push.Turn
+  next = subst (λ (m : MasterData). IsNextMend m push.Turn) (sym c.core.view_is) c.requires.next
 
   images : c.reserve.new.self.images ≡ v.closed
   images = ap (λ (x : ImagesValue). x.images) c.reserve.ensures.same
@@ -154,7 +155,7 @@ module _ (g : given.Over) (c : goal.After-master g) where
   new = c.in_ok-new.new
 
   abbrev b : ℕ
-  b = backup_for d mend.Turn
+  b = backup_for d push.Turn
 
   same_mid : record (the_view c.core.inside) {
     closed = c.reserve.new.self.images;
@@ -329,7 +330,7 @@ returns-then-not-is_taken-clause-refused g c =
     let is = c.halt-then-not-is_taken.ensures.halted ∙ ap halted (left_is g k) in
     rw (is)
     (inr (
-      mend_passed (d g a) c.requires.running (mend_fails (d g a) mend.Turn c.requires.next),
+      mend_passed (d g a) c.requires.running (mend_fails (d g a) push.Turn c.requires.next),
       inr (inl (turn_faults (d g a) (f g a) c.requires.running c.requires.next c.requires.served (may g a) (new g a)
           (made g a) (valid g a) (after g k) (told g k false c.if-not-is_taken.true))),
     ))
@@ -345,31 +346,31 @@ returns-then-not-is_taken-clause-served g c =
 
 -- ---- it was taken
 
-pub mended-requires-clause-next : goal.mended-requires-clause-next
-mended-requires-clause-next g c =
-    let k = (goal.at.mended-requires-clause-next g c).After-ledger_of_turn-core-inside in
+pub opened-requires : goal.opened-requires
+opened-requires g c =
+    let k = (goal.at.opened-requires g c).After-ledger_of_turn-core-inside in
     let a = t g k in
-    subst (λ (m : MasterData). IsNextMend m (mend.Open 0)) (sym (left_is g k))
+    subst (λ (m : MasterData). IsNextOpen m 0) (sym (left_is g k))
     (turned_next (d g a) (served_core (d g a) (f g a) c.requires.served) c.requires.next)
 
 pub returns-clause-accepted : goal.returns-clause-accepted
 returns-clause-accepted g c =
     let k = (goal.at.returns-clause-accepted g c).After-ledger_of_turn-core-inside in
     let a = t g k in
-    let is : c.mended.new.core ≡ mended_data (d g a) mend.Turn =
-    c.mended.ensures.mended ∙ ap (λ (m : MasterData). mended_data m (mend.Open 0)) (left_is g k) in
-    let own = subst IsCore is c.mended.ensures.valid in
+    let is : c.opened.new.core ≡ mended_data (d g a) push.Turn =
+    c.opened.ensures.opened ∙ ap (λ (m : MasterData). opened_more m 0) (left_is g k) in
+    let own = subst IsCore is c.opened.ensures.valid in
     rw (is, backup g a, id g a)
-    (inr (turn_mends (d g a) (f g a) c.requires.running c.requires.next c.requires.served (may g a) (new g a)
-    (made g a) (valid g a) own (after g k) (told g k true c.if-not-is_taken.false)))
+    (turn_mends (d g a) (f g a) c.requires.running c.requires.next c.requires.served (may g a) (new g a)
+    (made g a) (valid g a) own (after g k) (told g k true c.if-not-is_taken.false))
 
 pub returns-clause-served : goal.returns-clause-served
 returns-clause-served g c =
     let k = (goal.at.returns-clause-served g c).After-ledger_of_turn-core-inside in
     let a = t g k in
-    let is : c.mended.new.core ≡ mended_data (d g a) mend.Turn =
-    c.mended.ensures.mended ∙ ap (λ (m : MasterData). mended_data m (mend.Open 0)) (left_is g k) in
+    let is : c.opened.new.core ≡ mended_data (d g a) push.Turn =
+    c.opened.ensures.opened ∙ ap (λ (m : MasterData). opened_more m 0) (left_is g k) in
     subst (λ (x : MasterData). StaysServed (d g a) (f g a) x (after g k)) (sym is)
     (turn_mended (d g a) (f g a) c.requires.running c.requires.next c.requires.served (may g a) (new g a)
-    (made g a) (valid g a) (subst IsCore is c.mended.ensures.valid) (after g k)
+    (made g a) (valid g a) (subst IsCore is c.opened.ensures.valid) (after g k)
     (told g k true c.if-not-is_taken.false))

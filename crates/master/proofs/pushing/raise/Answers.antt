@@ -1,15 +1,15 @@
-use Rattle.std.proofs.Common.{inr, ℕ, sym, subst}
+use Rattle.std.proofs.Common.{ℕ, sym, subst}
 use Rattle.replica.specs.Picture.{FleetState}
 use Rattle.replica.specs.Registry.{Raises, RefusesRaise}
 use Rattle.replica.specs.declared.op.TakeFault.{TakeFault}
-use Rattle.master_core.specs.master_failover.declared.mending.Mend.TheVariants as mend
+use Rattle.master_core.specs.master_failover.declared.push.Push.TheVariants as push
 use Rattle.master_core.specs.master_state.Data.{MasterData}
 use Rattle.master_core.specs.master_state.Invariant.{IsCore}
 use Rattle.master.specs.Invariant.{StaysServed}
 use Rattle.master.proofs.MendServed.{served_mends, served_mended, raise_declines, raise_keeps}
-use Rattle.master.proofs.mending.raise.Given as given
-use Rattle.master.proofs.mending.raise.Goals as goal
-use Rattle.master.proofs.mending.raise.Goals.{After-raise}
+use Rattle.master.proofs.pushing.raise.Given as given
+use Rattle.master.proofs.pushing.raise.Goals as goal
+use Rattle.master.proofs.pushing.raise.Goals.{After-raise}
 
 module _ (g : given.Over) (c : goal.After-raise g) where
   abbrev d : MasterData
@@ -28,22 +28,25 @@ module _ (g : given.Over) (c : goal.After-raise g) where
       → RefusesRaise f d.config.master c.args.id x after
   refuses x = subst (λ (master : ℕ). RefusesRaise f master c.args.id x after) c.master.ensures
 
+pub raised-requires : goal.raised-requires
+raised-requires g c = (c.args.id, c.requires.next)
+
 pub returns-in-Ok-clause-accepted : goal.returns-in-Ok-clause-accepted
 returns-in-Ok-clause-accepted g c =
     let t = (goal.at.returns-in-Ok-clause-accepted g c).After-raise in
-    let is = c.mended.ensures.mended in
-    let core = subst IsCore is c.mended.ensures.valid in
+    let is = c.raised.ensures.raised in
+    let core = subst IsCore is c.raised.ensures.valid in
     rw is
-    (inr (served_mends (d g t) (mend.Raise c.args.id) (f g t) c.requires.running c.requires.next tt tt
-    c.requires.served core (after g t) (takes g t c.in-Ok.ensures)))
+    (served_mends (d g t) (push.Raise c.args.id) (f g t) c.requires.running c.requires.next tt tt
+    c.requires.served core (after g t) (takes g t c.in-Ok.ensures))
 
 pub returns-in-Ok-clause-served : goal.returns-in-Ok-clause-served
 returns-in-Ok-clause-served g c =
     let t = (goal.at.returns-in-Ok-clause-served g c).After-raise in
-    let is = c.mended.ensures.mended in
+    let is = c.raised.ensures.raised in
     subst (λ (x : MasterData). StaysServed (d g t) (f g t) x (after g t)) (sym is)
-    (served_mended (d g t) (mend.Raise c.args.id) (f g t) c.requires.running c.requires.next tt tt
-    (subst IsCore is c.mended.ensures.valid) (after g t) (takes g t c.in-Ok.ensures))
+    (served_mended (d g t) (push.Raise c.args.id) (f g t) c.requires.running c.requires.next tt tt
+    (subst IsCore is c.raised.ensures.valid) (after g t) (takes g t c.in-Ok.ensures))
 
 pub returns-in-Err-clause-refused : goal.returns-in-Err-clause-refused
 returns-in-Err-clause-refused g c =

@@ -7,11 +7,10 @@ use Rattle.log_head.specs.Steps.{with_new_replica}
 use Rattle.master_state.specs.contracts.state.Core.{the_view}
 use Rattle.master_state.specs.Data.{MasterData}
 use Rattle.master_state.specs.Invariant.{IsCore, AreTallied}
-use Rattle.master_failover.specs.declared.mending.Mend.TheVariants as mend
-use Rattle.master_failover.specs.Mending.{IsNextMend}
+use Rattle.master_failover.specs.Mending.{IsNextOpen}
 use Rattle.master_failover.proofs.Changed.{opened_core}
 use Rattle.master_failover.proofs.Rolled.{counting_tallied, new_opened_core, roll_there}
-use Rattle.master_failover.proofs.mending.open.Goals as goal
+use Rattle.master_failover.proofs.mending.opened.Goals as goal
 
 -- ---- the new head of a roll
 
@@ -19,8 +18,8 @@ module _ (c : goal.After-open_new) where
   abbrev d : MasterData
   d = the_view c.core.inside
 
-  next : IsNextMend d (mend.Open c.args.replica)
-  next = subst (λ (m : MasterData). IsNextMend m (mend.Open c.args.replica))
+  next : IsNextOpen d c.args.replica
+  next = subst (λ (m : MasterData). IsNextOpen m c.args.replica)
       (sym (c.core.view_is ∙ c.post.ensures.posted)) c.requires
 
   there : (r : Roll) × (d.head.roll ≡ Some r)
@@ -58,8 +57,8 @@ module _ (c : goal.After-open) where
   abbrev m : MasterData
   m = the_view c.core.inside
 
-  waits : IsNextMend m (mend.Open c.args.replica)
-  waits = subst (λ (x : MasterData). IsNextMend x (mend.Open c.args.replica))
+  waits : IsNextOpen m c.args.replica
+  waits = subst (λ (x : MasterData). IsNextOpen x c.args.replica)
       (sym (c.core.view_is ∙ c.post.ensures.posted)) c.requires
 
   first_opened : IsCore (record m { head = c.open.new.self })

@@ -8,11 +8,11 @@ use Rattle.master_state.specs.declared.failover.Part.TheVariants as part
 use Rattle.master_state.specs.declared.ledger.Posting.TheVariants.{Ended}
 use Rattle.master_state.specs.Data.{MasterData}
 use Rattle.master_state.specs.Invariant.{IsCore, IsFailover}
-use Rattle.master_failover.specs.declared.mending.Mend.TheVariants as mend
+use Rattle.master_failover.specs.declared.push.Push.TheVariants as push
 use Rattle.master_failover.specs.Mending.{IsNextMend, raised_data, with_part}
 use Rattle.master_failover.proofs.Changed.{own, was_is, first_raised, new_raised}
 
-module _ (d : MasterData) (core : IsCore d) (id : ℕ) (next : IsNextMend d (mend.Raise id)) where
+module _ (d : MasterData) (core : IsCore d) (id : ℕ) (next : IsNextMend d (push.Raise id)) where
   abbrev f : Failover
   f = next.0.0
 
