@@ -27,8 +27,7 @@ use Rattle.replay.specs.master.World.{World, world_of}
 use Rattle.replay.proofs.of_driving.Losses.{push_lost}
 use Rattle.replay.proofs.of_driving.MasterSteps.{nothing_waits, push_tested}
 use Rattle.replay.proofs.of_driving.Outlines.{outline}
-use Rattle.replay.proofs.of_driving.of_master.MendedRest.{mended_rest}
-use Rattle.replay.proofs.of_driving.of_master.PushedRest.{same_rest}
+use Rattle.replay.proofs.of_driving.of_master.PushKinds.{MendsOn, kinds, pushes_rest}
 use Rattle.adoptable.proofs.Numbering.{IsNumbered, first_numbered, ids_left, numbered_loaded, numbered_pushed}
 use Rattle.adoptable.proofs.Numbering.{numbered_rolling}
 
@@ -115,20 +114,19 @@ module _ (c : Config) (first : ℕ) where
       fault_counts old.knows.config.master old.fleet h.1.2.0 new.fleet h.1.2.3
 
   push_runs : (old new : World) → Advances Push old new → IsRunning old → IsRunning new
-  push_runs old new (inl (a, inl push)) is =
-      running_still old new (ap (λ (d : MasterData). d.is_halted) push.rest ∙ (same_rest old.knows push.push).2)
-      (λ now. subst (λ (d : MasterData). IsNumbered c (outline d)) (sym push.rest)
-      (numbered_pushed c old.knows push.push now))
-      (op_faults old.knows.config.master old.fleet push.op new.fleet push.takes) is
-  push_runs old new (inl (a, inr push)) is = go is.calm
+  push_runs old new (inl (a, push)) is = elim (kinds old a new push) as (λ _. IsRunning new) [
+    | inl head ↦ running_still old new (pushes_rest old a new push).2
+        (λ now. subst (λ (d : MasterData). IsNumbered c (outline d)) (sym head.rest)
+        (numbered_pushed c old.knows head.push now)) same is
+    | inr mend ↦ go mend is.calm
+  ]
     where
       same : new.fleet.faults ≡ old.fleet.faults
       same = op_faults old.knows.config.master old.fleet push.op new.fleet push.takes
 
-      go : IsCalm old → IsRunning new
-      go (inl now) = absurd (not_failing old.knows.failover now.calm push.failing)
-      go (inr lt) = running_faulted new
-          (ap (λ (d : MasterData). d.is_halted) push.rest ∙ (mended_rest old.knows push.mend).2 ∙ is.running)
+      go : MendsOn old a new → IsCalm old → IsRunning new
+      go mend (inl now) = absurd (not_failing old.knows.failover now.calm mend.failing)
+      go mend (inr lt) = running_faulted new ((pushes_rest old a new push).2 ∙ is.running)
           (subst (λ (n : ℕ). first < n) (sym same) lt)
   push_runs old new (inr (b, push)) is =
       let more = lost_counts old new b push in

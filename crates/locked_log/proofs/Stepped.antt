@@ -31,8 +31,8 @@ use Rattle.store_step.specs.master.Steps.{FailsTake, FailsPush, FailsTurn, IsPus
 use Rattle.store_step.specs.master.Valid.{IsValid}
 use Rattle.store_step.specs.master.World.{World, world, limited_world}
 use Rattle.store_step.proofs.of_master.Keeping.{take_failed}
-use Rattle.store_step.proofs.of_master.MendedRest.{mended_rest, turned_rest}
-use Rattle.store_step.proofs.of_master.PushedRest.{same_rest}
+use Rattle.store_step.proofs.of_master.MendedRest.{turned_rest}
+use Rattle.store_step.proofs.of_master.PushKinds.{pushes_rest}
 use Rattle.store_step.specs.declared.turn.CleanTurn.{CleanTurn}
 use Rattle.store_step.specs.declared.turn.CleanTurn.TheVariants as turn
 use Rattle.locked_log.specs.Held.{StateValue, Held, held, history, knows}
@@ -137,10 +137,7 @@ module _ (old new : World) where
   steps_history (BeginClean ids) (Err r) other t = unchanged t.0
   steps_history Copy (Ok answer) other t = ap (λ (d : MasterData). d.history) t.0.rest
   steps_history Copy (Err r) other t = unchanged t.0
-  steps_history Push (Ok answer) other (inl t) =
-      ap (λ (d : MasterData). d.history) t.rest ∙ (same_rest old.knows t.push).1
-  steps_history Push (Ok answer) other (inr t) =
-      ap (λ (d : MasterData). d.history) t.rest ∙ (mended_rest old.knows t.mend).1
+  steps_history Push (Ok answer) other t = (pushes_rest old answer new t).1
   steps_history Push (Err r) other (inl t) = unchanged t.1
   steps_history Push (Err r) other (inr t) = push_failed r t.1
   steps_history Seal (Ok answer) other t =

@@ -55,8 +55,7 @@ led : (s : Step) (old new : World) (r : Result StepAnswer Refusal) → Steps old
     → Led old.knows.config.master old.fleet new.fleet
 led (Apply seat command) old new (Ok a) h = stays _ _ _ h.1
 led (Apply seat command) old new (Err r) h = stays _ _ _ (ap fleet_in h.0)
-led Push old new (Ok a) (inl h) = taken _ _ _ h.op h.takes
-led Push old new (Ok a) (inr h) = taken _ _ _ h.op h.takes
+led Push old new (Ok a) h = taken _ _ _ h.op h.takes
 led Push old new (Err r) (inl h) = stays _ _ _ (ap fleet_in h.1)
 led Push old new (Err r) (inr (test, inl h)) = stays _ _ _ (ap fleet_in h.3)
 led Push old new (Err r) (inr (test, inr (inl h))) = refused _ _ _ h.4.0 h.4.3

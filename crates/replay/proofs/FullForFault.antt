@@ -111,12 +111,9 @@ lost_faults old new b (inr (test, inr (inr h))) =
     refused_faults old.knows.config.master old.fleet h.1.2.0 new.fleet h.1.2.3
 
 push_counts : (old new : World) → Advances Push old new → Counts old new
-push_counts old new (inl (a, inl push)) =
+push_counts old new (inl (a, push)) =
     counts_fixed old new (op_faults old.knows.config.master old.fleet push.op new.fleet push.takes)
-    (push_unfailing old new a (inl push))
-push_counts old new (inl (a, inr push)) =
-    counts_fixed old new (op_faults old.knows.config.master old.fleet push.op new.fleet push.takes)
-    (push_unfailing old new a (inr push))
+    (push_unfailing old new a push)
 push_counts old new (inr (b, push)) =
     let more = lost_faults old new b push in record { least = omega arith; failed = λ none. inr more }
 

@@ -36,6 +36,7 @@ use Rattle.driving.specs.Rolls.{Advances, ArePushed, PushesUntil, GoesRolling, I
 use Rattle.driving.proofs.Losses.{push_lost}
 use Rattle.driving.proofs.MasterSteps.{accepted_fixed, nothing_waits, push_tested, open_push}
 use Rattle.driving.proofs.Heads.{no_roll, works_parts}
+use Rattle.driving.proofs.of_master.PushKinds.{kinds}
 use Rattle.driving.proofs.of_master.log_head.Heads.{text_more}
 use Rattle.driving.proofs.of_master.master_state.Refusals.{sizes_of as config_sizes}
 use Rattle.replay.specs.Adopting.{HasToWait, HasRoomMade, LoadsOne, HasLoaded, DeclinesOne, IsStuck, Stops}
@@ -129,19 +130,19 @@ not_failing (Some g) is some = cc
 module _ (c : Config) (l : NewLog) where
   quiet_on : (old new : World) → Advances Push old new → new.knows.failed ≡ [] → IsQuiet c l old.knows
       → IsQuiet c l new.knows
-  quiet_on old new (inl (a, inl push)) none q =
-      subst (IsQuiet c l) (sym push.rest) (quiet_pushed c l old.knows push.push q)
-  quiet_on old new (inl (a, inr push)) none q =
-      absurd (not_failing old.knows.failover q.at.calm push.failing)
+  quiet_on old new (inl (a, push)) none q = elim (kinds old a new push) as (λ _. IsQuiet c l new.knows) [
+    | inl head ↦ subst (IsQuiet c l) (sym head.rest) (quiet_pushed c l old.knows head.push q)
+    | inr mend ↦ absurd (not_failing old.knows.failover q.at.calm mend.failing)
+  ]
   quiet_on old new (inr (b, push)) none q =
       absurd (let never = sym (ap (λ (d : MasterData). d.failed) (push_lost old new b push).knows) ∙ none in cc)
 
   busy_on : (old new : World) → Advances Push old new → new.knows.failed ≡ [] → IsBusy c l old.knows
       → IsBusyOrNext c l new.knows
-  busy_on old new (inl (a, inl push)) none q =
-      subst (IsBusyOrNext c l) (sym push.rest) (busy_pushed c l old.knows push.push q)
-  busy_on old new (inl (a, inr push)) none q =
-      absurd (not_failing old.knows.failover q.at.calm push.failing)
+  busy_on old new (inl (a, push)) none q = elim (kinds old a new push) as (λ _. IsBusyOrNext c l new.knows) [
+    | inl head ↦ subst (IsBusyOrNext c l) (sym head.rest) (busy_pushed c l old.knows head.push q)
+    | inr mend ↦ absurd (not_failing old.knows.failover q.at.calm mend.failing)
+  ]
   busy_on old new (inr (b, push)) none q =
       absurd (let never = sym (ap (λ (d : MasterData). d.failed) (push_lost old new b push).knows) ∙ none in cc)
 

@@ -16,8 +16,8 @@ use Rattle.driving.specs.master_core.master_state.Loading.{Loads}
 use Rattle.driving.specs.master.Steps.{Accepts, Declines, IsPushOp}
 use Rattle.driving.specs.master.World.{World}
 use Rattle.driving.proofs.of_master.Keeping.{op_beside, op_faulted, take_failed}
-use Rattle.driving.proofs.of_master.MendedRest.{mended_rest}
-use Rattle.driving.proofs.of_master.PushedRest.{SameRest, same_rest}
+use Rattle.driving.proofs.of_master.PushKinds.{pushes_rest}
+use Rattle.driving.proofs.of_master.PushedRest.{SameRest}
 use Rattle.driving.specs.Rolls.{Advances, ArePushed, PushesUntil, GoesRolling, IsRolled, IsNotRolled}
 use Rattle.driving.proofs.Losses.{push_lost}
 use Rattle.driving.proofs.MasterSteps.{nothing_waits}
@@ -80,8 +80,7 @@ module _ (old new : World) where
   same_adopts same = quiet (ap (λ (w : World). w.fleet) same)
 
   push_adopts : (a : StepAnswer) → Accepts old Push a new → IsAdoptedOn old.knows.config.master old.fleet new.fleet
-  push_adopts a (inl p) = taken_adopts old.knows.config.master old.fleet new.fleet p.op p.takes
-  push_adopts a (inr p) = taken_adopts old.knows.config.master old.fleet new.fleet p.op p.takes
+  push_adopts a p = taken_adopts old.knows.config.master old.fleet new.fleet p.op p.takes
 
   declined_adopts : (r : Refusal) → Declines old Push r new → IsAdoptedOn old.knows.config.master old.fleet new.fleet
   declined_adopts r (inl t) = same_adopts t.1
@@ -154,10 +153,7 @@ module _ (old new : World) where
   }
 
   push_keeps : Advances Push old new → KeepsLoaded [] old new
-  push_keeps (inl (a, inl p)) =
-      rest_keeps _ p.rest (same_rest old.knows p.push) (push_adopts old new a (inl p))
-  push_keeps (inl (a, inr p)) =
-      rest_keeps _ p.rest (mended_rest old.knows p.mend) (push_adopts old new a (inr p))
+  push_keeps (inl (a, p)) = rest_keeps new.knows refl (pushes_rest old a new p) (push_adopts old new a p)
   push_keeps (inr (b, declines)) = record {
     config = ap (λ (d : MasterData). d.config) (push_lost old new b declines).knows;
     history = ap (λ (d : MasterData). d.history) (push_lost old new b declines).knows;
