@@ -21,6 +21,8 @@ import tempfile
 import threading
 import time
 
+from preloaded import compiled
+
 TOP = os.path.dirname(os.path.dirname(os.path.abspath(__file__)))
 # So many seconds a process has.
 SECONDS = 60
@@ -227,10 +229,7 @@ def fails_at(program, folder, library, how, number):
 
 def calls_that_fail_lose_nothing(program, folder):
     """A write or a sync fails, is interrupted, or takes a few bytes at a time."""
-    library, compiler = f"{folder}/fail_call.so", shutil.which(os.environ.get("CC", "cc")) or shutil.which("gcc")
-    if not compiler:
-        raise Wrong("there is no C compiler")
-    subprocess.run([compiler, "-shared", "-fPIC", "-o", library, f"{TOP}/support/fail_call.c", "-ldl"], check=True)
+    library = compiled("fail_call", folder)
     for how in ("EIO", "ENOSPC", "EINTR", "short"):
         for number in (*range(1, 10), *range(10, 200, 17)):
             os.mkdir(f"{folder}/store")
