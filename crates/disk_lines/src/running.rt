@@ -9,6 +9,7 @@ ghost use Rattle.disk_lines.specs.Turns.{IsWritten, PrintsText, TakesTurn};
 
 use crate::printing::{write_bytes, write_reply, write_table};
 use crate::serving::serve_line;
+use crate::upkeep::Upkeep;
 use answers::ScriptFault;
 use file_fleet::FleetRegistry;
 use file_store::FileStore;
@@ -20,12 +21,13 @@ use take_journal::Device;
 
 /// Runs the lines of the reader in order, and hands what is printed of each to the writer. It flushes the writer before
 /// it waits for more lines. With `is_raw` keys and values are any bytes, each behind its length. A bad line ends the run,
-/// and so does a fault: what was answered before is on the disk.
-pub fn run_lines<R: BufRead, W: Write, D: Device, G: FleetRegistry>(
+/// and so does a fault: what was answered before is on the disk. Between the lines it calls `upkeep`.
+pub fn run_lines<R: BufRead, W: Write, D: Device, G: FleetRegistry, U: Upkeep<D, G>>(
     alloc: Global,
     reader: &mut R,
     writer: &mut W,
     store: &mut FileStore<D, G>,
+    upkeep: &mut U,
     is_raw: bool,
 ) -> Result<(), ScriptFault>
     // Each line was run, in order, over the store's own master. Exactly what is printed of them was written. A bad line
@@ -33,7 +35,7 @@ pub fn run_lines<R: BufRead, W: Write, D: Device, G: FleetRegistry>(
     ensures { RunsLines is_raw store.old.master.knows store.new.master.knows
         (R.remaining reader.old) (R.remaining reader.new) (W.contents writer.old) (W.contents writer.new) result }
 {
-    let ran = run_all(alloc, reader, writer, store, is_raw);
+    let ran = run_all(alloc, reader, writer, store, upkeep, is_raw);
     let flushed = writer.flush();
     match ran {
         Ok(()) if flushed.is_err() => Err(ScriptFault::WriteFailed),
@@ -42,11 +44,12 @@ pub fn run_lines<R: BufRead, W: Write, D: Device, G: FleetRegistry>(
 }
 
 /// Runs all lines.
-fn run_all<R: BufRead, W: Write, D: Device, G: FleetRegistry>(
+fn run_all<R: BufRead, W: Write, D: Device, G: FleetRegistry, U: Upkeep<D, G>>(
     alloc: Global,
     reader: &mut R,
     writer: &mut W,
     store: &mut FileStore<D, G>,
+    upkeep: &mut U,
     is_raw: bool,
 ) -> Result<(), ScriptFault>
     ensures { RunsLines is_raw store.old.master.knows store.new.master.knows
@@ -54,13 +57,34 @@ fn run_all<R: BufRead, W: Write, D: Device, G: FleetRegistry>(
 {
     let mut lines = LineReader::new(alloc);
     for number in 1..u64::MAX {
-        match run_next(alloc, reader, writer, &mut lines, store, number, is_raw) {
+        match tend_next(
+            alloc, reader, writer, &mut lines, store, upkeep, number, is_raw,
+        ) {
             Ok(true) => {}
             Ok(false) => return Ok(()),
             Err(fault) => return Err(fault),
         }
     }
     Err(ScriptFault::BadLine(u64::MAX, Reason::TooMany))
+}
+
+/// Takes the next line as `run_next` does, and calls `upkeep` behind it.
+fn tend_next<R: BufRead, W: Write, D: Device, G: FleetRegistry, U: Upkeep<D, G>>(
+    alloc: Global,
+    reader: &mut R,
+    writer: &mut W,
+    lines: &mut LineReader,
+    store: &mut FileStore<D, G>,
+    upkeep: &mut U,
+    number: u64,
+    is_raw: bool,
+) -> Result<bool, ScriptFault>
+    ensures { TakesTurn is_raw store.old.master.knows store.new.master.knows number
+        (R.remaining reader.old) (R.remaining reader.new) (W.contents writer.old) (W.contents writer.new) result }
+{
+    let ran = run_next(alloc, reader, writer, lines, store, number, is_raw);
+    upkeep.between(store);
+    ran
 }
 
 /// Takes the next line, which has this number, and runs it. Answers whether more lines may come.

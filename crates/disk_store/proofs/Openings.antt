@@ -1,5 +1,6 @@
 -- The opening of a store, step by step.
-use Rattle.std.specs.Prelude.{◌≡◌, ℕ, List, length, Option, Result, Ok, Err, IfOk}
+use Rattle.std.proofs.Common.{subst}
+use Rattle.std.specs.Prelude.{◌≡◌, ℕ, List, length, Option, Some, None, Result, Ok, Err, IfOk, IfSome}
 use Rattle.disk_file.specs.declared.disk.DiskFile.{DiskFile}
 use Rattle.embedded.specs.declared.options.Options.{Options}
 use Rattle.file_fleet.specs.Noting.{noted_by}
@@ -7,7 +8,9 @@ use Rattle.file_fleet.specs.declared.member.Member.{Member}
 use Rattle.file_store.specs.declared.store.FileStore.{FileStore}
 use Rattle.recovery.specs.claims.declared.rebuilt.Rebuilt.{Rebuilt}
 use Rattle.registry_file.specs.declared.file.RegistryFile.{RegistryFile}
-use Rattle.disk_store.specs.Opened.{IsBegun, IsLeft, IsNoTable, IsOpened, IsTableOf, IsWhy}
+use Rattle.registry_file.specs.File.{kept_by}
+use Rattle.store_folders.specs.Files.{IsSoundHere}
+use Rattle.disk_store.specs.Opened.{AreKept, IsBegun, IsLeft, IsNoTable, IsOpened, IsTableOf, IsWhy, RegistryHere}
 use Rattle.disk_store.specs.declared.fault.NotOpened.{NotOpened}
 use Rattle.disk_store.specs.declared.fault.NotOpened.TheVariants as why
 
@@ -34,3 +37,11 @@ lost o registry places (why.Files _) left none = tt
 lost o registry places (why.NotRecovered _) left none = (registry, places, left, none)
 lost o registry places (why.NotStarted _) left none = tt
 lost o registry places (why.NotFreed _) left none = tt
+
+-- the options of a registry's numbers are those that its store was made with
+pub kept_in : (registry : RegistryHere) (kept : List ℕ) → IsSoundHere registry
+    → kept ≡ (kept_by registry).fleet.options → (o : Option Options) → IfSome o (AreKept kept)
+    → IfSome o (λ options. (r : RegistryHere) × IsSoundHere r × AreKept (kept_by r).fleet.options options)
+kept_in registry kept sound same None are = tt
+kept_in registry kept sound same (Some options) are =
+    (registry, sound, subst (λ (xs : List ℕ). AreKept xs options) same are)

@@ -13,8 +13,11 @@ mod finding;
 mod opening;
 mod shortening;
 
+pub use disk_file::DiskFile;
 pub use fault::NotOpened;
 pub use file_store::{FileStore, If, NotStarted, Options, Reply, Status};
 pub use finding::kept_options;
 pub use opening::DiskStore;
-pub use store_folders::StoreFault;
+pub use registry_file::RegistryFile;
+pub use shortening::shorten;
+pub use store_folders::{Folders, StoreFault};

@@ -12,7 +12,7 @@ ghost use Rattle.disk_store.specs.Opened.{IsBegun, IsLeft, IsNoLoss, IsOpened, I
 use crate::fault::NotOpened;
 use crate::filing::members_of;
 use crate::finding::{find, table_of};
-use crate::shortening::shorten_all;
+use crate::shortening::shorten;
 use disk_file::DiskFile;
 use embedded::configuration;
 use embedded::recovery::Rebuilt;
@@ -30,8 +30,8 @@ pub struct DiskStore {
     pub store: FileStore<DiskFile, RegistryFile<DiskFile>>,
     /// How many objects the last life left.
     pub recovered: u64,
-    /// No other process has the folders as long as the store lives.
-    folders: Folders,
+    /// The folders. No other process has one of them as long as the store lives.
+    pub folders: Folders,
 }
 
 /// Tests whether masters can be made with these options.
@@ -206,6 +206,6 @@ impl DiskStore {
             ≡ fleet_state noted_by self.old.store.master.fleet }
         ensures valid { IsValid self.new.store.master.knows (fleet_state noted_by self.new.store.master.fleet) }
     {
-        shorten_all(rt, &self.folders, &mut self.store.master)
+        shorten(rt, &self.folders, &mut self.store)
     }
 }

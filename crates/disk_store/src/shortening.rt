@@ -8,6 +8,7 @@ ghost use Rattle.recovery.specs.master.Valid.{IsValid};
 use disk_file::DiskFile;
 use embedded::recovery::master::Master;
 use file_fleet::{FileFleet, Member};
+use file_store::FileStore;
 use registry_file::RegistryFile;
 use replica::{Fleet, Holding};
 use std::alloc::Global;
@@ -65,8 +66,22 @@ fn shorten_one(
     Ok(())
 }
 
+/// Writes each file of a store anew that is long: `DiskStore::shorten` says when. It is for those who have lent the store
+/// and its folders apart.
+pub fn shorten(
+    rt: &HostRuntime,
+    folders: &Folders,
+    store: &mut FileStore<DiskFile, RegistryFile<DiskFile>>,
+) -> Result<(), StoreFault>
+    ensures knows { store.new.master.knows ≡ store.old.master.knows }
+    ensures fleet { fleet_state noted_by store.new.master.fleet ≡ fleet_state noted_by store.old.master.fleet }
+    ensures valid { IsValid store.new.master.knows (fleet_state noted_by store.new.master.fleet) }
+{
+    shorten_all(rt, folders, &mut store.master)
+}
+
 /// Writes each file anew that is long. The call ends at the first fault.
-pub(crate) fn shorten_all(
+fn shorten_all(
     rt: &HostRuntime,
     folders: &Folders,
     master: &mut Master<DiskFleet>,
@@ -75,15 +90,12 @@ pub(crate) fn shorten_all(
     ensures fleet { fleet_state noted_by master.new.fleet ≡ fleet_state noted_by master.old.fleet }
     ensures valid { IsValid master.new.knows (fleet_state noted_by master.new.fleet) }
 {
+    let mut result = Ok(());
     for backup in 0..master.fleet.members().backups() {
-        match shorten_one(rt, folders, master, backup) {
-            Ok(()) => {}
-            Err(fault) => {
-                master.show_valid();
-                return Err(fault);
-            }
+        if result.is_ok() {
+            result = shorten_one(rt, folders, master, backup);
         }
     }
     master.show_valid();
-    Ok(())
+    result
 }

@@ -4,8 +4,11 @@ use crate::until_end::UntilEnd;
 use crate::{BLOCK, Flags, MISUSE};
 use clap::Error;
 use command_line::{Options as Asked, options};
-use disk_lines::{ErrorOutput, ScriptFault, report, run_lines};
-use disk_store::{DiskStore, NotOpened, NotStarted, Options, kept_options};
+use disk_lines::{ErrorOutput, ScriptFault, Upkeep, report, run_lines};
+use disk_store::{
+    DiskFile, DiskStore, FileStore, Folders, NotOpened, NotStarted, Options, RegistryFile,
+    kept_options, shorten,
+};
 use next_master::with_limit;
 use std::io::{BufReader, BufWriter, Write};
 use std::time::{SystemTime, UNIX_EPOCH};
@@ -127,6 +130,26 @@ fn refuse_start(rt: &HostRuntime, fault: &NotStarted) -> u8 {
     NOT_OPENED
 }
 
+/// Writes long files anew once in so many lines.
+const TURNS: u64 = 1_024;
+
+/// What is done between the lines of a script: long files are written anew from time to time. If that fails, the store
+/// goes on with the files that it has.
+struct Shortening<'a> {
+    rt: &'a HostRuntime,
+    folders: &'a Folders,
+    turns: u64,
+}
+
+impl<'a> Upkeep<DiskFile, RegistryFile<DiskFile>> for Shortening<'a> {
+    fn between(&mut self, store: &mut FileStore<DiskFile, RegistryFile<DiskFile>>) {
+        self.turns = self.turns.wrapping_add(1);
+        if self.turns % TURNS == 0 {
+            let _ = shorten(self.rt, self.folders, store);
+        }
+    }
+}
+
 /// Runs the script from standard input to standard output over a store, and answers the exit status. The first line
 /// that it prints says how many objects the last life left.
 fn run_opened(rt: &HostRuntime, disk: &mut DiskStore, flags: Flags) -> u8 {
@@ -148,6 +171,11 @@ fn run_opened(rt: &HostRuntime, disk: &mut DiskStore, flags: Flags) -> u8 {
         &mut reader,
         &mut writer,
         &mut disk.store,
+        &mut Shortening {
+            rt,
+            folders: &disk.folders,
+            turns: 0,
+        },
         flags.is_raw,
     ) {
         Ok(()) => 0,
