@@ -1,0 +1,5 @@
+pub mod Sames
+pub mod Holds
+pub mod Showing
+pub mod Cuts
+pub mod Openings

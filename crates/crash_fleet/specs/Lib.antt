@@ -1,0 +1,4 @@
+pub mod Same
+pub mod Images
+pub mod State
+pub mod Opened
