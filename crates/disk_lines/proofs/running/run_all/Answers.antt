@@ -9,15 +9,15 @@ loop-number-init g c = starts_running c.args.is_raw c.args.store.now.master.know
 
 pub returns-in-Ok-false : goal.returns-in-Ok-false
 returns-in-Ok-false g c = none_ran c.args.is_raw _ _ _ _ _ _ _ _ _ c.loop-number.invariant
-    c.run_next.new.store.master.knows c.in-Ok-false.field-0 c.in-Ok-false.field-0-test c.in-Ok-false.ensures
+    c.tend_next.new.store.master.knows c.in-Ok-false.field-0 c.in-Ok-false.field-0-test c.in-Ok-false.ensures
 
 pub returns-in-Err : goal.returns-in-Err
 returns-in-Err g c = fails c.args.is_raw _ _ _ _ _ _ _ _ _ c.loop-number.invariant
-    c.run_next.new.store.master.knows c.in-Err.fault c.in-Err.ensures
+    c.tend_next.new.store.master.knows c.in-Err.fault c.in-Err.ensures
 
 pub loop-number-preserved : goal.loop-number-preserved
 loop-number-preserved g c = more_ran c.args.is_raw _ _ _ _ _ _ _ _ _ c.loop-number.invariant
-    c.run_next.new.store.master.knows c.in-Ok-true.field-0 c.in-Ok-true.field-0-test c.in-Ok-true.ensures
+    c.tend_next.new.store.master.knows c.in-Ok-true.field-0 c.in-Ok-true.field-0-test c.in-Ok-true.ensures
 
 pub returns : goal.returns
 returns g c =
