@@ -172,7 +172,7 @@ def long_files_are_written_anew(program, folder):
     want(run(program, folder, b"".join(put), words)[0].count(b"ok "), 150)
     for _ in range(2):
         output, errors, status = run(program, folder, b"get 1 1:3\nlist 1\n", ["--raw"])
-        want((output[:12], output[12:24], output[-9:], errors, status), (b"recovered 4\n", b"148 200000:7", b"listed 4\n", b"", 0))
+        want((output[:12], output[12:24], output[-9:], errors, status), (b"recovered 4\n", b"40 200000:77", b"listed 4\n", b"", 0))
         sizes = [os.path.getsize(f"{folder}/{name}") for name in backups(folder)]
         if len(sizes) != 3 or max(sizes) > 20_000_000:
             raise Wrong(f"the files of four values of 200,000 bytes have {sizes} bytes")
