@@ -135,6 +135,7 @@ const TURNS: u64 = 1_024;
 
 /// What is done between the lines of a script: long files are written anew from time to time. If that fails, the store
 /// goes on with the files that it has.
+#[derive(Drop)]
 struct Shortening<'a> {
     rt: &'a HostRuntime,
     folders: &'a Folders,
