@@ -356,9 +356,11 @@ module _ (d : MasterData) (f : FleetState) (running : d.is_halted ≡ false) (ne
 
     opens : (e : FailData) → IsMendOp (turned_data d) (push.Head (first_next d)) (mend_op (turned_data d) (push.Head (first_next d))) e
         → (n : Start) × OpensNew (rolling (log_of d) n (Opens n)) (mend_op (turned_data d) (push.Head (first_next d))) e
-    opens e is =
-        (next_now d, subst (λ (l : FailData). OpensNew l (mend_op (turned_data d) (push.Head (first_next d))) e) turn.log
-        (open_asks d (mend_op (turned_data d) (push.Head (first_next d))) e is))
+    opens e is = (
+      next_now d,
+      subst (λ (l : FailData). OpensNew l (mend_op (turned_data d) (push.Head (first_next d))) e) turn.log
+          (open_asks d (mend_op (turned_data d) (push.Head (first_next d))) e is),
+    )
 
     counted : IsCore (mended_data d push.Turn) → IsCore (mended_data (turned_data d) (push.Head (first_next d)))
     counted = subst IsCore (sym (open_counts d))

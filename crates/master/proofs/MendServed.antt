@@ -303,14 +303,13 @@ module _ (d : MasterData) (id : ℕ) (f : FleetState) (running : d.is_halted ≡
     mend_passed d running failing,
     inr (inr (
       later_may d (push.Raise id) tt next,
-      raise_tells d f id (IsPushOp (world_of d f))
-          (
-            push.Raise id,
-            (raised_push served).asks.0,
-            next,
-            not_turn (push.Raise id) tt,
-            inr (failing, (raised_push served).asks.1),
-          ) failing b g x refused,
+      raise_tells d f id (IsPushOp (world_of d f)) (
+        push.Raise id,
+        (raised_push served).asks.0,
+        next,
+        not_turn (push.Raise id) tt,
+        inr (failing, (raised_push served).asks.1),
+      ) failing b g x refused,
     )),
   )
 

@@ -370,14 +370,13 @@ module _ {Holds : FailData → FailMemory → FleetState → Type 0} (lasts : La
     push_passed d push running waits,
     inr (inr (
       calm_may d calm,
-      failed_tells d f backup (segment_of d.head push) (act_now d push) (IsPushOp (world_of d f))
-          (
-            kind.Head push,
-            log_of (pushed_data d push),
-            inl (calm, waits),
-            (λ turn. (cc)),
-            inl (calm, told),
-          ) g x refused
+      failed_tells d f backup (segment_of d.head push) (act_now d push) (IsPushOp (world_of d f)) (
+        kind.Head push,
+        log_of (pushed_data d push),
+        inl (calm, waits),
+        (λ turn. (cc)),
+        inl (calm, told),
+      ) g x refused
           (push_not_wrong g x refused),
     )),
   )
