@@ -6,6 +6,7 @@
 //! on `file_fleet` and `embedded`.
 #![tactic(auto)]
 
+mod groups;
 mod starting;
 mod store;
 

@@ -27,7 +27,7 @@ pub struct FileStore<D: Device, R: FleetRegistry> {
     /// The master, over the fleet with files.
     pub master: Master<FileFleet<D, R>>,
     /// What the cleaner has noted of segments.
-    notes: Notes,
+    pub(crate) notes: Notes,
 }
 
 impl<D: Device, R: FleetRegistry> FileStore<D, R> {
