@@ -4,6 +4,7 @@
 //   EIO, ENOSPC   by this error; a further call on the same file ends the process by a signal
 //   EINTR         by this error, as if a signal had interrupted it
 //   short         it isn't a failure: each pwrite from then on takes 3 bytes at most
+//   hang          it doesn't return, until the process is killed
 
 #define _GNU_SOURCE
 #include <dlfcn.h>
@@ -28,6 +29,7 @@ static int failure(int file) {
   fprintf(stderr, "fail_call: call %d, %s\n", calls, how());
   if (!strcmp(how(), "EINTR")) return EINTR;
   if (!strcmp(how(), "short")) return 0;
+  while (!strcmp(how(), "hang")) pause();
   failed_file = file;
   return strcmp(how(), "ENOSPC") ? EIO : ENOSPC;
 }

@@ -210,12 +210,19 @@ def one_process_has_a_folder(program, folder):
 
 # ---- calls that fail
 
-def fails_at(program, folder, library, how, number):
-    """One life in which a call on a file fails, and the next one. Gives whether there was such a call."""
+def failing(library, how, number):
+    """The environment of a process in which a call on a file fails."""
+    return {**os.environ, "LD_PRELOAD": library, "FAIL_CALL": str(number), "FAIL_HOW": how}
+
+
+def fails_at(program, folder, library, how, number, size):
+    """One life, of groups of so many lines, in which a call on a file fails, and the next one. Gives whether there was
+    such a call."""
     lines = [*some_lines(random.Random(number), 30, 0)]
-    named = {**os.environ, "LD_PRELOAD": library, "FAIL_CALL": str(number), "FAIL_HOW": how}
-    ended = subprocess.run([program, f"--dir={folder}"], input=b"".join(line for line, _, _ in lines), capture_output=True,
-                           timeout=SECONDS, env=named)
+    # A line that isn't a command ends a group.
+    text = b"".join(line + (b"#\n" if at % size == size - 1 else b"") for at, (line, _, _) in enumerate(lines))
+    ended = subprocess.run([program, f"--dir={folder}"], input=text, capture_output=True, timeout=SECONDS,
+                           env=failing(library, how, number))
     if b"fail_call" not in ended.stderr:
         return False
     answered = sum(row.startswith((b"ok ", b"none")) for row in ended.stdout.split(b"\n"))
@@ -233,9 +240,101 @@ def calls_that_fail_lose_nothing(program, folder):
     for how in ("EIO", "ENOSPC", "EINTR", "short"):
         for number in (*range(1, 10), *range(10, 200, 17)):
             os.mkdir(f"{folder}/store")
-            if not fails_at(program, f"{folder}/store", library, how, number):
+            if not fails_at(program, f"{folder}/store", library, how, number, 1):
                 raise Wrong(f"there is no call {number}")
             shutil.rmtree(f"{folder}/store")
+
+
+# ---- groups
+
+def calls_of(program, folder, library, script):
+    """How many calls on files a process makes for a script, up to 4,000, by halves."""
+    least, most = 0, 4000
+    while least < most:
+        number = (least + most + 1) // 2
+        shutil.copytree(folder, f"{folder}-copy")
+        ended = subprocess.run([program, f"--dir={folder}-copy"], input=script, capture_output=True, timeout=SECONDS,
+                               env=failing(library, "EINTR", number))
+        shutil.rmtree(f"{folder}-copy")
+        if b"fail_call" in ended.stderr:
+            least = number
+        else:
+            most = number - 1
+    return least
+
+
+def a_group_shares_its_syncs(program, folder):
+    """Commands at hand together make as many calls as one; a line that is no command ends a group."""
+    library, store = compiled("fail_call", folder), f"{folder}/store"
+    os.mkdir(store)
+    run(program, store)
+    puts = [b"put 1 k%d v\n" % number for number in range(300)]
+    none, one = (calls_of(program, store, library, script) for script in (b"", puts[0]))
+    want([calls_of(program, store, library, script) - none for script in (b"".join(puts), b"#\n".join(puts[:5]))],
+         [one - none, 5 * (one - none)])
+
+
+def a_group_is_answered_in_order(program, folder):
+    """What is printed is what the same lines print one by one, refusals too."""
+    dice, script = random.Random(5), [b"put 9 a x\n", b"get 1 none\n"]
+    for number in range(2000):
+        key = b"k%d" % dice.randrange(30)
+        script.append(dice.choice([
+            b"put 1 %s %d%s\n" % (key, number, b"v" * dice.choice([1, 100, 3000])), b"get 1 %s\n" % key, b"del 1 %s\n" % key,
+            b"new 2 %s n%d\n" % (key, number), b"cas 1 %s %d c\n" % (key, dice.randrange(number + 1)), b"put 9 a x\n", b"# -\n",
+            b"get 2 %s\n" % key, b"crash\n", b"list 2\n"]))
+    words = ["--seglets=256", "--history=1500"]
+    outputs = []
+    for name, ends in (("together", b""), ("alone", b"#\n")):
+        os.mkdir(f"{folder}/{name}")
+        outputs.append(run(program, f"{folder}/{name}", b"".join(line + ends for line in script), words))
+    want(outputs[0], outputs[1])
+    want((outputs[0][1:], outputs[0][0].count(b"\n") > 1800), ((b"", 0), True))
+
+
+def a_group_is_answered_after_its_syncs(program, folder):
+    """A process hangs in a call on a file, and is killed. No command of the group has an answer then, though all answers
+    together are longer than what the program holds back. The next process has the table from before, or after it."""
+    library, store, value = compiled("fail_call", folder), f"{folder}/store", b"v" * 15000
+    os.mkdir(store)
+    run(program, store, b"put 1 1:a 15000:%s\n" % value, ["--raw"])
+    script = b"put 1 1:b 1:x\n" + b"get 1 1:a\n" * 20
+    whole = calls_of(program, store, library, b"")
+    for number in range(1, 200):
+        shutil.copytree(store, f"{folder}/copy")
+        with open(f"{folder}/printed", "wb+") as printed:
+            with subprocess.Popen([program, f"--dir={folder}/copy", "--raw"], stdin=subprocess.PIPE, stdout=printed,
+                                  stderr=subprocess.PIPE, env=failing(library, "hang", number)) as it:
+                it.stdin.write(script)
+                it.stdin.close()
+                has_hung = it.stderr.readline().startswith(b"fail_call")
+                if has_hung:
+                    it.kill()
+            printed.seek(0)
+            output = printed.read()
+        if has_hung and output not in (b"", b"recovered 1\n"):
+            raise Wrong(f"call {number} of the files hangs, and this is printed: {output[:100]!r}")
+        found = run(program, f"{folder}/copy", b"list 1\n", ["--raw"])[0].split(b"\n")[-2]
+        if found not in ((b"listed 1", b"listed 2") if has_hung else (b"listed 2",)):
+            raise Wrong(f"call {number} hung, and the next process finds {found!r}")
+        shutil.rmtree(f"{folder}/copy")
+        if not has_hung:
+            want((output.count(b"\n"), number > whole), (22, True))
+            return
+    raise Wrong("a group makes more than 200 calls")
+
+
+def a_group_that_is_cut_is_unsure(program, folder):
+    """If a push fails, each command of the group is told as unsure, and what comes later is refused."""
+    library, store = compiled("fail_call", folder), f"{folder}/store"
+    os.mkdir(store)
+    run(program, store)
+    calls = calls_of(program, store, library, b"")
+    ended = subprocess.run([program, f"--dir={store}"], input=b"put 1 a x\nput 1 b y\nget 1 a\n# end\nput 1 c z\n",
+                           capture_output=True, timeout=SECONDS, env=failing(library, "EIO", calls + 1))
+    want((ended.stdout, ended.returncode), (b"recovered 0\n" + b"unsure Halted\n" * 3 + b"refused Halted\n", 0))
+    lines = [(b"", b"a", b"x"), (b"", b"b", b"y")]
+    fits(lines, 0, {}, table_of(run(program, store, b"list 1\n")[0]))
 
 
 # ---- kills
@@ -327,6 +426,7 @@ TESTS = [
     a_table_outlives_its_process, any_bytes_outlive_it, a_bad_line_ends_the_run, memory_is_used_again, a_lost_backup_is_made_anew,
     a_lost_table_is_named, other_options_are_named, a_later_run_names_no_options, several_folders_share_the_backups,
     long_files_are_written_anew, folders_are_refused, one_process_has_a_folder, calls_that_fail_lose_nothing,
+    a_group_shares_its_syncs, a_group_is_answered_in_order, a_group_is_answered_after_its_syncs, a_group_that_is_cut_is_unsure,
 ]
 
 

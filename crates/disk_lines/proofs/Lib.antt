@@ -1,3 +1,6 @@
+pub mod Telling
 pub mod Turning
+pub mod Grouping
+pub mod Places
 pub mod Others
 pub mod Shown

@@ -1,16 +1,18 @@
 //! What is printed of lines.
 
-ghost use Rattle.std.specs.Prelude.{◌≡◌, ◌++◌, ◌∷◌, [], List, ℕ};
+ghost use Rattle.std.specs.Prelude.{◌≡◌, ◌≤◌, ◌-◌, ◌++◌, ◌∷◌, [], true, length, List, ℕ};
 ghost use Rattle.std.specs.Option.{option_map};
 ghost use Rattle.history.specs.View.{shown_reply};
 ghost use Rattle.versioned_map.specs.declared.command.Reply.{Reply as MapReply};
 ghost use Rattle.raw_answers.specs.Texts.{reply_in};
-ghost use Rattle.embedded.specs.Replies.{IsReadAt, kept_reply};
+ghost use Rattle.answers.specs.driving.Served.{is_of_push};
+ghost use Rattle.embedded.specs.Replies.{IsReadAt, kept_reply, number_of};
 ghost use Rattle.disk_lines.specs.Lines.{IsShown, ShowsTable, word_of};
-ghost use Rattle.disk_lines.specs.Turns.{IsWritten};
+ghost use Rattle.disk_lines.specs.Turns.{IsPushed, IsWritten, told_at, told_from};
 
 use answers::replay::Objects;
 use answers::{Answer, ScriptFault, hand};
+use embedded::master::Refusal;
 use entry::NoMemory;
 use file_fleet::FleetRegistry;
 use file_store::{FileStore, Reply, Status};
@@ -110,6 +112,63 @@ pub(crate) fn write_reply<W: Write, D: Device, G: FleetRegistry>(
         Status::Unsure => write_words(writer, b"unsure ", word_of(reply.refusal)),
         _ => write_record(writer, store, reply.place, is_raw),
     }
+}
+
+/// The word of a refusal that a push may give.
+pub(crate) fn word_of_push(refusal: &Refusal) -> &'static str
+    requires { is_of_push refusal.now ≡ true }
+    ensures { result.now ≡ word_of (number_of refusal.now) }
+{
+    match refusal {
+        Refusal::Halted => "Halted",
+        Refusal::Spent => "Spent",
+        Refusal::NoMemory => "NoMemory",
+        _ => unreachable!(),
+    }
+}
+
+/// Writes what came of the record at a place that was pushed for: its reply, or that it isn't durable, and why.
+fn write_pushed<W: Write, D: Device, G: FleetRegistry>(
+    writer: &mut W,
+    store: &FileStore<D, G>,
+    place: u64,
+    why: &str,
+    is_raw: bool,
+) -> Result<(), ScriptFault>
+    requires { (reply : MapReply) × IsReadAt store.now.master.knows place reply }
+    ensures { IsWritten (W.contents writer.old) (W.contents writer.new)
+        (told_at is_raw store.now.master.knows why.now place) result }
+{
+    if place < store.master.durable() {
+        write_record(writer, store, place, is_raw)
+    } else {
+        write_words(writer, b"unsure ", why)
+    }
+}
+
+/// Writes what came of the records at these places, the last of which was pushed for. `why` is the word of the refusal
+/// that ended the push, if one did.
+pub(crate) fn write_group<W: Write, D: Device, G: FleetRegistry>(
+    writer: &mut W,
+    store: &FileStore<D, G>,
+    first: u64,
+    end: u64,
+    why: &str,
+    is_raw: bool,
+) -> Result<(), ScriptFault>
+    requires within { first ≤ end }
+    requires kept { store.now.master.knows.forgotten ≤ first }
+    requires there { end ≡ length store.now.master.knows.history }
+    requires pushed { IsPushed store.now.master.knows why.now }
+    ensures { IsWritten (W.contents writer.old) (W.contents writer.new)
+        (told_from is_raw store.now.master.knows why.now first (end - first)) result }
+{
+    for place in first..end {
+        if let Err(fault) = write_pushed(writer, store, place, why, is_raw) {
+            return Err(fault);
+        }
+    }
+    Ok(())
 }
 
 /// Writes the objects of a table, and how many there are.

@@ -1,12 +1,15 @@
-//! Runs lines, one by one.
+//! Runs lines: groups of commands, and other lines one by one.
 
-ghost use Rattle.std.specs.Prelude.{List, ℕ};
+ghost use Rattle.std.specs.Prelude.{◌<◌, ◌-◌, ◌^◌, List, ℕ};
 ghost use Rattle.lines.specs.Grammar.{shown_command};
+ghost use Rattle.lines.specs.Reading.{TakesLine};
 ghost use Rattle.embedded.specs.declared.reply.Reply.{Reply as ReplyValue};
 ghost use Rattle.disk_lines.specs.Lines.{CarriesOutLine, IsShown};
 ghost use Rattle.disk_lines.specs.Runs.{RunsLines};
-ghost use Rattle.disk_lines.specs.Turns.{IsWritten, PrintsText, TakesTurn};
+ghost use Rattle.disk_lines.specs.Turns.{IsWritten, Known, PrintsText, TakesTurn};
 
+use crate::answering::answer_group;
+use crate::gathering::gather;
 use crate::printing::{write_bytes, write_reply, write_table};
 use crate::serving::serve_line;
 use crate::upkeep::Upkeep;
@@ -19,9 +22,12 @@ use std::alloc::Global;
 use std::io::{BufRead, Write};
 use take_journal::Device;
 
-/// Runs the lines of the reader in order, and hands what is printed of each to the writer. It flushes the writer before
-/// it waits for more lines. With `is_raw` keys and values are any bytes, each behind its length. A bad line ends the run,
-/// and so does a fault: what was answered before is on the disk. Between the lines it calls `upkeep`.
+/// Runs the lines of the reader in order, and hands what is printed of each to the writer. Commands whose lines are at
+/// hand together, up to 1,024, are a group: they are applied one after another, then pushed together, and only then
+/// answered. So a command that is alone at hand is answered at once, and of many each pays a part of the syncs. It
+/// flushes the writer before it waits for more lines. With `is_raw` keys and values are any bytes, each behind its
+/// length. A bad line ends the run, and so does a fault: what was answered before is on the disk. Between the lines it
+/// calls `upkeep`.
 pub fn run_lines<R: BufRead, W: Write, D: Device, G: FleetRegistry, U: Upkeep<D, G>>(
     alloc: Global,
     reader: &mut R,
@@ -30,8 +36,8 @@ pub fn run_lines<R: BufRead, W: Write, D: Device, G: FleetRegistry, U: Upkeep<D,
     upkeep: &mut U,
     is_raw: bool,
 ) -> Result<(), ScriptFault>
-    // Each line was run, in order, over the store's own master. Exactly what is printed of them was written. A bad line
-    // is named.
+    // Each line was run, in order, over the store's own master, by itself or in a group. Exactly what is printed of them
+    // was written. A bad line is named.
     ensures { RunsLines is_raw store.old.master.knows store.new.master.knows
         (R.remaining reader.old) (R.remaining reader.new) (W.contents writer.old) (W.contents writer.new) result }
 {
@@ -56,20 +62,21 @@ fn run_all<R: BufRead, W: Write, D: Device, G: FleetRegistry, U: Upkeep<D, G>>(
         (R.remaining reader.old) (R.remaining reader.new) (W.contents writer.old) (W.contents writer.new) result }
 {
     let mut lines = LineReader::new(alloc);
-    for number in 1..u64::MAX {
-        match tend_next(
+    let mut number = 1;
+    while number < u64::MAX {
+        match tend_turn(
             alloc, reader, writer, &mut lines, store, upkeep, number, is_raw,
         ) {
-            Ok(true) => {}
-            Ok(false) => return Ok(()),
+            Ok(Some(next)) => number = next,
+            Ok(None) => return Ok(()),
             Err(fault) => return Err(fault),
         }
     }
     Err(ScriptFault::BadLine(u64::MAX, Reason::TooMany))
 }
 
-/// Takes the next line as `run_next` does, and calls `upkeep` behind it.
-fn tend_next<R: BufRead, W: Write, D: Device, G: FleetRegistry, U: Upkeep<D, G>>(
+/// Runs lines as `run_turn` does, and calls `upkeep` behind them.
+fn tend_turn<R: BufRead, W: Write, D: Device, G: FleetRegistry, U: Upkeep<D, G>>(
     alloc: Global,
     reader: &mut R,
     writer: &mut W,
@@ -78,17 +85,20 @@ fn tend_next<R: BufRead, W: Write, D: Device, G: FleetRegistry, U: Upkeep<D, G>>
     upkeep: &mut U,
     number: u64,
     is_raw: bool,
-) -> Result<bool, ScriptFault>
-    ensures { TakesTurn is_raw store.old.master.knows store.new.master.knows number
+) -> Result<Option<u64>, ScriptFault>
+    requires { number < 2 ^ 64 - 1 }
+    ensures { TakesTurn is_raw number store.old.master.knows store.new.master.knows
         (R.remaining reader.old) (R.remaining reader.new) (W.contents writer.old) (W.contents writer.new) result }
 {
-    let ran = run_next(alloc, reader, writer, lines, store, number, is_raw);
+    let ran = run_turn(alloc, reader, writer, lines, store, number, is_raw);
     upkeep.between(store);
     ran
 }
 
-/// Takes the next line, which has this number, and runs it. Answers whether more lines may come.
-fn run_next<R: BufRead, W: Write, D: Device, G: FleetRegistry>(
+/// Runs lines from the one with this number on: a group of commands that are at hand together, and the line that ends
+/// it, if one does. Either may be missing. The commands of the group are applied, then pushed together, and only then
+/// answered. Answers the number of the next line, if one may come.
+fn run_turn<R: BufRead, W: Write, D: Device, G: FleetRegistry>(
     alloc: Global,
     reader: &mut R,
     writer: &mut W,
@@ -96,24 +106,63 @@ fn run_next<R: BufRead, W: Write, D: Device, G: FleetRegistry>(
     store: &mut FileStore<D, G>,
     number: u64,
     is_raw: bool,
-) -> Result<bool, ScriptFault>
-    ensures { TakesTurn is_raw store.old.master.knows store.new.master.knows number
+) -> Result<Option<u64>, ScriptFault>
+    requires { number < 2 ^ 64 - 1 }
+    ensures { TakesTurn is_raw number store.old.master.knows store.new.master.knows
         (R.remaining reader.old) (R.remaining reader.new) (W.contents writer.old) (W.contents writer.new) result }
 {
-    match lines.next_line(reader, writer, is_raw) {
-        Ok(Taken::Ended) => match run_text(alloc, writer, store, lines.text(), number, is_raw) {
-            Ok(()) => Ok(true),
-            Err(fault) => Err(fault),
-        },
-        Ok(Taken::Last) => match run_text(alloc, writer, store, lines.text(), number, is_raw) {
-            Ok(()) => Ok(false),
-            Err(fault) => Err(fault),
-        },
-        Ok(Taken::Nothing) => Ok(false),
-        Ok(Taken::TooLong) => Err(ScriptFault::BadLine(number, Reason::TooLong)),
+    store.master.show_valid();
+    let (count, gathered) = gather(reader, writer, lines, store, number, is_raw);
+    store.master.show_valid();
+    if let Err(fault) = answer_group(writer, store, count, is_raw) {
+        return Err(fault);
+    }
+    match gathered {
+        Ok(Some(taken)) => {
+            run_taken(
+                alloc,
+                writer,
+                store,
+                lines.text(),
+                taken,
+                number + count,
+                is_raw,
+            )
+        }
+        Ok(None) => Ok(Some(number + count)),
         Err(ReadFault::ReadFailed) => Err(ScriptFault::ReadFailed),
         Err(ReadFault::WriteFailed) => Err(ScriptFault::WriteFailed),
         Err(ReadFault::NoMemory) => Err(ScriptFault::NoMemory),
+    }
+}
+
+/// Runs the line that was taken behind a group, which has this number, by itself. Answers the number of the next line,
+/// if one may come.
+fn run_taken<W: Write, D: Device, G: FleetRegistry>(
+    alloc: Global,
+    writer: &mut W,
+    store: &mut FileStore<D, G>,
+    text: &[u8],
+    taken: Taken,
+    number: u64,
+    is_raw: bool,
+) -> Result<Option<u64>, ScriptFault>
+    requires { number < 2 ^ 64 - 1 }
+    ensures { (had left : Known) → TakesLine is_raw had left text.now taken
+        → TakesTurn is_raw number store.old.master.knows store.new.master.knows had left
+        (W.contents writer.old) (W.contents writer.new) result }
+{
+    match taken {
+        Taken::Ended => match run_text(alloc, writer, store, text, number, is_raw) {
+            Ok(()) => Ok(Some(number + 1)),
+            Err(fault) => Err(fault),
+        },
+        Taken::Last => match run_text(alloc, writer, store, text, number, is_raw) {
+            Ok(()) => Ok(None),
+            Err(fault) => Err(fault),
+        },
+        Taken::Nothing => Ok(None),
+        Taken::TooLong => Err(ScriptFault::BadLine(number, Reason::TooLong)),
     }
 }
 

@@ -1,4 +1,4 @@
-use Rattle.disk_lines.proofs.Turning.{flushes, fails_to_flush}
+use Rattle.disk_lines.proofs.Telling.{flushes, fails_to_flush}
 use Rattle.disk_lines.proofs.running.run_lines.Goals as goal
 
 pub returns-in-Ok : goal.returns-in-Ok
