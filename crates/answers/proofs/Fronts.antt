@@ -11,7 +11,7 @@ use Rattle.std.proofs.lemmas.List.Concat.{flat_map-append}
 use Rattle.std.specs.List.{flat_map}
 use Rattle.std.specs.Io.KnownBytes.{Appends, Keeps}
 use Rattle.std.specs.Prelude.{Option, None, Some, IfSome, codes, Result, Ok, Err, is_err, IsErr}
-use Rattle.answers.specs.Errors.{AppendsFront, Errors, IsHanded, Writes, WritesUnless}
+use Rattle.answers.specs.Errors.{AppendsFront, Errors, IsHanded, Reports, Writes, WritesUnless}
 
 -- what was written of some bytes is written of more
 pub cut_there : (held holds : Option (List ℕ)) (bytes more : List ℕ) → AppendsFront held holds bytes
@@ -78,6 +78,18 @@ writes_lines a b c d line more first next flushed =
     writes_all a c d (line ++ more a.explains)
     (writes_more a b c line (more a.explains) first (subst
     (λ (e : Bool). Writes b c (more e)) first.explains next)) flushed
+
+pub reports_explain : (a b : Errors) (bytes : List ℕ) → Reports a b bytes → b.explains ≡ a.explains
+reports_explain a b [] same = ap (λ (e : Errors). e.explains) same
+reports_explain a b (x ∷ xs) writes = writes.explains
+
+-- some bytes were reported, and then more
+pub reports_join : (a b c : Errors) (bytes more : List ℕ) → Reports a b bytes → Reports b c more
+    → Reports a c (bytes ++ more)
+reports_join a b c [] more same next = subst (λ (e : Errors). Reports e c more) same next
+reports_join a b c (x ∷ xs) [] first same =
+    subst (Reports a c) (sym (append-nil (x ∷ xs))) (subst (λ (e : Errors). Reports a e (x ∷ xs)) (sym same) first)
+reports_join a b c (x ∷ xs) (y ∷ ys) first next = writes_more a b c (x ∷ xs) (y ∷ ys) first next
 
 -- the pieces of a line
 pub line_pieces : (before words more number after : List ℕ)

@@ -1,5 +1,5 @@
 -- What is written, and what is written to the error output.
-use Rattle.std.specs.Prelude.{◌≡◌, ℕ, List, ◌++◌, Bool, true, false, Option, Result, Ok, Err}
+use Rattle.std.specs.Prelude.{◌≡◌, ℕ, List, [], ◌∷◌, ◌++◌, Bool, true, false, Option, Result, Ok, Err}
 use Rattle.std.specs.Io.KnownBytes.{Appends, Keeps}
 
 -- what an error output holds, whether writing to it has failed, and whether it is to explain faults
@@ -28,3 +28,8 @@ WritesUnless true true held holds bytes = Keeps held holds
 pub record Writes (old new : Errors) (bytes : List ℕ) : Type 0 where
   pub written : WritesUnless old.has_failed new.has_failed old.holds new.holds bytes
   pub explains : new.explains ≡ old.explains
+
+-- these bytes were written to the error output; without bytes it is as it was
+abbrev pub Reports : Errors → Errors → List ℕ → Type 0
+Reports old new [] = new ≡ old
+Reports old new (b ∷ bs) = Writes old new (b ∷ bs)

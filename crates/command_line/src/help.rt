@@ -82,12 +82,12 @@ Limits:
   before it is printed, and a later run finds the table that this one left. A folder without a store gets one. The
   first line that is printed is 'recovered N'. Then come the replies of put, new, cas, get and del, and the rows of
   'list'. Any other line is 'refused NotOnDisk'. A command that was made, and isn't known to be on the disk, is
-  'unsure NAME'. A new store has by default 3 replicas, segments of 65536 bytes, seglets of 4096, 1024 of these, and
+  'unsure NAME'. A new store has by default 3 replicas, segments of 262144 bytes, seglets of 4096, 16384 of these, and
   format 2. A later run has the options of the first one where it names none; --seglets, --history, --largest and
   --live may be others. With several --dir, backup B is in folder B mod their number, and a later run names the same
-  folders in the same order. The store cleans and forgets by itself. A bad line ends the run, so there is no
-  --keep-going. If a folder isn't opened, 'ramlog: folder N: TEXT' says why: 1 the folder, 2 it is in use, 3 its
-  registry, 4 an option, 5 a backup's file, 6 the disk, 7 memory, 8 the table is lost, 9 no master could begin with it.
+  folders in the same order. The store cleans and forgets by itself. If a folder isn't opened, 'ramlog: folder N: TEXT'
+  says why: 1 the folder, 2 it is in use, 3 its registry, 4 an option, 5 a backup's file, 6 the disk, 7 memory, 8 the
+  table is lost, 9 no master could begin with it.
   Up to 64 callers, its seats, share a master: the script is one, and 'clients' has up to 63.
 
 Refusals. A line that is refused prints 'refused NAME', and the script goes on:

@@ -4,11 +4,12 @@ use Rattle.std.proofs.Common.{arith, inl, refl, append-nil, append_assoc}
 use Rattle.std.proofs.Common.{◌&&◌}
 use Rattle.std.specs.Prelude.{Option, None, Some, Ok, Err, codes}
 use Rattle.std.specs.Fmt.{decimal}
-use Rattle.std.specs.Io.KnownBytes.{Appends, Keeps}
-use Rattle.std.proofs.KnownBytes.{Appends-kept, Appends-nil, Appends-trans, Keeps-trans}
+use Rattle.std.specs.Io.KnownBytes.{Appends}
+use Rattle.std.proofs.KnownBytes.{Appends-kept, Appends-nil}
+use Rattle.raw_answers.proofs.of_answers.Fronts.{writes_more}
 use Rattle.lines.specs.Grammar.{LineValue, Idle}
 use Rattle.lines.specs.Reading.{IsLineText}
-use Rattle.next_master.specs.answers.Errors.{AppendsFront, Errors, Writes, WritesUnless}
+use Rattle.next_master.specs.answers.Errors.{Errors, Reports, Writes}
 use Rattle.next_master.specs.answers.Texts.{fault_lines}
 use Rattle.next_master.specs.answers.declared.answer.Answer.{Answer}
 use Rattle.next_master.specs.answers.declared.answer.Answer.TheVariants.{Silent}
@@ -17,52 +18,12 @@ use Rattle.next_master.specs.answers.declared.fault.ScriptFault.TheVariants as f
 use Rattle.next_master.proofs.of_cluster.Standing.{stays_told}
 use Rattle.raw_answers.specs.Texts.{told_text}
 use Rattle.script.specs.declared.session.Session.{Session}
-use Rattle.script.specs.Runs.{EndsRun, IsScriptLine, Reports, ReportsAll, RunResult, has_command, has_skipped}
+use Rattle.script.specs.Runs.{EndsRun, IsScriptLine, ReportsAll, RunResult, has_command, has_skipped}
 use Rattle.script.specs.Runs.{has_unsure, made_by, may_be_made, report_of, reports_of, skips_as, unsure_line}
 use Rattle.script.specs.Sessions.{RunsLine}
 use Rattle.script.specs.Telling.{Told}
 use Rattle.script.specs.Turns.{IsNoBadLine, PrintsText, ReportsBadLine, RunsText, TakesText}
 use Rattle.script.proofs.Sessions.{node_answers}
-
--- ---- what was written
-
--- all of some bytes was written, and a front of what follows
-cut_later : (held mid holds : Option (List ℕ)) (bytes more : List ℕ) → Appends held mid bytes
-    → AppendsFront mid holds more → AppendsFront held holds (bytes ++ more)
-cut_later held mid holds bytes more all f = (
-  bytes ++ f.0,
-  f.1,
-  ap (λ l. bytes ++ l) f.2 ∙ sym (append_assoc bytes f.0 f.1),
-  Appends-trans held mid holds bytes f.0 all f.3,
-)
-
--- nothing more was written of what follows
-cut_before : (held mid holds : Option (List ℕ)) (bytes more : List ℕ) → AppendsFront held mid bytes → Keeps mid holds
-    → AppendsFront held holds (bytes ++ more)
-cut_before held mid holds bytes more f kept = (
-  f.0,
-  f.1 ++ more,
-  ap (λ l. l ++ more) f.2 ∙ append_assoc f.0 f.1 more,
-  Appends-kept held mid holds f.0 f.3 kept,
-)
-
-writes_on : (a b c : Bool) (held mid holds : Option (List ℕ)) (bytes more : List ℕ) → WritesUnless a b held mid bytes
-    → WritesUnless b c mid holds more
-    → WritesUnless a c held holds (bytes ++ more)
-writes_on false false false held mid holds bytes more all next = Appends-trans held mid holds bytes more all next
-writes_on false false true held mid holds bytes more all next = cut_later held mid holds bytes more all next
-writes_on false true false held mid holds bytes more front next = absurd next
-writes_on false true true held mid holds bytes more front kept = cut_before held mid holds bytes more front kept
-writes_on true false c held mid holds bytes more none next = absurd none
-writes_on true true false held mid holds bytes more none next = absurd next
-writes_on true true true held mid holds bytes more kept next = Keeps-trans held mid holds kept next
-
-writes_more : (a b c : Errors) (bytes more : List ℕ) → Writes a b bytes → Writes b c more → Writes a c (bytes ++ more)
-writes_more a b c bytes more first next = record {
-  written = writes_on a.has_failed b.has_failed c.has_failed a.holds b.holds c.holds bytes more
-      first.written next.written;
-  explains = next.explains ∙ first.explains;
-}
 
 -- ---- commands that may have been made
 
@@ -95,18 +56,6 @@ all_reported before after told (Err (fault.BadLine n why)) reports = reports
 all_reported before after told (Err fault.ReadFailed) reports = reports
 all_reported before after told (Err fault.WriteFailed) reports = inl reports
 all_reported before after told (Err fault.NoMemory) reports = reports
-
-pub reports_explain : (a b : Errors) (bytes : List ℕ) → Reports a b bytes → b.explains ≡ a.explains
-reports_explain a b [] same = ap (λ (e : Errors). e.explains) same
-reports_explain a b (x ∷ xs) writes = writes.explains
-
--- some bytes were reported, and then more
-pub reports_join : (a b c : Errors) (bytes more : List ℕ) → Reports a b bytes → Reports b c more
-    → Reports a c (bytes ++ more)
-reports_join a b c [] more same next = subst (λ (e : Errors). Reports e c more) same next
-reports_join a b c (x ∷ xs) [] first same =
-    subst (Reports a c) (sym (append-nil (x ∷ xs))) (subst (λ (e : Errors). Reports a e (x ∷ xs)) (sym same) first)
-reports_join a b c (x ∷ xs) (y ∷ ys) first next = writes_more a b c (x ∷ xs) (y ∷ ys) first next
 
 -- the reports of one line more
 pub reports_more : (explains : Bool) (first : ℕ) (told : List Told) (t : Told) (number : ℕ)

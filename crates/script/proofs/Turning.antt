@@ -24,8 +24,8 @@ use Rattle.next_master.specs.answers.declared.fault.ScriptFault.TheVariants as f
 use Rattle.script.specs.declared.session.Session.{Session}
 use Rattle.script.specs.Runs.{AreRunOn, IsScriptLine, IsTurn, texts_of, answers_of, AreLines, IsTakenLine}
 use Rattle.script.specs.Runs.{IsBadLine, IsReasonFor, EndsRun, EndsWith, CutsLast, Prints, RunsScript}
-use Rattle.script.specs.Runs.{Reports, ReportsAll, has_command, has_skipped, report_of, reports_of, skips_as}
-use Rattle.next_master.specs.answers.Errors.{AppendsFront, Errors}
+use Rattle.script.specs.Runs.{ReportsAll, has_command, has_skipped, report_of, reports_of, skips_as}
+use Rattle.next_master.specs.answers.Errors.{AppendsFront, Errors, Reports}
 use Rattle.command_line.specs.declared.settings.Options.{Options}
 use Rattle.lines.specs.Grammar.{LineValue, Recover}
 use Rattle.next_master.specs.Configuration.{config_of, MayBegin}
@@ -40,9 +40,8 @@ use Rattle.script.specs.Telling.{at_first, Moves, AreTelling, TellLives, Told}
 use Rattle.next_master.specs.cluster.Told.{Tells}
 use Rattle.script.specs.Turns.{FailsTurn, IsNoMore, IsPrinted, IsPrintedPlain, PrintsText, RunsText, TakesText}
 use Rattle.script.specs.Turns.{TakesTurn, TellsTurn}
-use Rattle.script.proofs.Skipping.{all_reported}
-use Rattle.script.proofs.Skipping.{ends_none, fleet_line, has_more, reports_explain, reports_join, reports_more}
-use Rattle.script.proofs.Skipping.{runs_told}
+use Rattle.raw_answers.proofs.of_answers.Fronts.{reports_explain, reports_join}
+use Rattle.script.proofs.Skipping.{all_reported, ends_none, fleet_line, has_more, reports_more, runs_told}
 use Rattle.script.proofs.Sessions.{begins_later, options_kept, options_renewed, options_stay, renewed_begins, told_of}
 use Rattle.script.proofs.Forgetting.{same_config, same_set, still_begins, still_covered, still_numbered, still_there}
 use Rattle.script.proofs.Forgetting.{still_unraised}

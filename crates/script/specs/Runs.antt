@@ -16,7 +16,7 @@ use Rattle.lines.specs.declared.reason.Reason.TheVariants.{NoBackup, NoLaterMast
 use Rattle.next_master.specs.answers.declared.answer.Answer.TheVariants.{Silent}
 use Rattle.next_master.specs.answers.declared.fault.ScriptFault.{ScriptFault}
 use Rattle.next_master.specs.answers.declared.fault.ScriptFault.TheVariants.{BadLine, ReadFailed, WriteFailed, NoMemory}
-use Rattle.next_master.specs.answers.Errors.{Errors, Writes}
+use Rattle.next_master.specs.answers.Errors.{Errors, Reports}
 use Rattle.next_master.specs.answers.Texts.{error_line, fault_lines}
 use Rattle.next_master.specs.cluster.Told.{command_of}
 use Rattle.next_master.specs.cluster.declared.node.Node.{Node}
@@ -171,11 +171,6 @@ report_of explains number t = report_as explains number t.skipped ++ unsure_line
 abbrev pub reports_of : Bool → ℕ → List Told → List ℕ
 reports_of explains number [] = []
 reports_of explains number (t ∷ ts) = report_of explains number t ++ reports_of explains (suc number) ts
-
--- these bytes were written to the error output; without bytes it is as it was
-abbrev pub Reports : Errors → Errors → List ℕ → Type 0
-Reports old new [] = new ≡ old
-Reports old new (b ∷ bs) = Writes old new (b ∷ bs)
 
 -- These lines were reported. If the writer failed, the last of them may be left out.
 abbrev pub ReportsAll : Errors → Errors → List Told → RunResult → Type 0

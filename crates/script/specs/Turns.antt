@@ -15,11 +15,11 @@ use Rattle.script.specs.declared.session.LineFault.{LineFault}
 use Rattle.script.specs.declared.session.LineFault.TheVariants as line_fault
 use Rattle.script.specs.declared.session.Session.{Session}
 use Rattle.script.specs.Runs.{IsOfFleet, IsTakenLine, IsBadLine, IsReasonFor, IsReasonOf, IsRefusedText, IsScriptLine}
-use Rattle.script.specs.Runs.{EndsRun, IsTurn, Reports, has_command, report_of, skips_as}
+use Rattle.script.specs.Runs.{EndsRun, IsTurn, has_command, report_of, skips_as}
 use Rattle.script.specs.Sessions.{Forgets, RunsTurn, SetsLater, later_after}
 use Rattle.script.specs.Telling.{Told}
 use Rattle.next_master.specs.Configuration.{MayBegin}
-use Rattle.next_master.specs.answers.Errors.{AppendsFront, Errors, Writes}
+use Rattle.next_master.specs.answers.Errors.{AppendsFront, Errors, Reports, Writes}
 use Rattle.next_master.specs.answers.Texts.{fault_lines}
 
 -- what a reader has left or a writer holds, if that is known
