@@ -1440,10 +1440,12 @@ class Store:
         return None
 
     def tended_behind(self, most):
-        """Each way that so many steps of the cleaner may end: how many requests for memory it shows as refused, and the store
-        then."""
-        store = self
+        """Each way that so many steps of the cleaner behind a command may end: how many requests for memory it shows as refused,
+        and the store then. None is made behind a compaction."""
+        store, step = self, None
         for _ in range(most):
+            if step and step[0] == "compact":
+                break
             store = store if store.master.is_halted else store.waited()
             step = store.pending()
             if not step:

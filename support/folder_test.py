@@ -1,17 +1,18 @@
 #!/usr/bin/env python3
 """Tests `ramlog --dir`: a store in a folder, over many lives.
 
-  support/folder_test.py [--program=FILE] [--kills=N] [--seed=N] [NAME ..]
+  support/folder_test.py [--program=FILE] [--kills=N] [--minutes=N] [--seed=N] [NAME ..]
 
 A process runs puts and deletes over a few keys, and is killed (kill -9) at a random moment. The next process has to find the
 table that all answered lines make, or these and some of the lines that follow them, in order. N kills are made (40), with
-seed N (1). Other tests lose files, damage them, ask for other options, have two processes ask for one folder, and have calls on files
+seed N (1). With --minutes nothing is tested but kills, for so many minutes, and once a minute it says how far it is. Other tests lose files, damage them, ask for other options, have two processes ask for one folder, and have calls on files
 fail: a library put before the C library does that (support/fail_call.c).
 
 A kill ends the process and not the system: what it wrote stays in the kernel's memory. No test here cuts the power.
 The last line is 'N tests, M failed', and the status is 1 if any failed. It needs python3 on Linux, and a C compiler.
 """
 
+import itertools
 import os
 import random
 import shutil
@@ -75,6 +76,27 @@ def any_bytes_outlive_it(program, folder):
          (b"recovered 1\n1 %d:%s\n" % (2 * len(every), every * 2), b"", 0))
 
 
+def a_bad_line_is_skipped_if_the_run_keeps_going(program, folder):
+    script = b"put 1 a x\nput 1 a\nput 1 a y\nnonsense\n\nget 1 a\nnone"
+    bad = b"".join(b"ramlog: bad line %d\n" % line for line in (2, 4, 7))
+    want(run(program, folder, script, ["--keep-going"]), (b"recovered 0\nok 1\nok 2\n2 y\n", bad, 2))
+    want(run(program, folder, b"get 1 a\n", ["--keep-going"]), (b"recovered 1\n2 y\n", b"", 0))
+    output, errors, status = run(program, folder, b"put 1\nget 1 a\n", ["--keep-going", "--explain"])
+    want((output, errors[:19], errors.count(b"\n"), status), (b"recovered 1\n2 y\n", b"ramlog: bad line 1\n", 2, 2))
+    # Behind a line that is too long nobody knows where the next one begins.
+    want(run(program, folder, b"get 1 a\n" + 4097 * b"x" + b"\nget 1 a\n", ["--keep-going"]),
+         (b"recovered 1\n2 y\n", b"ramlog: bad line 2\n", 2))
+    # What stands before the bad line is answered before more is read.
+    with subprocess.Popen([program, f"--dir={folder}", "--keep-going"], stdin=subprocess.PIPE, stdout=subprocess.PIPE,
+                          stderr=subprocess.PIPE) as it:
+        it.stdin.write(b"put 1 b x\nbad\n")
+        it.stdin.flush()
+        want((it.stderr.readline(), it.stdout.readline()), (b"ramlog: bad line 2\n", b"recovered 1\n"))
+        it.stdin.write(b"get 1 b\n")
+        it.stdin.close()
+        want((it.stdout.read(), it.wait(SECONDS)), (b"ok 1\n1 x\n", 2))
+
+
 def a_bad_line_ends_the_run(program, folder):
     want(run(program, folder, b"put 1 a x\nput 1 a\nput 1 a y\n"), (b"recovered 0\nok 1\n", b"ramlog: bad line 2\n", 2))
     want(run(program, folder, b"get 1 a\ncrash\n"), (b"recovered 1\n1 x\nrefused NotOnDisk\n", b"", 0))
@@ -84,7 +106,7 @@ def memory_is_used_again(program, folder):
     """More is put than the memory of the log has, and the store cleans itself."""
     value = b"x" * 1000
     lines = b"".join(b"put 1 k%d %s\n" % (number % 50, value) for number in range(6000))
-    output, errors, status = run(program, folder, lines + b"list 1\n")
+    output, errors, status = run(program, folder, lines + b"list 1\n", ["--seglets=1024"])
     want((output.split(b"\n")[-2], output.count(b"ok "), errors, status), (b"listed 50", 6000, b"", 0))
     want(run(program, folder, b"list 1\n")[0].split(b"\n")[-2], b"listed 50")
 
@@ -283,7 +305,7 @@ def a_group_is_answered_in_order(program, folder):
             b"put 1 %s %d%s\n" % (key, number, b"v" * dice.choice([1, 100, 3000])), b"get 1 %s\n" % key, b"del 1 %s\n" % key,
             b"new 2 %s n%d\n" % (key, number), b"cas 1 %s %d c\n" % (key, dice.randrange(number + 1)), b"put 9 a x\n", b"# -\n",
             b"get 2 %s\n" % key, b"crash\n", b"list 2\n"]))
-    words = ["--seglets=256", "--history=1500"]
+    words = ["--segment=65536", "--seglets=256", "--history=1500"]
     outputs = []
     for name, ends in (("together", b""), ("alone", b"#\n")):
         os.mkdir(f"{folder}/{name}")
@@ -415,18 +437,37 @@ def one_kill(program, folder, dice, table, first):
 
 def kills(program, folder, seed, count):
     """Many lives in one folder. Gives how many lines were answered in all of them."""
-    dice, table, first, total = random.Random(seed), {}, 0, 0
-    for _ in range(count):
-        table, answered = one_kill(program, folder, dice, table, first)
-        total, first = total + answered, first + 3000
-    return total
+    return sum(itertools.islice(lives(program, folder, seed), count))
+
+
+def lives(program, folder, seed):
+    """Lives in one folder, one after another. Gives how many lines were answered in each."""
+    dice, table = random.Random(seed), {}
+    for life in itertools.count():
+        table, answered = one_kill(program, folder, dice, table, 3000 * life)
+        yield answered
+
+
+def soak(program, folder, seed, minutes):
+    """Lives in one folder, for so many minutes. Gives how many there were, and how many lines were answered in all of them."""
+    made, total, begun, told = 0, 0, time.time(), 0
+    for answered in lives(program, folder, seed):
+        made, total, passed = made + 1, total + answered, int(time.time() - begun) // 60
+        if passed > told or passed >= minutes:
+            told = passed
+            print(f"{passed} min: {made} kills, {total} answered lines, all there", flush=True)
+        if passed >= minutes:
+            return made, total
+    return made, total
 
 
 TESTS = [
-    a_table_outlives_its_process, any_bytes_outlive_it, a_bad_line_ends_the_run, memory_is_used_again, a_lost_backup_is_made_anew,
+    a_table_outlives_its_process, any_bytes_outlive_it, a_bad_line_ends_the_run,
+    a_bad_line_is_skipped_if_the_run_keeps_going, memory_is_used_again, a_lost_backup_is_made_anew,
     a_lost_table_is_named, other_options_are_named, a_later_run_names_no_options, several_folders_share_the_backups,
     long_files_are_written_anew, folders_are_refused, one_process_has_a_folder, calls_that_fail_lose_nothing,
-    a_group_shares_its_syncs, a_group_is_answered_in_order, a_group_is_answered_after_its_syncs, a_group_that_is_cut_is_unsure,
+    a_group_shares_its_syncs, a_group_is_answered_in_order, a_group_is_answered_after_its_syncs,
+    a_group_that_is_cut_is_unsure,
 ]
 
 
@@ -444,7 +485,7 @@ def tested(name, test):
 
 
 def main():
-    program, count, seed, names = f"{TOP}/crates/ramlog/out/ramlog", 40, 1, []
+    program, count, minutes, seed, names = f"{TOP}/crates/ramlog/out/ramlog", 40, None, 1, []
     for word in sys.argv[1:]:
         if word in ("-h", "--help"):
             print(__doc__.strip())
@@ -454,6 +495,8 @@ def main():
             program = value
         elif name == "--kills" and value.isdigit():
             count = int(value)
+        elif name == "--minutes" and value.isdigit():
+            minutes = int(value)
         elif name == "--seed" and value.isdigit():
             seed = int(value)
         elif word in [test.__name__ for test in TESTS]:
@@ -461,6 +504,10 @@ def main():
         else:
             print(f"folder_test: no test and no option: '{word}'; --help says more", file=sys.stderr)
             sys.exit(2)
+    if minutes is not None:
+        failed = tested(f"kills with seed {seed}", lambda folder: soak(program, folder, seed, minutes))
+        print(f"1 tests, {int(failed)} failed")
+        sys.exit(int(failed))
     chosen = [test for test in TESTS if not names or test.__name__ in names]
     failed = sum(tested(test.__name__, lambda folder, test=test: test(program, folder)) for test in chosen)
     made = len(chosen)

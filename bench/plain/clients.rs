@@ -1,7 +1,13 @@
 //! A plain Rust program of the same rules, without contracts: clients in threads of their own over one locked store. Its words
 //! are how many clients there are, how many rounds each makes, and the bytes of a segment. It prints what `ramlog` prints to
 //! the line `clients`. As there, each holding of the lock makes at most one step: it applies a command, or hands one unit to one
-//! replica. Only a roll is one step here. Two further words may say otherwise:
+//! replica. Only a roll is one step here.
+//!
+//! With the words `load`, `A`, `C` or `W`, a number of threads, of operations, of objects and of bytes, it makes what `workload`
+//! makes: half reads and half updates, reads, or updates, of objects at random with values of so many bytes, each operation
+//! timed, over three replicas of each segment of 256 kilobytes. It prints how many operations it made in a second.
+//!
+//! Two further words may say otherwise:
 //!
 //! - `three` or `six`: with `three`, as in `ramlog`, the holding that makes a step also answers a call whose record is durable
 //!   then, so a put takes the lock three times and a get once. With `six` an answer has a holding of its own.
@@ -9,11 +15,11 @@
 //!   it sleeps. With `sleep` it waits as Rust's mutex does.
 
 use std::collections::HashMap;
-use std::hint::spin_loop;
+use std::hint::{black_box, spin_loop};
 use std::sync::{Mutex, MutexGuard, TryLockError};
 use std::thread;
+use std::time::Instant;
 
-const REPLICAS: usize = 2;
 /// How often a thread tries to take the lock before it sleeps, and how long it pauses between tries, at first and at most.
 const TRIES: usize = 40;
 const FIRST_PAUSE: usize = 16;
@@ -37,7 +43,7 @@ struct Record {
     version: u64,
 }
 
-struct Master {
+struct Master<const REPLICAS: usize> {
     size: usize,
     /// The images of all segments, the head last, and the replicas of each.
     images: Vec<Vec<u8>>,
@@ -59,8 +65,8 @@ enum Applied {
     Rolling,
 }
 
-impl Master {
-    fn new(size: usize, seats: usize) -> Master {
+impl<const REPLICAS: usize> Master<REPLICAS> {
+    fn new(size: usize, seats: usize) -> Self {
         let mut master = Master {
             size,
             images: Vec::new(),
@@ -88,7 +94,7 @@ impl Master {
         }
         image.push(3);
         image.extend_from_slice(&self.safe.to_be_bytes());
-        self.replicas.push([image.clone(), image.clone()]);
+        self.replicas.push(std::array::from_fn(|_| image.clone()));
         self.images.push(image);
         self.units.clear();
         self.sent = [0; REPLICAS];
@@ -154,7 +160,7 @@ impl Master {
 
     /// Hands one unit to the replica that has the fewest, or rolls if each has all.
     fn push(&mut self, rolls: bool) {
-        let least = if self.sent[1] < self.sent[0] { 1 } else { 0 };
+        let least = (0..REPLICAS).min_by_key(|&at| self.sent[at]).unwrap();
         let at = self.sent[least];
         if at < self.units.len() {
             let replica = &mut self.replicas.last_mut().unwrap()[least];
@@ -168,16 +174,16 @@ impl Master {
 }
 
 /// A master that threads share.
-struct Store {
-    master: Mutex<Master>,
+struct Store<const REPLICAS: usize> {
+    master: Mutex<Master<REPLICAS>>,
     /// Whether the holding that makes a step answers too.
     answers_at_once: bool,
     /// Whether a thread tries again before it sleeps.
     tries: bool,
 }
 
-impl Store {
-    fn take(&self) -> MutexGuard<'_, Master> {
+impl<const REPLICAS: usize> Store<REPLICAS> {
+    fn take(&self) -> MutexGuard<'_, Master<REPLICAS>> {
         let mut pause = FIRST_PAUSE;
         for _ in 0..if self.tries { TRIES } else { 0 } {
             match self.master.try_lock() {
@@ -194,7 +200,7 @@ impl Store {
     }
 
     /// Answers the call if its record is durable, in the holding of its step.
-    fn answer(&self, master: &mut Master, seat: usize, place: usize) -> bool {
+    fn answer(&self, master: &mut Master<REPLICAS>, seat: usize, place: usize) -> bool {
         self.answers_at_once && master.settle(seat, place)
     }
 
@@ -244,7 +250,7 @@ impl Store {
 }
 
 /// All rounds of a client. Answers how many calls were accepted.
-fn serve(store: &Store, client: usize, rounds: u64) -> u64 {
+fn serve(store: &Store<2>, client: usize, rounds: u64) -> u64 {
     let seat = client + 1;
     let key = format!("c{client}");
     for round in 1..=rounds {
@@ -254,15 +260,78 @@ fn serve(store: &Store, client: usize, rounds: u64) -> u64 {
     2 * rounds
 }
 
-fn main() {
-    let words: Vec<String> = std::env::args().skip(1).collect();
-    let number = |at: usize| words[at].parse::<usize>().unwrap();
-    let (clients, rounds) = (number(0), number(1));
-    let store = Store {
-        master: Mutex::new(Master::new(number(2), 64)),
+/// The key of an object.
+fn key_of(number: u64) -> String {
+    format!("user{number}")
+}
+
+/// A value of so many bytes that no other operation writes.
+fn fresh_value(thread: u64, number: u64, length: usize) -> Vec<u8> {
+    let mut value = format!("t{thread}n{number}").into_bytes();
+    value.resize(length.max(value.len()), b'a');
+    value
+}
+
+/// The operations of one thread of a load, of which so many in a hundred are reads.
+fn operate(store: &Store<3>, thread: u64, operations: u64, objects: u64, length: usize, reads: u64) {
+    let mut word = thread.wrapping_mul(0x9E37_79B9_7F4A_7C15);
+    let mut draw = move |below: u64| {
+        word ^= word << 13;
+        word ^= word >> 7;
+        word ^= word << 17;
+        word % below
+    };
+    for number in 0..operations {
+        let (is_read, key) = (draw(100) < reads, key_of(draw(objects)));
+        let begun = Instant::now();
+        if is_read {
+            store.get(thread as usize, key.as_bytes());
+        } else {
+            store.put(thread as usize, key.as_bytes(), &fresh_value(thread, number, length));
+        }
+        black_box(begun.elapsed());
+    }
+}
+
+fn store<const REPLICAS: usize>(words: &[String], size: usize) -> Store<REPLICAS> {
+    Store {
+        master: Mutex::new(Master::new(size, 65)),
         answers_at_once: !words.iter().any(|word| word == "six"),
         tries: !words.iter().any(|word| word == "sleep"),
+    }
+}
+
+fn load(words: &[String]) {
+    let number = |at: usize| words[at].parse::<u64>().unwrap();
+    let (threads, operations, objects, length) = (number(2), number(3), number(4), number(5) as usize);
+    let reads = match words[1].as_str() {
+        "A" => 50,
+        "C" => 100,
+        _ => 0,
     };
+    let store: Store<3> = store(words, 262_144);
+    for number in 0..objects {
+        store.put(0, key_of(number).as_bytes(), &fresh_value(0, number, length));
+    }
+    let begun = Instant::now();
+    thread::scope(|scope| {
+        for thread in 1..=threads {
+            let store = &store;
+            scope.spawn(move || operate(store, thread, operations / threads, objects, length, reads));
+        }
+    });
+    let per = operations as f64 / begun.elapsed().as_secs_f64();
+    println!("{operations} operations by {threads} threads: {per:.0} a second");
+}
+
+fn main() {
+    let words: Vec<String> = std::env::args().skip(1).collect();
+    if words[0] == "load" {
+        return load(&words);
+    }
+    let number = |at: usize| words[at].parse::<usize>().unwrap();
+    let (clients, rounds) = (number(0), number(1));
+    let store: Store<2> = store(&words, number(2));
     let calls: u64 = thread::scope(|scope| {
         let started: Vec<_> = (0..clients).map(|client| scope.spawn({
             let store = &store;

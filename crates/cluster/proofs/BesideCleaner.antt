@@ -25,8 +25,8 @@ use Rattle.answers.specs.declared.answer.Answer.TheVariants as answer
 use Rattle.answers.proofs.of_driving.LeastHeads.{LeavesOthers, command_leaves}
 use Rattle.tending.specs.Low.{usual_for}
 use Rattle.tending.specs.Rounds.{MakesRound}
-use Rattle.tending.specs.Tends.{Tends}
-use Rattle.tending.proofs.LeastHeads.{leaves_on, nowhere, round_leaves, tends_leave}
+use Rattle.tending.specs.Tends.{TendsBehind}
+use Rattle.tending.proofs.LeastHeads.{behind_leaves, leaves_on, nowhere, round_leaves}
 use Rattle.cluster.specs.declared.node.Node.{Node}
 use Rattle.cluster.specs.declared.node.Node.TheVariants.{Up, Down, Changing}
 use Rattle.cluster.specs.Lives.{Life, Position, life_to}
@@ -349,7 +349,7 @@ replied_tended steps rounds some few (Up m) (Up k) (Up l) new c reply (w, way, t
         way = way;
         last = v;
         run = ran;
-        ends = (steps_made, subst (λ (x : World). Tends (usual_for x.knows.config) steps x steps_made u) on tends);
+        ends = (steps_made, subst (λ (x : World). TendsBehind (usual_for x.knows.config) steps x steps_made u) on tends);
       }),
       refl,
       ends,
@@ -467,7 +467,7 @@ way_leaves (suc rounds) old c new (mid, way, full, runs, gains) =
 ends_leave : (steps : ℕ) (result : Result Reply Refusal) (old new : World) → EndsTended steps result old new
     → LeavesOthers old new
 ends_leave steps (Ok reply) old new (made, tends) =
-    tends_leave (usual_for old.knows.config) steps old new made tends
+    behind_leaves (usual_for old.knows.config) steps old new made tends
 ends_leave steps (Err r) old new (inl (full, inl round)) =
     round_leaves (usual_for old.knows.config) old new (Ok false) round
 ends_leave steps (Err r) old new (inl (full, inr round)) =
@@ -494,7 +494,7 @@ tended_made number (suc n) Changing c new a is below = same_node number Changing
 -- ---- steps behind a command
 
 pub up_tends : (old : Node) (up m : MasterValue MemoryFleet) → old ≡ Up up → (steps : ℕ) (made : Result ℕ Refusal)
-    → Tends (usual_for up.knows.config) steps (world fleet_state up) made (world fleet_state m)
+    → TendsBehind (usual_for up.knows.config) steps (world fleet_state up) made (world fleet_state m)
     → TendsOn old steps (Up m)
 up_tends old up m is steps made tends =
     subst (λ (n : Node). TendsOn n steps (Up m)) (sym is) (made, world fleet_state m, tends, refl)

@@ -20,7 +20,7 @@ use Rattle.cluster.specs.Served.{AnswersLine, IsLeftIn, IsNodeAt, MakesCommand, 
 use Rattle.cluster.specs.Told.{command_of}
 use Rattle.cluster.specs.Waits.{IsReplyAt, MakesTryAfterRoll, StaysAt, WaitsForRoll}
 use Rattle.tending.specs.Low.{usual_for}
-use Rattle.tending.specs.Tends.{Tends}
+use Rattle.tending.specs.Tends.{TendsBehind}
 use Rattle.tending.specs.Rounds.{MakesRound}
 
 -- ---- what a master and its fleet go through
@@ -40,11 +40,11 @@ MakesWay zero old command new = new ≡ old
 MakesWay (suc rounds) old command new = (mid : World) × MakesWay rounds old command mid
     × (full : World) × RunsCommand mid command (Err Full) full × Gains full new
 
--- What the cleaner did last: up to so many steps behind a command that was carried out. Or it gained nothing for one
--- that was refused as Full. Behind any other refusal it did nothing.
+-- What the cleaner did last: up to so many steps behind a command that was carried out, of which only the last may
+-- compact a segment. Or it gained nothing for one that was refused as Full. Behind any other refusal it did nothing.
 abbrev pub EndsTended : ℕ → Result Reply Refusal → World → World → Type 0
 EndsTended steps (Ok reply) old new =
-    (made : Result ℕ Refusal) × Tends (usual_for old.knows.config) steps old made new
+    (made : Result ℕ Refusal) × TendsBehind (usual_for old.knows.config) steps old made new
 EndsTended steps (Err r) old new =
     ((r ≡ Full) × GainsNothing old new) ⊎ ((r ≡ Full → ⊥) × (new ≡ old))
 
@@ -100,11 +100,11 @@ GainsRoom (Up m) true new = (w : World) × Gains (world fleet_state m) w × (wor
 GainsRoom (Up m) false new = (w : World) × GainsNothing (world fleet_state m) w × (world_of new ≡ Some w)
 GainsRoom old gained new = (new ≡ old) × (gained ≡ false)
 
--- A node that is up just makes up to so many steps of the cleaner, whatever comes of them. Any other node does
--- nothing.
+-- A node that is up just makes up to so many steps of the cleaner, of which only the last may compact a segment,
+-- whatever comes of them. Any other node does nothing.
 abbrev pub TendsOn : Node → ℕ → Node → Type 0
 TendsOn (Up m) steps new = (made : Result ℕ Refusal) × (w : World)
-    × Tends (usual_for m.knows.config) steps (world fleet_state m) made w × (world_of new ≡ Some w)
+    × TendsBehind (usual_for m.knows.config) steps (world fleet_state m) made w × (world_of new ≡ Some w)
 TendsOn old steps new = new ≡ old
 
 -- the answer is one that each line of this command tells

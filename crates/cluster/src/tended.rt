@@ -13,7 +13,7 @@ use crate::node::Node;
 use crate::tried::Tried;
 use answers::Answer;
 use answers::driving::master::{CommandRef, Refusal};
-use tending::{Notes, Policy, make_room, tend};
+use tending::{Notes, Policy, make_room, tend_behind};
 
 /// The most rounds in which the cleaner makes room for one command. Each of them but the last gains a seglet at least.
 const MOST_ROUNDS: u64 = 65_536;
@@ -79,8 +79,8 @@ impl Node {
         }
     }
 
-    /// Makes up to so many steps of the cleaner by the usual policy. If a step is refused, what was done stays done,
-    /// and the node stays as the refusal left it.
+    /// Makes up to so many steps of the cleaner by the usual policy, and none behind one that compacts a segment. If a
+    /// step is refused, what was done stays done, and the node stays as the refusal left it.
     fn tend_on(&mut self, notes: &mut Notes, steps: u64)
         ensures stays { StaysOn self.old self.new }
         ensures tends { TendsOn self.old steps self.new }
@@ -92,7 +92,7 @@ impl Node {
         };
         up.show_valid();
         let policy = Policy::of(up.config());
-        let _ = tend(up, &policy, notes, steps);
+        let _ = tend_behind(up, &policy, notes, steps);
         up.show_valid();
     }
 

@@ -4,3 +4,4 @@ pub mod Grouping
 pub mod Places
 pub mod Others
 pub mod Shown
+pub mod Past

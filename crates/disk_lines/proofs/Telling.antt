@@ -9,8 +9,8 @@ use Rattle.std.proofs.KnownBytes.{Appends-kept, Appends-nil, Appends-trans, Cons
 use Rattle.answers.specs.declared.fault.ScriptFault.{ScriptFault}
 use Rattle.answers.specs.declared.fault.ScriptFault.TheVariants as fault
 use Rattle.answers.specs.driving.master.master_state.Data.{MasterData}
-use Rattle.lines.specs.declared.reason.Reason.{Reason}
-use Rattle.disk_lines.specs.Runs.{AreLines, AreTold, CutsLast, EndsWith, IsTold, Prints, RunsFrom, RunsLines, Said, Told}
+use Rattle.lines.specs.declared.reason.Reason.TheVariants.{TooMany}
+use Rattle.disk_lines.specs.Runs.{AreLines, AreTold, CutsLast, EndsWith, IsTold, Prints, RunsFrom, Said, Told}
 use Rattle.disk_lines.specs.Runs.{printed_of, said_in, texts_of}
 use Rattle.disk_lines.specs.Turns.{HasRun, Known, TakesTurn}
 
@@ -93,10 +93,10 @@ module _ (is_raw : Bool) where
 
   -- ---- a run behind another
 
-  pub starts_running : (d : MasterData) (had held : Known) → HasRun is_raw 1 1 d d had had held held
-  starts_running d had held = record {
+  pub starts_running : (first : ℕ) (d : MasterData) (had held : Known) → HasRun is_raw first first d d had had held held
+  starts_running first d had held = record {
     told = [];
-    count = refl;
+    count = (let same : first ≡ first + 0 = omega arith in same);
     consumed = Consumes-nil had;
     tells = refl;
     printed = Appends-nil held;
@@ -160,22 +160,22 @@ module _ (is_raw : Bool) where
   }
 
   -- no further line can have a number
-  pub runs_dry : (old now : MasterData) (had left held holds : Known) (number : ℕ) (why : Reason)
-      → number ≡ 2 ^ 64 - 1 → HasRun is_raw 1 number old now had left held holds
-      → RunsLines is_raw old now had left held holds (Err (fault.BadLine (2 ^ 64 - 1) why))
-  runs_dry old now had left held holds number why is h = record {
+  pub runs_dry : (first : ℕ) (old now : MasterData) (had left held holds : Known) (number : ℕ)
+      → number ≡ 2 ^ 64 - 1 → HasRun is_raw first number old now had left held holds
+      → RunsFrom is_raw first old now had left held holds (Err (fault.BadLine (2 ^ 64 - 1) TooMany))
+  runs_dry first old now had left held holds number is h = record {
     told = h.told;
     taken = texts_of (said_in h.told);
     consumed = h.consumed;
     tells = h.tells;
-    ends = (sym is ∙ h.count, [], sym (append-nil (texts_of (said_in h.told))), inr (inr refl));
+    ends = (sym is ∙ h.count, [], sym (append-nil (texts_of (said_in h.told))), inr (inr (refl, refl)));
     prints = h.printed;
   }
 
   -- the writer was flushed
-  module _ (old new : MasterData) (had left held wrote holds : Known) (kept : Keeps wrote holds) where
-    pub flushes : (r : Result (Unit {0}) ScriptFault) → RunsLines is_raw old new had left held wrote r
-        → RunsLines is_raw old new had left held holds r
+  module _ (first : ℕ) (old new : MasterData) (had left held wrote holds : Known) (kept : Keeps wrote holds) where
+    pub flushes : (r : Result (Unit {0}) ScriptFault) → RunsFrom is_raw first old new had left held wrote r
+        → RunsFrom is_raw first old new had left held holds r
     flushes r is = record {
       told = is.told;
       taken = is.taken;
@@ -200,8 +200,8 @@ module _ (is_raw : Bool) where
       )
       flushed (Err fault.NoMemory) p = Appends-kept held wrote holds (printed_of is.told) p kept
 
-    pub fails_to_flush : (done : Unit {0}) → RunsLines is_raw old new had left held wrote (Ok done)
-        → RunsLines is_raw old new had left held holds (Err fault.WriteFailed)
+    pub fails_to_flush : (done : Unit {0}) → RunsFrom is_raw first old new had left held wrote (Ok done)
+        → RunsFrom is_raw first old new had left held holds (Err fault.WriteFailed)
     fails_to_flush done is = record {
       told = is.told;
       taken = is.taken;

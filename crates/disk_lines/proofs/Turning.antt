@@ -1,5 +1,5 @@
 -- A line that is run by itself.
-use Rattle.std.proofs.Common.{[], ◌≡◌, ◌∙◌, ℕ, ◌+◌, ◌<◌, Bool, List, ◌∷◌, ◌++◌, length, arith, ap, inl, inr, refl, subst, sym}
+use Rattle.std.proofs.Common.{[], ◌≡◌, ◌∙◌, ℕ, ◌+◌, ◌-◌, ◌^◌, ◌<◌, Bool, List, ◌∷◌, ◌++◌, length, arith, ap, inl, inr, refl, subst, sym}
 use Rattle.std.proofs.lemmas.List.{append-nil}
 use Rattle.std.specs.Prelude.{Option, Some, None, Result, Ok, Err}
 use Rattle.std.specs.Io.KnownBytes.{Appends, Consumes, IsAtEnd, Keeps}
@@ -11,7 +11,7 @@ use Rattle.lines.specs.declared.reading.ReadFault.{ReadFault}
 use Rattle.lines.specs.declared.reading.ReadFault.TheVariants as read
 use Rattle.lines.specs.declared.reading.Taken.{Taken}
 use Rattle.lines.specs.declared.reading.Taken.TheVariants.{Ended, Last, TooLong, Nothing}
-use Rattle.lines.specs.declared.reason.Reason.{Reason}
+use Rattle.lines.specs.declared.reason.Reason.TheVariants as reason
 use Rattle.answers.specs.Errors.{AppendsFront}
 use Rattle.answers.proofs.Fronts.{cut_later, cut_there}
 use Rattle.answers.specs.declared.fault.ScriptFault.{ScriptFault}
@@ -97,16 +97,20 @@ module _ (is_raw : Bool) where
         by_end (inl e) = inl (e ∙ sym (append-nil (text ++ 10 ∷ [])))
         by_end (inr e) = inr ([], record { text = text; line = line }, refl, e.0, e.1)
 
-      pub turn_fails : (f : ScriptFault) → PrintsText is_raw old new text number held holds (Err f)
+      pub turn_fails : (f : ScriptFault) → number < 2 ^ 64 - 1 → PrintsText is_raw old new text number held holds (Err f)
           → TakesTurn is_raw number old new had left held holds (Err f)
-      turn_fails (fault.BadLine n why) (is_number, none, kept, same) =
+      turn_fails (fault.BadLine n why) below (is_number, none, kept, same) =
           subst (λ (d : MasterData). RunsFrom is_raw number old d had left held holds (Err (fault.BadLine n why)))
           (sym same)
-          (ends_there is_raw number old had left held holds bytes (Err (fault.BadLine n why)) consumed
-          (omega (arith, is_number), bytes, refl, inr (inl (text, is, none)))
+          (ends_there is_raw number old had left held holds bytes (Err (fault.BadLine n why)) consumed (
+            omega (arith, is_number),
+            bytes,
+            refl,
+            inr (inl (text, is, (let now : n < 2 ^ 64 - 1 = omega (arith, is_number, below) in now), none)),
+          )
           (Appends-kept held held holds [] (Appends-nil held) kept))
-      turn_fails fault.ReadFailed p = let no = p.4.0 in absurd (cc)
-      turn_fails fault.WriteFailed (line, printed, says, runs, written) = record {
+      turn_fails fault.ReadFailed below p = let no = p.4.0 in absurd (cc)
+      turn_fails fault.WriteFailed below (line, printed, says, runs, written) = record {
         told = one_line line printed ∷ [];
         taken = bytes;
         consumed = consumed;
@@ -122,17 +126,17 @@ module _ (is_raw : Bool) where
           written.1.3,
         );
       }
-      turn_fails fault.NoMemory p = let no = p.4.0 in absurd (cc)
+      turn_fails fault.NoMemory below p = let no = p.4.0 in absurd (cc)
 
-    pub ended_fails : (f : ScriptFault) → TakesLine is_raw had left text Ended
+    pub ended_fails : (f : ScriptFault) → number < 2 ^ 64 - 1 → TakesLine is_raw had left text Ended
         → PrintsText is_raw old new text number held holds (Err f)
         → TakesTurn is_raw number old new had left held holds (Err f)
-    ended_fails f taken p = turn_fails (text ++ 10 ∷ []) taken.0 (inl refl) taken.1 f p
+    ended_fails f below taken p = turn_fails (text ++ 10 ∷ []) taken.0 (inl refl) taken.1 f below p
 
-    pub last_fails : (f : ScriptFault) → TakesLine is_raw had left text Last
+    pub last_fails : (f : ScriptFault) → number < 2 ^ 64 - 1 → TakesLine is_raw had left text Last
         → PrintsText is_raw old new text number held holds (Err f)
         → TakesTurn is_raw number old new had left held holds (Err f)
-    last_fails f taken p = turn_fails text taken.0 (inr (refl, taken.2, taken.1)) taken.3 f p
+    last_fails f below taken p = turn_fails text taken.0 (inr (refl, taken.2, taken.1)) taken.3 f below p
 
   -- ---- a turn without a line
 
@@ -142,11 +146,11 @@ module _ (is_raw : Bool) where
     turn_ends taken =
         ends_there is_raw number d had left held held [] (Ok tt) taken.0 (inl refl, taken.1) (Appends-nil held)
 
-    pub turn_too_long : (why : Reason) → TakesLine is_raw had left text TooLong
-        → TakesTurn is_raw number d d had left held held (Err (fault.BadLine number why))
-    turn_too_long why taken =
-        ends_there is_raw number d had left held held text (Err (fault.BadLine number why)) taken.0
-        (omega arith, text, refl, inl (taken.1, taken.2)) (Appends-nil held)
+    pub turn_too_long : TakesLine is_raw had left text TooLong
+        → TakesTurn is_raw number d d had left held held (Err (fault.BadLine number reason.TooLong))
+    turn_too_long taken =
+        ends_there is_raw number d had left held held text (Err (fault.BadLine number reason.TooLong)) taken.0
+        (omega arith, text, refl, inl (refl, taken.1, taken.2)) (Appends-nil held)
 
   -- a read of a line ended in a fault
   pub stops_part : (had left : Known) (text : List ℕ) (f : ReadFault) → StopsIn is_raw had left text f

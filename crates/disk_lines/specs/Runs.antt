@@ -5,7 +5,10 @@ use Rattle.std.specs.List.{flat_map}
 use Rattle.std.specs.Io.KnownBytes.{Appends, Consumes, IsAtEnd}
 use Rattle.lines.specs.Grammar.{LineValue}
 use Rattle.lines.specs.Reading.{IsLineText, IsUnbroken}
+use Rattle.lines.specs.Reasons.{HasReason}
 use Rattle.lines.specs.Scanning.{line_limit}
+use Rattle.lines.specs.declared.reason.Reason.{Reason}
+use Rattle.lines.specs.declared.reason.Reason.TheVariants.{TooLong, TooMany}
 use Rattle.raw_lines.specs.Raw.{SaysIn}
 use Rattle.answers.specs.declared.fault.ScriptFault.{ScriptFault}
 use Rattle.answers.specs.declared.fault.ScriptFault.TheVariants.{BadLine, ReadFailed, WriteFailed, NoMemory}
@@ -68,12 +71,16 @@ AreLines said bytes = (bytes ≡ texts_of said)
 abbrev pub IsTakenLine : List ℕ → List ℕ → Option (List ℕ) → Type 0
 IsTakenLine text taken left = (taken ≡ text ++ 10 ∷ []) ⊎ ((taken ≡ text) × (0 < length text) × IsAtEnd left)
 
--- a line is bad if it is too long, if its text says no line, or if it is line 2^64 - 1
-abbrev pub IsBad : Bool → ℕ → List ℕ → Option (List ℕ) → Type 0
-IsBad is_raw number taken left =
-    (IsUnbroken is_raw taken × (length taken ≡ line_limit is_raw + 1))
-    ⊎ (((text : List ℕ) × IsTakenLine text taken left × ((line : LineValue) → SaysIn is_raw text line → ⊥))
-    ⊎ (number ≡ 2 ^ 64 - 1))
+-- the text says no line, for this reason
+abbrev pub SaysNone : Bool → List ℕ → Reason → Type 0
+SaysNone is_raw text why = ((line : LineValue) → SaysIn is_raw text line → ⊥) × HasReason text why
+
+-- a line is bad, for this reason: it is too long, its text says no line, or it is line 2^64 - 1
+abbrev pub IsBad : Bool → ℕ → List ℕ → Option (List ℕ) → Reason → Type 0
+IsBad is_raw number taken left why =
+    ((why ≡ TooLong) × IsUnbroken is_raw taken × (length taken ≡ line_limit is_raw + 1))
+    ⊎ (((text : List ℕ) × IsTakenLine text taken left × (number < 2 ^ 64 - 1) × SaysNone is_raw text why)
+    ⊎ ((why ≡ TooMany) × (number ≡ 2 ^ 64 - 1)))
 
 -- What was taken of the reader: the lines that were run, of which the first has this number, and then nothing, or a bad
 -- line, which has the next number, or part of a line at a fault. If the writer failed, it failed at what is printed of
@@ -81,7 +88,8 @@ IsBad is_raw number taken left =
 abbrev pub EndsWith : Bool → ℕ → List Said → List ℕ → Option (List ℕ) → Result (Unit {0}) ScriptFault → Type 0
 EndsWith is_raw first said taken left (Ok done) = AreLines said taken × IsAtEnd left
 EndsWith is_raw first said taken left (Err (BadLine number why)) =
-    (number ≡ first + length said) × (bad : List ℕ) × (taken ≡ texts_of said ++ bad) × IsBad is_raw number bad left
+    (number ≡ first + length said) × (bad : List ℕ) × (taken ≡ texts_of said ++ bad)
+    × IsBad is_raw number bad left why
 EndsWith is_raw first said taken left (Err ReadFailed) = (part : List ℕ) × (taken ≡ texts_of said ++ part)
 EndsWith is_raw first said taken left (Err WriteFailed) =
     AreLines said taken ⊎ ((part : List ℕ) × (taken ≡ texts_of said ++ part))
@@ -110,8 +118,3 @@ pub record RunsFrom (is_raw : Bool) (first : ℕ) (old new : MasterData) (had le
   pub tells : AreTold is_raw old told new
   pub ends : EndsWith is_raw first (said_in told) taken left result
   pub prints : Prints held holds told result
-
--- a run of all lines
-abbrev pub RunsLines : Bool → MasterData → MasterData → Option (List ℕ) → Option (List ℕ) → Option (List ℕ)
-    → Option (List ℕ) → Result (Unit {0}) ScriptFault → Type 0
-RunsLines is_raw old new had left held holds result = RunsFrom is_raw 1 old new had left held holds result

@@ -21,7 +21,8 @@ use Rattle.raw_answers.specs.Texts.{reply_in}
 use Rattle.embedded.specs.Replies.{GoesOn, kept_reply, number_of}
 use Rattle.disk_lines.specs.Groups.{AppliesLine, AskFor, unsure_line}
 use Rattle.disk_lines.specs.Lines.{RunsLine, word_of}
-use Rattle.disk_lines.specs.Runs.{AreSaid, AreTold, RunsFrom, Said, Told, lines_of, printed_of, said_in, texts_of}
+use Rattle.disk_lines.specs.Runs.{AreSaid, AreTold, RunsFrom, Said, SaysNone, Told, lines_of, printed_of, said_in}
+use Rattle.disk_lines.specs.Runs.{texts_of}
 
 -- what a reader has left or a writer holds, if that is known
 abbrev pub Known : Type 0
@@ -32,11 +33,12 @@ abbrev pub IsWritten : Known → Known → List ℕ → Result (Unit {0}) Script
 IsWritten held holds bytes (Ok done) = Appends held holds bytes
 IsWritten held holds bytes (Err f) = (f ≡ fault.WriteFailed) × AppendsFront held holds bytes
 
--- The line of a text was run, and what is printed of it was written. Or the writer failed. Or the text says no line.
+-- The line of a text was run, and what is printed of it was written. Or the writer failed. Or the text says no line, and
+-- the reason says why.
 abbrev pub PrintsText : Bool → MasterData → MasterData → List ℕ → ℕ → Known → Known → Result (Unit {0}) ScriptFault
     → Type 0
 PrintsText is_raw old new text number held holds (Err (fault.BadLine n why)) = (n ≡ number)
-    × ((line : LineValue) → SaysIn is_raw text line → ⊥) × Keeps held holds × (new ≡ old)
+    × SaysNone is_raw text why × Keeps held holds × (new ≡ old)
 PrintsText is_raw old new text number held holds result = (line : LineValue) × (printed : List ℕ)
     × SaysIn is_raw text line × RunsLine is_raw old line new printed × IsWritten held holds printed result
 

@@ -5,7 +5,7 @@ ghost use Rattle.lines.specs.Grammar.{shown_command};
 ghost use Rattle.lines.specs.Reading.{TakesLine};
 ghost use Rattle.embedded.specs.declared.reply.Reply.{Reply as ReplyValue};
 ghost use Rattle.disk_lines.specs.Lines.{CarriesOutLine, IsShown};
-ghost use Rattle.disk_lines.specs.Runs.{RunsLines};
+ghost use Rattle.disk_lines.specs.Runs.{RunsFrom};
 ghost use Rattle.disk_lines.specs.Turns.{IsWritten, Known, PrintsText, TakesTurn};
 
 use crate::answering::answer_group;
@@ -22,47 +22,22 @@ use std::alloc::Global;
 use std::io::{BufRead, Write};
 use take_journal::Device;
 
-/// Runs the lines of the reader in order, and hands what is printed of each to the writer. Commands whose lines are at
-/// hand together, up to 1,024, are a group: they are applied one after another, then pushed together, and only then
-/// answered. So a command that is alone at hand is answered at once, and of many each pays a part of the syncs. It
-/// flushes the writer before it waits for more lines. With `is_raw` keys and values are any bytes, each behind its
-/// length. A bad line ends the run, and so does a fault: what was answered before is on the disk. Between the lines it
-/// calls `upkeep`.
-pub fn run_lines<R: BufRead, W: Write, D: Device, G: FleetRegistry, U: Upkeep<D, G>>(
+/// Runs the lines of the reader, from the one with this number on, until they end, or until a bad line or a fault ends
+/// the run.
+pub(crate) fn run_from<R: BufRead, W: Write, D: Device, G: FleetRegistry, U: Upkeep<D, G>>(
     alloc: Global,
     reader: &mut R,
     writer: &mut W,
     store: &mut FileStore<D, G>,
     upkeep: &mut U,
+    first: u64,
     is_raw: bool,
 ) -> Result<(), ScriptFault>
-    // Each line was run, in order, over the store's own master, by itself or in a group. Exactly what is printed of them
-    // was written. A bad line is named.
-    ensures { RunsLines is_raw store.old.master.knows store.new.master.knows
-        (R.remaining reader.old) (R.remaining reader.new) (W.contents writer.old) (W.contents writer.new) result }
-{
-    let ran = run_all(alloc, reader, writer, store, upkeep, is_raw);
-    let flushed = writer.flush();
-    match ran {
-        Ok(()) if flushed.is_err() => Err(ScriptFault::WriteFailed),
-        ran => ran,
-    }
-}
-
-/// Runs all lines.
-fn run_all<R: BufRead, W: Write, D: Device, G: FleetRegistry, U: Upkeep<D, G>>(
-    alloc: Global,
-    reader: &mut R,
-    writer: &mut W,
-    store: &mut FileStore<D, G>,
-    upkeep: &mut U,
-    is_raw: bool,
-) -> Result<(), ScriptFault>
-    ensures { RunsLines is_raw store.old.master.knows store.new.master.knows
+    ensures { RunsFrom is_raw first store.old.master.knows store.new.master.knows
         (R.remaining reader.old) (R.remaining reader.new) (W.contents writer.old) (W.contents writer.new) result }
 {
     let mut lines = LineReader::new(alloc);
-    let mut number = 1;
+    let mut number = first;
     while number < u64::MAX {
         match tend_turn(
             alloc, reader, writer, &mut lines, store, upkeep, number, is_raw,

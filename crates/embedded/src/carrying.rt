@@ -13,7 +13,7 @@ use crate::reply::Reply;
 use recovery::driving::{roll_all, serve};
 use recovery::master::{CommandRef, Master, Refusal, ReplyRef};
 use replica::Fleet;
-use tending::{Notes, Policy, make_room, tend};
+use tending::{Notes, Policy, make_room, tend_behind};
 
 /// The most tries of a command. Each of them but the last is followed by a roll or gives back a seglet.
 const MOST_TRIES: u64 = 131_072;
@@ -175,18 +175,19 @@ fn reply_to<F: Fleet>(master: &mut Master<F>, notes: &mut Notes, command: &Comma
     }
 }
 
-/// Makes a few steps of the cleaner. If one is refused, what was done stays done.
+/// Makes a few steps of the cleaner, and none behind one that compacts a segment. If one is refused, what was done stays
+/// done.
 fn clean_a_little<F: Fleet>(master: &mut Master<F>, notes: &mut Notes)
     ensures { LivesOn master.old.knows master.new.knows [] }
 {
     let policy = Policy::of(master.config());
-    let _ = tend(master, &policy, notes, STEPS);
+    let _ = tend_behind(master, &policy, notes, STEPS);
 }
 
 /// Carries a command out: it is applied and pushed until its record is durable. If it has to wait for a roll, or
 /// finds no room, the roll is made and the cleaner makes room, and it is tried again. Before it the master forgets
-/// old records, and behind it the cleaner makes up to 32 steps. Nothing of that makes a record, so the reply says all
-/// that became of the history.
+/// old records, and behind it the cleaner makes up to 32 steps, of which only the last may compact a segment. Nothing of
+/// that makes a record, so the reply says all that became of the history.
 pub fn carry_out<F: Fleet>(
     master: &mut Master<F>,
     notes: &mut Notes,

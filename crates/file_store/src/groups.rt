@@ -16,7 +16,7 @@ use file_fleet::FleetRegistry;
 use recovery::driving::push_until;
 use recovery::master::{CommandRef, Refusal};
 use take_journal::Device;
-use tending::{Policy, tend};
+use tending::{Policy, tend_behind};
 
 /// How many steps the cleaner makes behind a command.
 const STEPS: u64 = 32;
@@ -55,15 +55,16 @@ impl<D: Device, R: FleetRegistry> FileStore<D, R> {
     }
 
     /// What follows so many commands that were applied and pushed: the master forgets records by blocks, and the cleaner
-    /// makes up to 32 steps for each command. No record is made.
+    /// makes up to 32 steps for each command, of which only the last may compact a segment. No record is made.
     pub fn tidy(&mut self, commands: u64)
         ensures goes_on { GoesOn self.old.master.knows self.new.master.knows [] }
         ensures valid { IsValid self.new.master.knows (fleet_state R.noted self.new.master.fleet) }
     {
         self.forget();
         let policy = Policy::of(self.master.config());
-        let steps = commands.saturating_mul(STEPS);
-        let _ = tend(&mut self.master, &policy, &mut self.notes, steps);
+        for _ in 0..commands {
+            let _ = tend_behind(&mut self.master, &policy, &mut self.notes, STEPS);
+        }
         self.master.show_valid();
     }
 

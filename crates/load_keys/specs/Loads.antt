@@ -1,4 +1,4 @@
--- What the operations of the core loads do.
+-- What the operations of the loads do.
 use Rattle.std.specs.Prelude.{ℕ, if◌then◌else◌, nat_lt}
 use Rattle.load_keys.specs.declared.load.Act.{Act}
 use Rattle.load_keys.specs.declared.load.Act.TheVariants as act
@@ -12,6 +12,7 @@ reads_of load.B = 95
 reads_of load.C = 100
 reads_of load.D = 95
 reads_of load.F = 50
+reads_of load.W = 0
 
 -- what the others do
 abbrev pub other_of : Load → Act
@@ -20,6 +21,7 @@ other_of load.B = act.Update
 other_of load.C = act.Read
 other_of load.D = act.Insert
 other_of load.F = act.Modify
+other_of load.W = act.Update
 
 -- what an operation does for which this percent was drawn
 abbrev pub act_of : Load → ℕ → Act

@@ -1,4 +1,4 @@
-//! The core loads of the Yahoo Cloud Serving Benchmark.
+//! The core loads of the Yahoo Cloud Serving Benchmark, and one of updates alone.
 
 ghost use Rattle.std.specs.Prelude.{◌≡◌};
 ghost use Rattle.load_keys.specs.Loads.{act_of, other_of, reads_of};
@@ -18,6 +18,8 @@ pub enum Load {
     D,
     /// Half reads; half reads that are followed by a put under the condition of the version that was read.
     F,
+    /// Updates. It is none of the benchmark's.
+    W,
 }
 
 /// What one operation of a load does.
@@ -38,6 +40,7 @@ impl Load {
             "C" => Some(Load::C),
             "D" => Some(Load::D),
             "F" => Some(Load::F),
+            "W" => Some(Load::W),
             _ => None,
         }
     }
@@ -71,6 +74,7 @@ impl Load {
             Load::C => 100,
             Load::D => 95,
             Load::F => 50,
+            Load::W => 0,
         }
     }
 
@@ -84,6 +88,7 @@ impl Load {
             Load::C => Act::Read,
             Load::D => Act::Insert,
             Load::F => Act::Modify,
+            Load::W => Act::Update,
         }
     }
 }

@@ -3,11 +3,11 @@
 ghost use Rattle.std.specs.Prelude.{◌≡◌, ◌≤◌, ◌+◌, OnOk};
 ghost use Rattle.loads.specs.Asks.{HasAsked};
 
-use crate::cleaning::{Cleaned, clean_a_little};
+use crate::cleaning::{Cleaned, Cleaner, clean_a_little, clean_behind};
 use counted_calls::locked_log::{CallFault, Naming, Notes, Policy, Seat, Store};
 use counted_calls::master::{Command, Refusal, Reply};
 use replica::Fleet;
-use std::sync::{Mutex, Wait};
+use std::sync::Wait;
 use std::thread;
 
 /// How often a call that finds the history full has the store forget, and is made again, at most.
@@ -88,7 +88,7 @@ fn ask_for_room<F: Fleet, B: Naming, R: Wait>(
     seat: &mut Seat<B>,
     command: &Command,
     policy: &Policy,
-    notes: &Mutex<Notes>,
+    cleaner: &Cleaner,
 ) -> Asked
     ensures { HasAsked seat.old result seat.new }
 {
@@ -96,27 +96,41 @@ fn ask_for_room<F: Fleet, B: Naming, R: Wait>(
         Asked::Refused(Refusal::Full) => {}
         other => return other,
     }
-    let mut held = notes.lock(rt);
+    let mut held = cleaner.wait(rt);
     ask_and_clean(rt, store, seat, command, policy, &mut *held)
 }
 
+/// Whether the command writes to the log.
+fn is_put(command: &Command) -> bool {
+    match command {
+        Command::Get(_) => false,
+        _ => true,
+    }
+}
+
 /// Makes one call, and answers its reply once its record is durable. If it is refused for want of room in the log or in
-/// the history, the thread cleans or forgets, and calls again. A refusal as Full or as HistoryFull is for good.
+/// the history, the thread cleans or forgets, and calls again. A refusal as Full or as HistoryFull is for good. Behind a
+/// put it cleans a little while memory is short.
 pub(crate) fn ask<F: Fleet, B: Naming, R: Wait>(
     rt: &R,
     store: &Store<F, B>,
     seat: &mut Seat<B>,
     command: &Command,
     policy: &Policy,
-    notes: &Mutex<Notes>,
+    cleaner: &Cleaner,
 ) -> Result<Reply, CallFault>
     ensures number { seat.new.number ≡ seat.old.number }
     ensures count { seat.old.count ≤ seat.new.count }
     ensures one { OnOk result (seat.new.count ≡ seat.old.count + 1) }
 {
     for _ in 0..MOST_TRIES {
-        match ask_for_room(rt, store, seat, command, policy, notes) {
-            Asked::Answered(reply) => return Ok(reply),
+        match ask_for_room(rt, store, seat, command, policy, cleaner) {
+            Asked::Answered(reply) => {
+                if is_put(command) {
+                    clean_behind(rt, store, policy, cleaner);
+                }
+                return Ok(reply);
+            }
             Asked::Left(fault) => return Err(fault),
             Asked::Refused(Refusal::HistoryFull) => {
                 let _forgotten = store.forget(rt);

@@ -1,21 +1,29 @@
 //! What threads clean: one of them at a time, with what all of them have noted.
 
 use counted_calls::locked_log::{Naming, Notes, Policy, Store};
-use counted_calls::master::Refusal;
+use counted_calls::master::{Refusal, StepAnswer};
 use replica::Fleet;
-use std::sync::atomic::{AtomicU64, Ordering};
-use std::sync::{Mutex, Wait};
+use std::sync::atomic::{AtomicBool, AtomicU64, Ordering};
+use std::sync::{Mutex, MutexGuard, Wait};
 use std::thread;
 use std::time::{Clock, Duration};
 
-/// How many steps of the cleaner a thread makes before it looks about again.
-const STEPS: u64 = 32;
+/// How many steps of the cleaner a thread makes at most before it looks about again.
+const STEPS: u64 = 16;
 
 /// How often so many steps are made at most before the threads start.
 const MOST_AT_FIRST: u64 = 4_096;
 
 /// How many microseconds a cleaner sleeps if there is nothing to clean.
 const REST: u64 = 50;
+
+/// What threads share that clean: what is noted of segments, which one thread at a time has, and whether memory was
+/// short when one of them cleaned last.
+#[derive(Drop)]
+pub(crate) struct Cleaner {
+    notes: Mutex<Notes>,
+    is_short: AtomicBool,
+}
 
 /// What came of a few steps of the cleaner.
 #[derive(Drop)]
@@ -39,7 +47,8 @@ fn came_of(made: u64, refusal: Option<Refusal>) -> Cleaned {
     }
 }
 
-/// Makes a few steps of the cleaner. A step in which a backup is lost counts as made.
+/// Makes a few steps of the cleaner, of which one at most compacts a segment: that step is as long as many others. A step
+/// in which a backup is lost counts as made.
 pub(crate) fn clean_a_little<F: Fleet, B: Naming, R: Wait>(
     rt: &R,
     store: &Store<F, B>,
@@ -48,6 +57,7 @@ pub(crate) fn clean_a_little<F: Fleet, B: Naming, R: Wait>(
 ) -> Cleaned {
     for made in 0..STEPS {
         match store.tend(rt, policy, notes) {
+            Ok(Some(StepAnswer::Compacted(_, _))) => return Cleaned::Steps,
             Ok(Some(_)) => {}
             Ok(None) => return came_of(made, None),
             Err(Refusal::Lost(_)) => {}
@@ -73,15 +83,50 @@ pub(crate) fn clean_at_first<F: Fleet, B: Naming, R: Wait>(
     }
 }
 
+impl Cleaner {
+    /// Nothing is known to be short.
+    pub(crate) fn new(notes: Notes) -> Cleaner {
+        Cleaner {
+            notes: Mutex::new(notes),
+            is_short: AtomicBool::new(false),
+        }
+    }
+
+    /// What is noted, once no other thread cleans. Whoever asks has found that memory is short.
+    pub(crate) fn wait<R: Wait>(&self, rt: &R) -> MutexGuard<'_, Notes> {
+        self.is_short.store(true, Ordering::SeqCst);
+        self.notes.lock(rt)
+    }
+}
+
 /// Makes a few steps of the cleaner, while no other thread cleans.
 fn clean_in_turn<F: Fleet, B: Naming, R: Wait>(
     rt: &R,
     store: &Store<F, B>,
     policy: &Policy,
-    notes: &Mutex<Notes>,
+    cleaner: &Cleaner,
 ) -> Cleaned {
-    let mut held = notes.lock(rt);
-    clean_a_little(rt, store, policy, &mut *held)
+    let mut held = cleaner.notes.lock(rt);
+    let cleaned = clean_a_little(rt, store, policy, &mut *held);
+    let is_short = match cleaned {
+        Cleaned::Steps => true,
+        _ => false,
+    };
+    cleaner.is_short.store(is_short, Ordering::SeqCst);
+    cleaned
+}
+
+/// Makes a few steps behind a put if memory was short when a thread cleaned last. So each put pays for a part of the
+/// cleaning, and mostly none comes that finds no room and waits for all of it.
+pub(crate) fn clean_behind<F: Fleet, B: Naming, R: Wait>(
+    rt: &R,
+    store: &Store<F, B>,
+    policy: &Policy,
+    cleaner: &Cleaner,
+) {
+    if cleaner.is_short.load(Ordering::SeqCst) {
+        let _cleaned = clean_in_turn(rt, store, policy, cleaner);
+    }
 }
 
 /// Makes the steps of the cleaner that come next, until so many threads have ended. If none comes next, it sleeps for
@@ -90,7 +135,7 @@ pub(crate) fn clean<F: Fleet, B: Naming, R: Wait + Clock>(
     rt: &R,
     store: &Store<F, B>,
     policy: Policy,
-    notes: &Mutex<Notes>,
+    cleaner: &Cleaner,
     threads: u64,
     ended: &AtomicU64,
 ) {
@@ -98,7 +143,7 @@ pub(crate) fn clean<F: Fleet, B: Naming, R: Wait + Clock>(
         if ended.load(Ordering::SeqCst) >= threads {
             return;
         }
-        match clean_in_turn(rt, store, &policy, notes) {
+        match clean_in_turn(rt, store, &policy, cleaner) {
             Cleaned::Steps => {}
             Cleaned::Nothing => thread::sleep(rt, Duration::from_micros(REST)),
             Cleaned::Refused(_) => return,

@@ -2,15 +2,16 @@
 
 ghost use Rattle.std.specs.Prelude.{◌≡◌, ◌≤◌, ◌<◌, ◌+◌, ◌*◌, ◌^◌, IfOk};
 
+use crate::cleaning::Cleaner;
 use crate::operations::operate;
 use crate::plan::Task;
 use crate::work::Work;
-use counted_calls::locked_log::{CallFault, Naming, Notes, Seat, Store};
+use counted_calls::locked_log::{CallFault, Naming, Seat, Store};
 use load_keys::Keys;
 use replica::Fleet;
 use std::io::Eprint;
+use std::sync::Wait;
 use std::sync::atomic::{AtomicU64, Ordering};
-use std::sync::{Mutex, Wait};
 use std::thread::Promise;
 use std::time::Clock;
 
@@ -54,7 +55,7 @@ impl<B: Naming> Promise<Ended<B>> for Promised {
 pub(crate) fn serve<F: Fleet, B: Naming, R: Wait + Clock + Eprint>(
     rt: &R,
     store: &Store<F, B>,
-    notes: &Mutex<Notes>,
+    cleaner: &Cleaner,
     seat: Seat<B>,
     work: Work,
     task: Task,
@@ -69,7 +70,7 @@ pub(crate) fn serve<F: Fleet, B: Naming, R: Wait + Clock + Eprint>(
 {
     let mut seat = seat;
     let mut work = work;
-    let calls = serve_all(rt, store, notes, &mut seat, &mut work, &task, keys, made);
+    let calls = serve_all(rt, store, cleaner, &mut seat, &mut work, &task, keys, made);
     let _before = ended.fetch_add(1, Ordering::SeqCst);
     Ended { seat, calls, work }
 }
@@ -78,7 +79,7 @@ pub(crate) fn serve<F: Fleet, B: Naming, R: Wait + Clock + Eprint>(
 fn serve_all<F: Fleet, B: Naming, R: Wait + Clock + Eprint>(
     rt: &R,
     store: &Store<F, B>,
-    notes: &Mutex<Notes>,
+    cleaner: &Cleaner,
     seat: &mut Seat<B>,
     work: &mut Work,
     task: &Task,
@@ -92,7 +93,7 @@ fn serve_all<F: Fleet, B: Naming, R: Wait + Clock + Eprint>(
 {
     let mut calls: u64 = 0;
     for done in 0..task.plan.operations {
-        let more = operate(rt, store, notes, seat, work, task, keys, made)?;
+        let more = operate(rt, store, cleaner, seat, work, task, keys, made)?;
         calls += more;
         work.operations = work.operations.saturating_add(1);
         show(rt, task, done);

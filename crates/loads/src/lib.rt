@@ -8,7 +8,7 @@
 //!
 //! One thread at a time cleans, the cleaner or one that finds no room, with notes that all of them share. The others
 //! that find no room sleep meanwhile. If they all cleaned at once, each step would wait for the lock behind the steps
-//! of the others.
+//! of the others. While memory is short, each thread also cleans a little behind each of its puts.
 //!
 //! `object_of` and `fresh_value` are the keys and values of a load, for whoever fills the store before.
 //!

@@ -3,24 +3,25 @@
 ghost use Rattle.std.specs.Prelude.{◌≡◌, ◌≤◌, ◌+◌, IfOk, OnOk};
 
 use crate::asking::ask;
+use crate::cleaning::Cleaner;
 use crate::objects::{fresh_value, object_of};
 use crate::plan::Task;
 use crate::tracing::nanos;
 use crate::work::Work;
-use counted_calls::locked_log::{CallFault, Naming, Notes, Seat, Store};
+use counted_calls::locked_log::{CallFault, Naming, Seat, Store};
 use counted_calls::master::{Command, If, Refusal, Reply};
 use entry::{MAX_VALUE_LEN, Value};
 use load_keys::{Act, Keys};
 use replica::Fleet;
+use std::sync::Wait;
 use std::sync::atomic::{AtomicU64, Ordering};
-use std::sync::{Mutex, Wait};
 use std::time::Clock;
 
 /// Makes one call, and counts how long it took.
 fn make_call<F: Fleet, B: Naming, R: Wait + Clock>(
     rt: &R,
     store: &Store<F, B>,
-    notes: &Mutex<Notes>,
+    cleaner: &Cleaner,
     seat: &mut Seat<B>,
     work: &mut Work,
     task: &Task,
@@ -31,7 +32,7 @@ fn make_call<F: Fleet, B: Naming, R: Wait + Clock>(
     ensures one { OnOk result (seat.new.count ≡ seat.old.count + 1) }
 {
     let start = nanos(rt);
-    let outcome = ask(rt, store, seat, command, &task.plan.policy, notes);
+    let outcome = ask(rt, store, seat, command, &task.plan.policy, cleaner);
     let end = nanos(rt);
     work.note(task, command, start, end, &outcome);
     outcome
@@ -41,7 +42,7 @@ fn make_call<F: Fleet, B: Naming, R: Wait + Clock>(
 fn get<F: Fleet, B: Naming, R: Wait + Clock>(
     rt: &R,
     store: &Store<F, B>,
-    notes: &Mutex<Notes>,
+    cleaner: &Cleaner,
     seat: &mut Seat<B>,
     work: &mut Work,
     task: &Task,
@@ -52,7 +53,7 @@ fn get<F: Fleet, B: Naming, R: Wait + Clock>(
     ensures one { OnOk result (seat.new.count ≡ seat.old.count + 1) }
 {
     match object_of(task.plan.alloc, number) {
-        Ok(key) => make_call(rt, store, notes, seat, work, task, &Command::Get(key)),
+        Ok(key) => make_call(rt, store, cleaner, seat, work, task, &Command::Get(key)),
         Err(_) => Err(CallFault::Refused(Refusal::NoMemory)),
     }
 }
@@ -77,7 +78,7 @@ fn put_command(work: &mut Work, task: &Task, number: u64, when: If) -> Result<Co
 fn put<F: Fleet, B: Naming, R: Wait + Clock>(
     rt: &R,
     store: &Store<F, B>,
-    notes: &Mutex<Notes>,
+    cleaner: &Cleaner,
     seat: &mut Seat<B>,
     work: &mut Work,
     task: &Task,
@@ -89,7 +90,7 @@ fn put<F: Fleet, B: Naming, R: Wait + Clock>(
     ensures one { OnOk result (seat.new.count ≡ seat.old.count + 1) }
 {
     match put_command(work, task, number, when) {
-        Ok(command) => make_call(rt, store, notes, seat, work, task, &command),
+        Ok(command) => make_call(rt, store, cleaner, seat, work, task, &command),
         Err(fault) => Err(fault),
     }
 }
@@ -111,7 +112,7 @@ fn draw(work: &mut Work, keys: &Keys, made: &AtomicU64) -> u64 {
 fn modify<F: Fleet, B: Naming, R: Wait + Clock>(
     rt: &R,
     store: &Store<F, B>,
-    notes: &Mutex<Notes>,
+    cleaner: &Cleaner,
     seat: &mut Seat<B>,
     work: &mut Work,
     task: &Task,
@@ -121,9 +122,9 @@ fn modify<F: Fleet, B: Naming, R: Wait + Clock>(
     ensures count { seat.old.count ≤ seat.new.count }
     ensures made { IfOk result (λ n. (n ≤ 2) × (seat.new.count ≡ seat.old.count + n)) }
 {
-    let read = get(rt, store, notes, seat, work, task, number)?;
+    let read = get(rt, store, cleaner, seat, work, task, number)?;
     let when = unchanged(&read);
-    put(rt, store, notes, seat, work, task, number, when)?;
+    put(rt, store, cleaner, seat, work, task, number, when)?;
     Ok(2)
 }
 
@@ -131,7 +132,7 @@ fn modify<F: Fleet, B: Naming, R: Wait + Clock>(
 pub(crate) fn operate<F: Fleet, B: Naming, R: Wait + Clock>(
     rt: &R,
     store: &Store<F, B>,
-    notes: &Mutex<Notes>,
+    cleaner: &Cleaner,
     seat: &mut Seat<B>,
     work: &mut Work,
     task: &Task,
@@ -146,22 +147,22 @@ pub(crate) fn operate<F: Fleet, B: Naming, R: Wait + Clock>(
     match act {
         Act::Read => {
             let number = draw(work, keys, made);
-            get(rt, store, notes, seat, work, task, number)?;
+            get(rt, store, cleaner, seat, work, task, number)?;
             Ok(1)
         }
         Act::Update => {
             let number = draw(work, keys, made);
-            put(rt, store, notes, seat, work, task, number, If::Any)?;
+            put(rt, store, cleaner, seat, work, task, number, If::Any)?;
             Ok(1)
         }
         Act::Insert => {
             let number = made.fetch_add(1, Ordering::SeqCst);
-            put(rt, store, notes, seat, work, task, number, If::Absent)?;
+            put(rt, store, cleaner, seat, work, task, number, If::Absent)?;
             Ok(1)
         }
         Act::Modify => {
             let number = draw(work, keys, made);
-            modify(rt, store, notes, seat, work, task, number)
+            modify(rt, store, cleaner, seat, work, task, number)
         }
     }
 }

@@ -3,19 +3,19 @@
 ghost use Rattle.std.specs.Prelude.{◌≡◌, ◌<◌, ◌^◌};
 ghost use Rattle.loads.specs.Threads.{IsKept};
 
-use crate::cleaning::clean;
+use crate::cleaning::{Cleaner, clean};
 use crate::client::{Ended, Promised, Thread, serve};
 use crate::plan::{Plan, Task};
 use crate::work::Work;
-use counted_calls::locked_log::{CallFault, Naming, Notes, Seat, Store};
+use counted_calls::locked_log::{CallFault, Naming, Seat, Store};
 use counted_calls::master::Refusal;
 use entry::NoMemory;
 use load_keys::Keys;
 use replica::Fleet;
 use std::io::Eprint;
 use std::marker::Model;
+use std::sync::Wait;
 use std::sync::atomic::AtomicU64;
-use std::sync::{Mutex, Wait};
 use std::thread;
 use std::thread::{PromisedHandle, Threads};
 use std::time::Clock;
@@ -72,7 +72,7 @@ pub(crate) fn run_threads<
 >(
     rt: &R,
     store: &Store<F, B>,
-    notes: &Mutex<Notes>,
+    cleaner: &Cleaner,
     seats: Vec<Seat<B>>,
     plan: Plan,
     keys: &Keys,
@@ -96,7 +96,7 @@ pub(crate) fn run_threads<
             let mut started = Vec::with_capacity(alloc, seats.len())?;
             let mut done = Vec::with_capacity(alloc, seats.len())?;
             let cleaned = if plan.has_cleaner { threads } else { 0 };
-            let _cleaner = scope.spawn(move || clean(rt, store, policy, notes, cleaned, ended));
+            let _cleaner = scope.spawn(move || clean(rt, store, policy, cleaner, cleaned, ended));
             for seat in seats {
                 let task = Task {
                     plan,
@@ -107,7 +107,7 @@ pub(crate) fn run_threads<
                     count: seat.count(),
                 };
                 let work = Work::new(&task)?;
-                let job = move || serve(rt, store, notes, seat, work, task, keys, made, ended);
+                let job = move || serve(rt, store, cleaner, seat, work, task, keys, made, ended);
                 let handle = scope.spawn_with(promise, job).ok();
                 started.push(Started { handle, promise })?;
             }

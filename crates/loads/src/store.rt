@@ -6,7 +6,7 @@ ghost use Rattle.counted_calls.specs.master.Valid.{IsValid};
 ghost use Rattle.counted_calls.specs.master.World.{world};
 ghost use Rattle.history_row.specs.Rows.{IsRowOf};
 
-use crate::cleaning::clean_at_first;
+use crate::cleaning::{Cleaner, clean_at_first};
 use crate::client::Thread;
 use crate::plan::Plan;
 use crate::running::run_threads;
@@ -20,8 +20,8 @@ use replica::Fleet;
 use std::alloc::Global;
 use std::io::Eprint;
 use std::marker::Brand;
+use std::sync::Wait;
 use std::sync::atomic::AtomicU64;
-use std::sync::{Mutex, Wait};
 use std::thread::Threads;
 use std::time::Clock;
 
@@ -129,10 +129,10 @@ fn run_seats<F: Fleet + Send, B: Naming + Send + Sync, R: Threads + Wait + Clock
 {
     let mut noted = Notes::new(plan.alloc);
     clean_at_first(rt, store, &plan.policy, &mut noted);
-    let notes = Mutex::new(noted);
+    let cleaner = Cleaner::new(noted);
     let ended = AtomicU64::new(0);
     let start = nanos(rt);
-    let outcome = run_threads(rt, store, &notes, seats, plan, keys, made, &ended);
+    let outcome = run_threads(rt, store, &cleaner, seats, plan, keys, made, &ended);
     let took = nanos(rt).saturating_sub(start);
     match outcome {
         Ok(threads) => (gather(threads, back, works), took),

@@ -10,18 +10,20 @@ use disk_store::{
     kept_options, shorten,
 };
 use next_master::with_limit;
-use std::io::{BufReader, BufWriter, Write};
+use std::io::{BufReader, BufWriter, IsTerminal, Write};
 use std::time::{SystemTime, UNIX_EPOCH};
 
 /// The exit status if the folder isn't opened.
 const NOT_OPENED: u8 = 3;
 
 /// What a new store on the disk has where no word says otherwise: four tables, each segment on all of three backups,
-/// segments of 64 kilobytes, four megabytes for the log, and a format under which a failed backup doesn't stop the
-/// store.
+/// segments of 256 kilobytes, 64 megabytes for the log, and a format under which a failed backup doesn't stop the store.
+/// A roll makes the backups sync a few times more, so that large groups of commands gain by long segments.
 fn usual() -> Options {
     let mut options = Options::usual();
     options.tables = 4;
+    options.segment = 262_144;
+    options.seglets = 16_384;
     options
 }
 
@@ -151,10 +153,13 @@ impl<'a> Upkeep<DiskFile, RegistryFile<DiskFile>> for Shortening<'a> {
     }
 }
 
-/// Runs the script from standard input to standard output over a store, and answers the exit status. The first line
-/// that it prints says how many objects the last life left.
+/// Runs the script from standard input to standard output over a store, and answers the exit status, which is that of a
+/// bad line if one was skipped. The first line that it prints says how many objects the last life left. Errors are
+/// explained, and bad lines skipped, as by a script in memory.
 fn run_opened(rt: &HostRuntime, disk: &mut DiskStore, flags: Flags) -> u8 {
-    let mut errors = ErrorOutput::new(rt.stderr().lock(), flags.explains);
+    let explains = flags.explains || rt.stderr().is_terminal();
+    let keeps_going = flags.keeps_going || rt.stdin().is_terminal();
+    let mut errors = ErrorOutput::new(rt.stderr().lock(), explains);
     // If it fails, the store goes on with the files that it has.
     let _ = disk.shorten(rt);
     let Ok(mut reader) = BufReader::with_capacity(rt.alloc(), BLOCK, UntilEnd::new(rt.reader()))
@@ -171,6 +176,7 @@ fn run_opened(rt: &HostRuntime, disk: &mut DiskStore, flags: Flags) -> u8 {
         rt.alloc(),
         &mut reader,
         &mut writer,
+        &mut errors,
         &mut disk.store,
         &mut Shortening {
             rt,
@@ -178,8 +184,10 @@ fn run_opened(rt: &HostRuntime, disk: &mut DiskStore, flags: Flags) -> u8 {
             turns: 0,
         },
         flags.is_raw,
+        keeps_going,
     ) {
-        Ok(()) => 0,
+        Ok(false) => 0,
+        Ok(true) => MISUSE,
         Err(fault) => report(&fault, &mut errors),
     }
 }
@@ -209,10 +217,6 @@ pub(crate) fn run_folders(
     words: &[&str],
     flags: Flags,
 ) -> Result<u8, Error> {
-    if flags.keeps_going {
-        let _ = rt.eprintln("ramlog: with --dir a bad line ends the run");
-        return Ok(MISUSE);
-    }
     match options(rt.alloc(), words) {
         Ok(asked) => match open(rt, first, others, words, &asked) {
             Ok(mut disk) => Ok(run_opened(rt, &mut disk, flags)),

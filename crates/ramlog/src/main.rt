@@ -17,7 +17,7 @@ use std::sync::Wait;
 use std::thread::Threads;
 use until_end::UntilEnd;
 
-/// The exit status of a bad command line.
+/// The exit status of a bad command line, and of a bad line of a script.
 const MISUSE: u8 = 2;
 
 /// The word by which a fault is explained on standard error, also if that is no terminal. It may stand anywhere.

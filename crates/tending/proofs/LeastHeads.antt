@@ -9,7 +9,7 @@ use Rattle.driving.specs.master.master_state.declared.step.Refusal.TheVariants a
 use Rattle.driving.specs.master.master_state.declared.step.Step.{Step}
 use Rattle.driving.proofs.LeastHeads.{LeavesOthers, step_leaves}
 use Rattle.tending.specs.declared.policy.Policy.{Policy}
-use Rattle.tending.specs.Tends.{AreTended, Tends, TendsUntil}
+use Rattle.tending.specs.Tends.{AreShort, AreTended, IsRefused, Tends, TendsBehind, TendsUntil}
 use Rattle.tending.specs.Rounds.{AreContinued, IsFinished, MakesRound}
 
 pub leaves_on : (a b c : World) → LeavesOthers a b → LeavesOthers b c → LeavesOthers a c
@@ -34,13 +34,31 @@ tended_leaves zero old new is = nowhere old new is
 tended_leaves (suc count) old new (mid, before, s, is, goes) =
     leaves_on old mid new (tended_leaves count old mid before) (advance_leaves mid new s goes)
 
+refused_leaves : (old : World) (r : Refusal) (new : World) → IsRefused old r new → LeavesOthers old new
+refused_leaves old r new (inl (s, is, declines, lost)) = step_leaves old new s (Err r) declines
+refused_leaves old r new (inr (memory, same)) = nowhere old new same
+
+until_leaves : (most : ℕ) (old : World) (r : Refusal) (new : World) → TendsUntil most old r new → LeavesOthers old new
+until_leaves most old r new (count, few, mid, tended, refused) =
+    leaves_on old mid new (tended_leaves count old mid tended) (refused_leaves mid r new refused)
+
 pub tends_leave : (policy : Policy) (most : ℕ) (old new : World) (result : Result ℕ Refusal)
     → Tends policy most old result new → LeavesOthers old new
 tends_leave policy most old new (Ok made) is = tended_leaves made old new is.0.tended
-tends_leave policy most old new (Err r) (count, few, mid, tended, inl (s, is, declines, lost)) =
-    leaves_on old mid new (tended_leaves count old mid tended) (step_leaves mid new s (Err r) declines)
-tends_leave policy most old new (Err r) (count, few, mid, tended, inr (memory, same)) =
-    leaves_on old mid new (tended_leaves count old mid tended) (nowhere mid new same)
+tends_leave policy most old new (Err r) is = until_leaves most old r new is
+
+short_leaves : (count : ℕ) (old new : World) → AreShort count old new → LeavesOthers old new
+short_leaves zero old new is = nowhere old new is
+short_leaves (suc count) old new (mid, before, s, is, short, goes) =
+    leaves_on old mid new (short_leaves count old mid before) (advance_leaves mid new s goes)
+
+pub behind_leaves : (policy : Policy) (most : ℕ) (old new : World) (result : Result ℕ Refusal)
+    → TendsBehind policy most old result new → LeavesOthers old new
+behind_leaves policy most old new (Ok made) (inl (few, short, rests)) = short_leaves made old new short
+behind_leaves policy most old new (Ok made) (inr (count, one, few, mid, short, s, is, long, goes)) =
+    leaves_on old mid new (short_leaves count old mid short) (advance_leaves mid new s goes)
+behind_leaves policy most old new (Err r) (count, few, mid, short, refused) =
+    leaves_on old mid new (short_leaves count old mid short) (refused_leaves mid r new refused)
 
 continued_leaves : (count : ℕ) (old new : World) → AreContinued count old new → LeavesOthers old new
 continued_leaves zero old new is = nowhere old new is
@@ -49,12 +67,6 @@ continued_leaves (suc count) old new (mid, before, s, is, goes) =
 
 finished_leaves : (old new : World) → IsFinished old new → LeavesOthers old new
 finished_leaves old new is = continued_leaves is.count old new is.continued
-
-until_leaves : (most : ℕ) (old : World) (r : Refusal) (new : World) → TendsUntil most old r new → LeavesOthers old new
-until_leaves most old r new (count, few, mid, tended, inl (s, is, declines, lost)) =
-    leaves_on old mid new (tended_leaves count old mid tended) (step_leaves mid new s (Err r) declines)
-until_leaves most old r new (count, few, mid, tended, inr (memory, same)) =
-    leaves_on old mid new (tended_leaves count old mid tended) (nowhere mid new same)
 
 pub round_leaves : (policy : Policy) (old new : World) (result : Result Bool Refusal)
     → MakesRound policy old result new → LeavesOthers old new

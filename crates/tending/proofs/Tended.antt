@@ -1,8 +1,8 @@
 -- Steps of a cleaner, one after another.
-use Rattle.std.proofs.Common.{◌≡◌, ℕ, suc, ◌+◌, ◌-◌, ◌<◌, ◌≤◌, true, [], refl, subst, inl, inr, arith}
-use Rattle.std.specs.Prelude.{Result}
+use Rattle.std.proofs.Common.{◌≡◌, ℕ, suc, ◌+◌, ◌-◌, ◌<◌, ◌≤◌, Bool, true, false, [], refl, subst, sym, inl, inr, arith, ◌∙◌}
+use Rattle.std.specs.Prelude.{Result, Ok, Err, Some, None}
 use Rattle.driving.specs.master.Keeps.{Keeps}
-use Rattle.driving.specs.master.Steps.{Steps}
+use Rattle.driving.specs.master.Steps.{Declines, Steps}
 use Rattle.driving.specs.master.World.{World}
 use Rattle.driving.specs.master.master_state.declared.step.Refusal.{Refusal}
 use Rattle.driving.specs.master.master_state.declared.step.Step.{Step}
@@ -12,11 +12,13 @@ use Rattle.driving.specs.master.master_state.declared.step.StepAnswer.{StepAnswe
 use Rattle.driving.specs.master.master_state.Data.{MasterData}
 use Rattle.driving.proofs.of_master.Keeping.{keeps_same, keeps_on}
 use Rattle.driving.specs.GoesOn.{goes_nowhere, goes_further}
-use Rattle.driving.specs.Rolls.{Advances}
+use Rattle.driving.specs.Rolls.{Advances, is_lost}
 use Rattle.driving.specs.Served.{LivesOn}
 use Rattle.driving.proofs.AnyStep.{makes_no_record, step_goes_on}
 use Rattle.driving.proofs.Turns.{IsTurn, next_turn}
-use Rattle.tending.specs.Tends.{IsBegin, IsTendStep, AreTended}
+use Rattle.tending.specs.declared.policy.Policy.{Policy}
+use Rattle.tending.specs.Tends.{AreShort, AreTended, IsBegin, IsRefused, IsTendStep, MakesStep}
+use Rattle.tending.specs.Tends.{is_compaction}
 
 by_turn : (s : Step) → IsTurn s → makes_no_record s ≡ true
 by_turn (Apply seat command) is = absurd is
@@ -52,18 +54,28 @@ pub record IsSoFar (made : ℕ) (old new : World) : Type 0 where
 pub so_far_none : (w : World) → IsSoFar 0 w w
 so_far_none w = record { lives = goes_nowhere w.knows; tended = refl; keeps = keeps_same 0 w }
 
-pub lives_then : (made : ℕ) (old mid new : World) (s : Step) (r : Result StepAnswer Refusal) → IsSoFar made old mid
-    → IsTendStep mid.knows s → Steps mid s r new → Keeps 1 mid new → LivesOn old.knows new.knows []
-lives_then made old mid new s r so is gives keeps =
-    goes_further old.knows mid.knows new.knows so.lives
-    (step_goes_on s (no_record mid.knows s is) mid new r gives keeps)
+-- ---- one step
 
-pub so_far_more : (made : ℕ) (old mid new : World) (s : Step) (r : Result StepAnswer Refusal) → IsSoFar made old mid
-    → IsTendStep mid.knows s → Steps mid s r new → Advances s mid new → Keeps 1 mid new → IsSoFar (made + 1) old new
-so_far_more made old mid new s r so is gives goes keeps =
+-- the master that a choice hands over is as it was
+pub makes_step : (policy : Policy) (old mid new : World) (s : Step) (is_long : Bool) → mid ≡ old
+    → IsTendStep mid.knows s → is_long ≡ is_compaction s → Advances s mid new
+    → MakesStep policy old (Ok (Some is_long)) new
+makes_step policy old mid new s is_long same is long goes =
+    subst (λ (w : World). MakesStep policy w (Ok (Some is_long)) new) same (s, is, sym long, goes)
+
+pub refuses_step : (old mid new : World) (s : Step) (r : Refusal) → mid ≡ old → IsTendStep mid.knows s
+    → Declines mid s r new → is_lost r ≡ false → IsRefused old r new
+refuses_step old mid new s r same is declines lost =
+    subst (λ (w : World). IsRefused w r new) same (inl (s, is, declines, lost))
+
+-- one step more
+pub so_far_more : (policy : Policy) (made : ℕ) (is_long : Bool) (old mid new : World) → IsSoFar made old mid
+    → MakesStep policy mid (Ok (Some is_long)) new → LivesOn mid.knows new.knows [] → Keeps 1 mid new
+    → IsSoFar (made + 1) old new
+so_far_more policy made is_long old mid new so (s, is, long, goes) lives keeps =
     let next : suc made ≡ made + 1 = omega arith in
     record {
-      lives = lives_then made old mid new s r so is gives keeps;
+      lives = goes_further old.knows mid.knows new.knows so.lives lives;
       tended = subst (λ (n : ℕ). AreTended n old new) next (mid, so.tended, s, is, goes);
       keeps = keeps_on made 1 old mid new so.keeps keeps;
     }
@@ -79,3 +91,25 @@ pub keeps_one_more : (made most : ℕ) (old mid new : World) → made < most →
     → Keeps most old new
 keeps_one_more made most old mid new lt first later =
     keeps_fewer (made + 1) most old new (omega (arith, lt)) (keeps_on made 1 old mid new first later)
+
+-- ---- behind a command
+
+-- So many steps were made so far, none of which compacts a segment.
+pub record IsShortSoFar (made : ℕ) (old new : World) : Type 0 where
+  pub lives : LivesOn old.knows new.knows []
+  pub short : AreShort made old new
+  pub keeps : Keeps made old new
+
+pub short_none : (w : World) → IsShortSoFar 0 w w
+short_none w = record { lives = goes_nowhere w.knows; short = refl; keeps = keeps_same 0 w }
+
+pub short_more : (policy : Policy) (made : ℕ) (is_long : Bool) (old mid new : World) → is_long ≡ false
+    → IsShortSoFar made old mid → MakesStep policy mid (Ok (Some is_long)) new → LivesOn mid.knows new.knows []
+    → Keeps 1 mid new → IsShortSoFar (made + 1) old new
+short_more policy made is_long old mid new short so (s, is, long, goes) lives keeps =
+    let next : suc made ≡ made + 1 = omega arith in
+    record {
+      lives = goes_further old.knows mid.knows new.knows so.lives lives;
+      short = subst (λ (n : ℕ). AreShort n old new) next (mid, so.short, s, is, long ∙ short, goes);
+      keeps = keeps_on made 1 old mid new so.keeps keeps;
+    }

@@ -6,7 +6,7 @@ ghost use Rattle.driving.specs.master.Keeps.{Keeps};
 ghost use Rattle.driving.specs.master.master_space.Choosing.{next_step, pending_step};
 ghost use Rattle.driving.specs.Served.{IsSpent, LivesOn};
 ghost use Rattle.tending.specs.Low.{is_low, MayRest};
-ghost use Rattle.tending.specs.Tends.{IsTendStep, IsTended, TendsUntil};
+ghost use Rattle.tending.specs.Tends.{IsTendStep, IsTended, MakesStep, TendsUntil, is_compaction};
 
 use crate::choosing::begin;
 use crate::notes::Notes;
@@ -57,15 +57,46 @@ pub fn tend<F: Fleet>(
         made < most → is_low policy.now master.new.knows ≡ true → next_step master.new.knows ≡ None) }
 {
     for made in 0..most {
-        let Some(step) = choose_step(master, policy, notes)? else {
-            return Ok(made);
-        };
-        if let Err(refusal) = master.step(step) {
-            match refusal {
-                Refusal::Lost(_) => {}
-                _ => return Err(refusal),
-            }
+        match make_step(master, policy, notes) {
+            Ok(Some(_)) => {}
+            Ok(None) => return Ok(made),
+            Err(refusal) => return Err(refusal),
         }
     }
     Ok(most)
+}
+
+/// Makes the next step of the cleaner, if there is one, and answers whether it is one that compacts a segment. A step in
+/// which a backup is lost counts as made.
+pub(crate) fn make_step<F: Fleet>(
+    master: &mut Master<F>,
+    policy: &Policy,
+    notes: &mut Notes,
+) -> Result<Option<bool>, Refusal>
+    ensures makes { MakesStep policy.now (world F.state master.old) result (world F.state master.new) }
+    ensures goes_on { LivesOn master.old.knows master.new.knows [] }
+    ensures keeps { Keeps 1 (world F.state master.old) (world F.state master.new) }
+    ensures spent { IfErr result (λ r. r ≡ Refusal.Spent → IsSpent (F.state master.new.fleet)) }
+{
+    let Some(step) = choose_step(master, policy, notes)? else {
+        return Ok(None);
+    };
+    let is_long = is_compaction(&step);
+    match master.step(step) {
+        Ok(_) => Ok(Some(is_long)),
+        Err(refusal) => match refusal {
+            Refusal::Lost(_) => Ok(Some(is_long)),
+            _ => Err(refusal),
+        },
+    }
+}
+
+/// Whether a step compacts a segment.
+fn is_compaction(step: &Step) -> bool
+    ensures { result ≡ is_compaction step.now }
+{
+    match step {
+        Step::Compact(_) => true,
+        _ => false,
+    }
 }

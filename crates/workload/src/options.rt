@@ -9,7 +9,7 @@ workload [--NAME=VALUE ..]: a core load of the Yahoo Cloud Serving Benchmark ove
 
   --load=A            half reads, half updates (A); 95 % reads (B); reads (C); reads of the latest keys and 5 % new
                       keys (D); half reads, and half reads that are followed by a put under the condition of that
-                      version (F)
+                      version (F); updates, which is none of the benchmark's (W)
   --spread=zipf       how keys are drawn: uniform, zipf (exponent 0.99, scrambled) or latest; for load D latest, if
                       not said
   --threads=1         how many threads call: 1 to 63

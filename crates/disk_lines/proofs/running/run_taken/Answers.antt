@@ -1,7 +1,6 @@
 use Rattle.std.proofs.Common.{subst}
 use Rattle.lines.specs.Reading.{TakesLine}
 use Rattle.lines.specs.declared.reading.Taken.{Taken}
-use Rattle.lines.specs.declared.reason.Reason.TheVariants.{TooLong}
 use Rattle.disk_lines.proofs.Turning.{ended_fails, last_fails, turn_ends, turn_last, turn_more, turn_too_long}
 use Rattle.disk_lines.proofs.running.run_taken.Goals as goal
 
@@ -14,7 +13,7 @@ returns-in-Ok g c = λ had left line.
 pub returns-in-Err : goal.returns-in-Err
 returns-in-Err g c = λ had left line.
     ended_fails c.args.is_raw c.args.store.now.master.knows c.run_text.new.store.master.knows c.args.number had left
-    (g.W.Write.contents c.args.writer.now) (g.W.Write.contents c.run_text.new.writer) c.args.text.now c.in-Err.fault
+    (g.W.Write.contents c.args.writer.now) (g.W.Write.contents c.run_text.new.writer) c.args.text.now c.in-Err.fault c.requires
     (subst (λ (t : Taken). TakesLine c.args.is_raw had left c.args.text.now t) c.in-Ended.is line) c.in-Err.ensures
 
 pub returns-in-Ok-run_text : goal.returns-in-Ok-run_text
@@ -28,7 +27,7 @@ pub returns-in-Err-run_text : goal.returns-in-Err-run_text
 returns-in-Err-run_text g c = λ had left line.
     last_fails c.args.is_raw c.args.store.now.master.knows c.run_text-in-Last.new.store.master.knows c.args.number had
     left (g.W.Write.contents c.args.writer.now) (g.W.Write.contents c.run_text-in-Last.new.writer) c.args.text.now
-    c.in-Err-run_text.fault
+    c.in-Err-run_text.fault c.requires
     (subst (λ (t : Taken). TakesLine c.args.is_raw had left c.args.text.now t) c.in-Last.is line)
     c.in-Err-run_text.ensures
 
@@ -40,5 +39,5 @@ returns-in-Nothing g c = λ had left line.
 pub returns-in-TooLong : goal.returns-in-TooLong
 returns-in-TooLong g c = λ had left line.
     turn_too_long c.args.is_raw c.args.store.now.master.knows c.args.number had left
-    (g.W.Write.contents c.args.writer.now) c.args.text.now TooLong
+    (g.W.Write.contents c.args.writer.now) c.args.text.now
     (subst (λ (t : Taken). TakesLine c.args.is_raw had left c.args.text.now t) c.in-TooLong.is line)

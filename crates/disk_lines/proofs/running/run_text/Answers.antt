@@ -8,7 +8,8 @@ use Rattle.disk_lines.proofs.Turning.{text_written}
 use Rattle.disk_lines.proofs.running.run_text.Goals as goal
 
 pub returns-in-Err : goal.returns-in-Err
-returns-in-Err g c = (refl, λ line says. c.in-Err.ensures.complete refl line says, Keeps-refl _, refl)
+returns-in-Err g c =
+    (refl, (λ line says. c.in-Err.ensures.complete refl line says, c.in-Err.ensures.reason), Keeps-refl _, refl)
 
 pub returns-in_default : goal.returns-in_default
 returns-in_default g c =

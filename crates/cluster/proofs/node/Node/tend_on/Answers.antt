@@ -3,8 +3,7 @@ use Rattle.backup.specs.State.{fleet_state}
 use Rattle.answers.specs.driving.master.World.{world}
 use Rattle.tending.specs.declared.policy.Policy.{Policy}
 use Rattle.tending.specs.Low.{usual_for}
-use Rattle.tending.specs.Tends.{Tends}
-use Rattle.tending.proofs.Rounding.{tends_of}
+use Rattle.tending.specs.Tends.{TendsBehind}
 use Rattle.cluster.proofs.BesideCleaner.{no_tending, reply_stays, stays_none, stays_up, up_tends}
 use Rattle.cluster.proofs.Standing.{not_up}
 use Rattle.cluster.proofs.node.Node.tend_on.Goals as goal
@@ -12,18 +11,15 @@ use Rattle.cluster.proofs.node.Node.tend_on.Goals as goal
 pub returns : goal.returns
 returns c =
     let up = c.in-Up.up in
-    let m = c.tend.new.master in
-    let policy = c.of-policy.result in
-    let tends : Tends (usual_for up.knows.config) c.args.steps (world fleet_state up) c.tend.result
+    let m = c.tend_behind.new.master in
+    let tends : TendsBehind (usual_for up.knows.config) c.args.steps (world fleet_state up) c.tend_behind.result
     (world fleet_state m) =
-    subst (λ (p : Policy). Tends p c.args.steps (world fleet_state up) c.tend.result (world fleet_state m))
-    (c.of-policy.ensures ∙ ap usual_for c.config.ensures)
-    (tends_of policy c.args.steps (world fleet_state up) (world fleet_state m) c.tend.result c.tend.ensures.tended
-    c.tend.ensures.refused c.tend.ensures.able) in
+    subst (λ (p : Policy). TendsBehind p c.args.steps (world fleet_state up) c.tend_behind.result
+    (world fleet_state m)) (c.of-policy.ensures ∙ ap usual_for c.config.ensures) c.tend_behind.ensures.tends in
     record {
-      stays = stays_up c.args.self.now up m c.in-Up.is c.tend.ensures.goes_on c.show_valid-2.ensures;
-      tends = up_tends c.args.self.now up m c.in-Up.is c.args.steps c.tend.result tends;
-      reply = reply_stays c.args.self.now up m c.in-Up.is c.tend.ensures.goes_on;
+      stays = stays_up c.args.self.now up m c.in-Up.is c.tend_behind.ensures.goes_on c.show_valid-2.ensures;
+      tends = up_tends c.args.self.now up m c.in-Up.is c.args.steps c.tend_behind.result tends;
+      reply = reply_stays c.args.self.now up m c.in-Up.is c.tend_behind.ensures.goes_on;
     }
 
 pub returns-in_default : goal.returns-in_default
