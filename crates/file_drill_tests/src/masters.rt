@@ -72,12 +72,12 @@ pub(crate) fn master(
     let Ok(member) = begin_member(alloc, 7, 0, 1, device) else {
         return None;
     };
-    if found.add_missing().is_err() {
+    let Ok(()) = found.add_missing() else {
         return None;
-    }
-    if found.put(alloc, 0, member).is_err() {
+    };
+    let Ok(()) = found.put(alloc, 0, member) else {
         return None;
-    }
+    };
     let Ok(members) = found.into_members(alloc) else {
         return None;
     };
