@@ -94,7 +94,7 @@ def a_bad_line_is_skipped_if_the_run_keeps_going(program, folder):
         want((it.stderr.readline(), it.stdout.readline()), (b"ramlog: bad line 2\n", b"recovered 1\n"))
         it.stdin.write(b"get 1 b\n")
         it.stdin.close()
-        want((it.stdout.read(), it.wait(SECONDS)), (b"ok 1\n1 x\n", 2))
+        want((it.stdout.read(), it.wait(SECONDS)), (b"ok 3\n3 x\n", 2))
 
 
 def a_bad_line_ends_the_run(program, folder):
