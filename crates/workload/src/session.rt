@@ -7,7 +7,7 @@ use crate::options::Options;
 use crate::recovered::recover;
 use crate::report::{add_all, operations, say_fault, say_latencies, say_speed};
 use crate::sizes::store_options;
-use embedded::master::Master;
+use embedded::master::{Config, Master};
 use embedded::{Life, MemoryFleet, Store};
 use entry::NoMemory;
 use loads::locked_log::Policy;
@@ -71,6 +71,17 @@ impl Fault {
     }
 }
 
+/// When the cleaner of a load begins. It spares up to twice as many segments as usual, if memory has enough of them: then
+/// it ends a pass before several threads have filled the head.
+fn policy_of(config: &Config) -> Policy {
+    let memory = config.seglets.saturating_mul(config.seglet);
+    let segments = memory.checked_div(config.segment).unwrap_or(0);
+    Policy {
+        spare: (segments / 16).clamp(4, 8),
+        ..Policy::of(config)
+    }
+}
+
 /// What the threads do.
 fn plan_of(alloc: Global, options: &Options, policy: Policy, is_traced: bool) -> Plan
     requires { 1 ≤ options.now.threads }
@@ -112,7 +123,7 @@ fn run_threads<R: Threads + Wait + Clock + Eprint + Sync>(
         None => options.load.spread(),
     };
     let keys = Keys::new(alloc, spread, options.records)?;
-    let policy = Policy::of(master.config());
+    let policy = policy_of(master.config());
     if options.threads == 0 || options.threads > 63 {
         return Err(Fault::Misuse);
     }
