@@ -748,6 +748,9 @@ class Policy:
     def is_low(self):
         return self.free * self.options.seglet < self.SPARE * self.segment or self.is_crowded(self.ids)
 
+    def is_tight(self):
+        return self.free * self.options.seglet < (self.SPARE - 1) * self.segment
+
     def is_crowded(self, listed):
         return self.segment // 32 < listed + self.SPARE
 
@@ -1441,10 +1444,10 @@ class Store:
 
     def tended_behind(self, most):
         """Each way that so many steps of the cleaner behind a command may end: how many requests for memory it shows as refused,
-        and the store then. None is made behind a compaction."""
+        and the store then. None is made behind a compaction, unless memory is tight."""
         store, step = self, None
         for _ in range(most):
-            if step and step[0] == "compact":
+            if step and step[0] == "compact" and not Policy(store.master, store.options).is_tight():
                 break
             store = store if store.master.is_halted else store.waited()
             step = store.pending()

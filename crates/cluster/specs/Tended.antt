@@ -40,8 +40,9 @@ MakesWay zero old command new = new ≡ old
 MakesWay (suc rounds) old command new = (mid : World) × MakesWay rounds old command mid
     × (full : World) × RunsCommand mid command (Err Full) full × Gains full new
 
--- What the cleaner did last: up to so many steps behind a command that was carried out, of which only the last may
--- compact a segment. Or it gained nothing for one that was refused as Full. Behind any other refusal it did nothing.
+-- What the cleaner did last: up to so many steps behind a command that was carried out, and none behind a compaction
+-- unless memory was tight. Or it gained nothing for one that was refused as Full. Behind any other refusal it did
+-- nothing.
 abbrev pub EndsTended : ℕ → Result Reply Refusal → World → World → Type 0
 EndsTended steps (Ok reply) old new =
     (made : Result ℕ Refusal) × TendsBehind (usual_for old.knows.config) steps old made new
@@ -100,8 +101,8 @@ GainsRoom (Up m) true new = (w : World) × Gains (world fleet_state m) w × (wor
 GainsRoom (Up m) false new = (w : World) × GainsNothing (world fleet_state m) w × (world_of new ≡ Some w)
 GainsRoom old gained new = (new ≡ old) × (gained ≡ false)
 
--- A node that is up just makes up to so many steps of the cleaner, of which only the last may compact a segment,
--- whatever comes of them. Any other node does nothing.
+-- A node that is up just makes up to so many steps of the cleaner as they are made behind a command, whatever comes of
+-- them. Any other node does nothing.
 abbrev pub TendsOn : Node → ℕ → Node → Type 0
 TendsOn (Up m) steps new = (made : Result ℕ Refusal) × (w : World)
     × TendsBehind (usual_for m.knows.config) steps (world fleet_state m) made w × (world_of new ≡ Some w)

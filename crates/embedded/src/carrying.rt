@@ -175,8 +175,8 @@ fn reply_to<F: Fleet>(master: &mut Master<F>, notes: &mut Notes, command: &Comma
     }
 }
 
-/// Makes a few steps of the cleaner, and none behind one that compacts a segment. If one is refused, what was done stays
-/// done.
+/// Makes a few steps of the cleaner, and none behind a compaction unless memory is tight. If one is refused, what was
+/// done stays done.
 fn clean_a_little<F: Fleet>(master: &mut Master<F>, notes: &mut Notes)
     ensures { LivesOn master.old.knows master.new.knows [] }
 {
@@ -186,8 +186,8 @@ fn clean_a_little<F: Fleet>(master: &mut Master<F>, notes: &mut Notes)
 
 /// Carries a command out: it is applied and pushed until its record is durable. If it has to wait for a roll, or
 /// finds no room, the roll is made and the cleaner makes room, and it is tried again. Before it the master forgets
-/// old records, and behind it the cleaner makes up to 32 steps, of which only the last may compact a segment. Nothing of
-/// that makes a record, so the reply says all that became of the history.
+/// old records, and behind it the cleaner makes up to 32 steps, and none behind a compaction unless memory is tight.
+/// Nothing of that makes a record, so the reply says all that became of the history.
 pub fn carry_out<F: Fleet>(
     master: &mut Master<F>,
     notes: &mut Notes,

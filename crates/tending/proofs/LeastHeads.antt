@@ -47,18 +47,18 @@ pub tends_leave : (policy : Policy) (most : ℕ) (old new : World) (result : Res
 tends_leave policy most old new (Ok made) is = tended_leaves made old new is.0.tended
 tends_leave policy most old new (Err r) is = until_leaves most old r new is
 
-short_leaves : (count : ℕ) (old new : World) → AreShort count old new → LeavesOthers old new
-short_leaves zero old new is = nowhere old new is
-short_leaves (suc count) old new (mid, before, s, is, short, goes) =
-    leaves_on old mid new (short_leaves count old mid before) (advance_leaves mid new s goes)
+short_leaves : (policy : Policy) (count : ℕ) (old new : World) → AreShort policy count old new → LeavesOthers old new
+short_leaves policy zero old new is = nowhere old new is
+short_leaves policy (suc count) old new (mid, before, s, is, short, goes) =
+    leaves_on old mid new (short_leaves policy count old mid before) (advance_leaves mid new s goes)
 
 pub behind_leaves : (policy : Policy) (most : ℕ) (old new : World) (result : Result ℕ Refusal)
     → TendsBehind policy most old result new → LeavesOthers old new
-behind_leaves policy most old new (Ok made) (inl (few, short, rests)) = short_leaves made old new short
+behind_leaves policy most old new (Ok made) (inl (few, short, rests)) = short_leaves policy made old new short
 behind_leaves policy most old new (Ok made) (inr (count, one, few, mid, short, s, is, long, goes)) =
-    leaves_on old mid new (short_leaves count old mid short) (advance_leaves mid new s goes)
+    leaves_on old mid new (short_leaves policy count old mid short) (advance_leaves mid new s goes)
 behind_leaves policy most old new (Err r) (count, few, mid, short, refused) =
-    leaves_on old mid new (short_leaves count old mid short) (refused_leaves mid r new refused)
+    leaves_on old mid new (short_leaves policy count old mid short) (refused_leaves mid r new refused)
 
 continued_leaves : (count : ℕ) (old new : World) → AreContinued count old new → LeavesOthers old new
 continued_leaves zero old new is = nowhere old new is

@@ -1,24 +1,23 @@
 -- Steps of a cleaner, one after another.
-use Rattle.std.proofs.Common.{◌≡◌, ℕ, suc, ◌+◌, ◌-◌, ◌<◌, ◌≤◌, Bool, true, false, [], refl, subst, sym, inl, inr, arith, ◌∙◌}
-use Rattle.std.specs.Prelude.{Result, Ok, Err, Some, None}
+use Rattle.std.proofs.Common.{◌≡◌, ℕ, suc, ◌+◌, ◌-◌, ◌<◌, ◌≤◌, Bool, true, false, [], refl, subst, inl, inr, arith, ◌∙◌}
+use Rattle.std.specs.Prelude.{Ok, Some}
 use Rattle.driving.specs.master.Keeps.{Keeps}
-use Rattle.driving.specs.master.Steps.{Declines, Steps}
+use Rattle.driving.specs.master.Steps.{Declines}
 use Rattle.driving.specs.master.World.{World}
 use Rattle.driving.specs.master.master_state.declared.step.Refusal.{Refusal}
 use Rattle.driving.specs.master.master_state.declared.step.Step.{Step}
 use Rattle.driving.specs.master.master_state.declared.step.Step.TheVariants.{Apply, Push, BeginRoll, Compact}
 use Rattle.driving.specs.master.master_state.declared.step.Step.TheVariants.{BeginClean, Copy, Seal, Free}
-use Rattle.driving.specs.master.master_state.declared.step.StepAnswer.{StepAnswer}
 use Rattle.driving.specs.master.master_state.Data.{MasterData}
 use Rattle.driving.proofs.of_master.Keeping.{keeps_same, keeps_on}
 use Rattle.driving.specs.GoesOn.{goes_nowhere, goes_further}
 use Rattle.driving.specs.Rolls.{Advances, is_lost}
 use Rattle.driving.specs.Served.{LivesOn}
-use Rattle.driving.proofs.AnyStep.{makes_no_record, step_goes_on}
+use Rattle.driving.proofs.AnyStep.{makes_no_record}
 use Rattle.driving.proofs.Turns.{IsTurn, next_turn}
 use Rattle.tending.specs.declared.policy.Policy.{Policy}
 use Rattle.tending.specs.Tends.{AreShort, AreTended, IsBegin, IsRefused, IsTendStep, MakesStep}
-use Rattle.tending.specs.Tends.{is_compaction}
+use Rattle.tending.specs.Tends.{stops_behind}
 
 by_turn : (s : Step) → IsTurn s → makes_no_record s ≡ true
 by_turn (Apply seat command) is = absurd is
@@ -57,11 +56,11 @@ so_far_none w = record { lives = goes_nowhere w.knows; tended = refl; keeps = ke
 -- ---- one step
 
 -- the master that a choice hands over is as it was
-pub makes_step : (policy : Policy) (old mid new : World) (s : Step) (is_long : Bool) → mid ≡ old
-    → IsTendStep mid.knows s → is_long ≡ is_compaction s → Advances s mid new
-    → MakesStep policy old (Ok (Some is_long)) new
-makes_step policy old mid new s is_long same is long goes =
-    subst (λ (w : World). MakesStep policy w (Ok (Some is_long)) new) same (s, is, sym long, goes)
+pub makes_step : (policy : Policy) (old mid new : World) (s : Step) (stops : Bool) → mid ≡ old
+    → IsTendStep mid.knows s → stops_behind policy s new.knows ≡ stops → Advances s mid new
+    → MakesStep policy old (Ok (Some stops)) new
+makes_step policy old mid new s stops same is long goes =
+    subst (λ (w : World). MakesStep policy w (Ok (Some stops)) new) same (s, is, long, goes)
 
 pub refuses_step : (old mid new : World) (s : Step) (r : Refusal) → mid ≡ old → IsTendStep mid.knows s
     → Declines mid s r new → is_lost r ≡ false → IsRefused old r new
@@ -94,22 +93,22 @@ keeps_one_more made most old mid new lt first later =
 
 -- ---- behind a command
 
--- So many steps were made so far, none of which compacts a segment.
-pub record IsShortSoFar (made : ℕ) (old new : World) : Type 0 where
+-- So many steps were made so far, and the cleaner stops behind none of them.
+pub record IsShortSoFar (policy : Policy) (made : ℕ) (old new : World) : Type 0 where
   pub lives : LivesOn old.knows new.knows []
-  pub short : AreShort made old new
+  pub short : AreShort policy made old new
   pub keeps : Keeps made old new
 
-pub short_none : (w : World) → IsShortSoFar 0 w w
-short_none w = record { lives = goes_nowhere w.knows; short = refl; keeps = keeps_same 0 w }
+pub short_none : (policy : Policy) (w : World) → IsShortSoFar policy 0 w w
+short_none policy w = record { lives = goes_nowhere w.knows; short = refl; keeps = keeps_same 0 w }
 
 pub short_more : (policy : Policy) (made : ℕ) (is_long : Bool) (old mid new : World) → is_long ≡ false
-    → IsShortSoFar made old mid → MakesStep policy mid (Ok (Some is_long)) new → LivesOn mid.knows new.knows []
-    → Keeps 1 mid new → IsShortSoFar (made + 1) old new
+    → IsShortSoFar policy made old mid → MakesStep policy mid (Ok (Some is_long)) new → LivesOn mid.knows new.knows []
+    → Keeps 1 mid new → IsShortSoFar policy (made + 1) old new
 short_more policy made is_long old mid new short so (s, is, long, goes) lives keeps =
     let next : suc made ≡ made + 1 = omega arith in
     record {
       lives = goes_further old.knows mid.knows new.knows so.lives lives;
-      short = subst (λ (n : ℕ). AreShort n old new) next (mid, so.short, s, is, long ∙ short, goes);
+      short = subst (λ (n : ℕ). AreShort policy n old new) next (mid, so.short, s, is, long ∙ short, goes);
       keeps = keeps_on made 1 old mid new so.keeps keeps;
     }

@@ -1,5 +1,5 @@
 -- When a cleaner has to begin something, and when it may rest.
-use Rattle.std.specs.Prelude.{◌≡◌, ◌+◌, ◌*◌, ◌/◌, ◌||◌, Bool, true, None, length, nat_lt}
+use Rattle.std.specs.Prelude.{◌≡◌, ◌+◌, ◌-◌, ◌*◌, ◌/◌, ◌||◌, Bool, true, None, length, nat_lt}
 use Rattle.driving.specs.master.log_head.Head.{digest_of}
 use Rattle.driving.specs.master.master_space.Choosing.{next_step, pending_step}
 use Rattle.driving.specs.master.master_state.Budget.{free_seglets}
@@ -19,6 +19,10 @@ is_crowded policy d = nat_lt (policy.segment / 32) (length (digest_of d.head.ima
 -- a cleaner has to begin something: memory is short, or the digest is crowded
 abbrev pub is_low : Policy → MasterData → Bool
 is_low policy d = is_short policy d || is_crowded policy d
+
+-- Memory is tight: fewer whole segments are free than the policy spares, less one.
+abbrev pub is_tight : Policy → MasterData → Bool
+is_tight policy d = nat_lt (free_seglets d * policy.seglet) ((policy.spare - 1) * policy.segment)
 
 -- the usual policy for a configuration: four segments are spared
 abbrev pub usual_for : Config → Policy

@@ -1,5 +1,5 @@
 -- What a cleaner makes of a master and its fleet, a few steps at a time.
-use Rattle.std.specs.Prelude.{◌≡◌, ◌⊎◌, ℕ, zero, suc, ◌<◌, ◌≤◌, ◌+◌, Bool, true, false, Option, Some, None, Result, Ok, Err}
+use Rattle.std.specs.Prelude.{◌≡◌, ◌⊎◌, ℕ, zero, suc, ◌<◌, ◌≤◌, ◌+◌, ◌&&◌, not, Bool, true, false, Option, Some, None, Result, Ok, Err}
 use Rattle.driving.specs.master.master_space.Choosing.{next_step, pending_step}
 use Rattle.driving.specs.master.master_state.declared.step.Refusal.{Refusal}
 use Rattle.driving.specs.master.master_state.declared.step.Refusal.TheVariants.{NoMemory}
@@ -11,7 +11,7 @@ use Rattle.driving.specs.master.Steps.{Declines}
 use Rattle.driving.specs.master.World.{World}
 use Rattle.driving.specs.Rolls.{Advances, is_lost}
 use Rattle.tending.specs.declared.policy.Policy.{Policy}
-use Rattle.tending.specs.Low.{MayRest, is_low}
+use Rattle.tending.specs.Low.{MayRest, is_low, is_tight}
 
 -- a segment is compacted, or a pass begins
 abbrev pub IsBegin : Step → Type 0
@@ -63,29 +63,32 @@ abbrev pub is_compaction : Step → Bool
 is_compaction (Compact id) = true
 is_compaction _ = false
 
--- so many steps of a cleaner were made, one after another, and none of them compacts a segment
-abbrev pub AreShort : ℕ → World → World → Type 0
-AreShort zero old new = new ≡ old
-AreShort (suc count) old new = (mid : World) × AreShort count old mid
-    × (step : Step) × IsTendStep mid.knows step × (is_compaction step ≡ false) × Advances step mid new
+-- A cleaner stops behind the step, which left this: it compacts a segment, and memory isn't tight.
+abbrev pub stops_behind : Policy → Step → MasterData → Bool
+stops_behind policy step new = is_compaction step && not (is_tight policy new)
 
--- What a cleaner makes of a master behind a command. It made so many steps, none of which compacts a segment, and fewer
--- than it might only if it may rest. Or it made such steps, and then one that compacts a segment: that one is as long
--- as many others. Or it was refused.
+-- so many steps of a cleaner were made, one after another, and it stops behind none of them
+abbrev pub AreShort : Policy → ℕ → World → World → Type 0
+AreShort policy zero old new = new ≡ old
+AreShort policy (suc count) old new = (mid : World) × AreShort policy count old mid × (step : Step)
+    × IsTendStep mid.knows step × (stops_behind policy step new.knows ≡ false) × Advances step mid new
+
+-- What a cleaner makes of a master behind a command. It made so many steps and stops behind none of them, and it made
+-- fewer than it might only if it may rest. Or it made such steps, and then one behind which it stops: a compaction is
+-- as long as many other steps. Or it was refused.
 abbrev pub TendsBehind : Policy → ℕ → World → Result ℕ Refusal → World → Type 0
 TendsBehind policy most old (Ok made) new =
-    ((made ≤ most) × AreShort made old new × (made < most → MayRest policy new.knows))
-    ⊎ ((count : ℕ) × (made ≡ count + 1) × (count < most) × (mid : World) × AreShort count old mid
-    × (step : Step) × IsTendStep mid.knows step × (is_compaction step ≡ true) × Advances step mid new)
+    ((made ≤ most) × AreShort policy made old new × (made < most → MayRest policy new.knows))
+    ⊎ ((count : ℕ) × (made ≡ count + 1) × (count < most) × (mid : World) × AreShort policy count old mid
+    × (step : Step) × IsTendStep mid.knows step × (stops_behind policy step new.knows ≡ true) × Advances step mid new)
 TendsBehind policy most old (Err r) new =
-    (count : ℕ) × (count < most) × (mid : World) × AreShort count old mid × IsRefused mid r new
+    (count : ℕ) × (count < most) × (mid : World) × AreShort policy count old mid × IsRefused mid r new
 
 -- ---- one step
 
--- What one step of a cleaner comes to, and whether it is one that compacts a segment. Or there is none. Or it was
--- refused.
+-- What one step of a cleaner comes to, and whether the cleaner stops behind it. Or there is none. Or it was refused.
 abbrev pub MakesStep : Policy → World → Result (Option Bool) Refusal → World → Type 0
-MakesStep policy old (Ok (Some is_long)) new =
-    (step : Step) × IsTendStep old.knows step × (is_compaction step ≡ is_long) × Advances step old new
+MakesStep policy old (Ok (Some stops)) new =
+    (step : Step) × IsTendStep old.knows step × (stops_behind policy step new.knows ≡ stops) × Advances step old new
 MakesStep policy old (Ok None) new = (new ≡ old) × MayRest policy new.knows
 MakesStep policy old (Err r) new = IsRefused old r new

@@ -12,9 +12,10 @@ use crate::steps::make_step;
 use driving::master::{Master, Refusal};
 use replica::Fleet;
 
-/// Makes up to so many steps of the cleaner behind a command, as `tend` does, but none behind one that compacts a
-/// segment. That step takes as long as many others, and whoever waits for the next command would wait for each. A
-/// compaction makes room for many commands, so the cleaner keeps up.
+/// Makes up to so many steps of the cleaner behind a command, as `tend` does, but none behind one that compacts a segment
+/// unless memory is tight then: fewer whole segments are free than the policy spares, less one. A compaction takes as
+/// long as many other steps, and whoever waits for the next command would wait for each. It makes room for many
+/// commands, so the cleaner mostly keeps up.
 pub fn tend_behind<F: Fleet>(
     master: &mut Master<F>,
     policy: &Policy,
@@ -28,8 +29,8 @@ pub fn tend_behind<F: Fleet>(
 {
     for made in 0..most {
         match make_step(master, policy, notes) {
-            Ok(Some(is_long)) => {
-                if is_long {
+            Ok(Some(stops)) => {
+                if stops {
                     return Ok(made + 1);
                 }
             }

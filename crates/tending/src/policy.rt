@@ -1,7 +1,7 @@
 //! When a cleaner begins something, and what.
 
 ghost use Rattle.std.specs.Prelude.{◌≡◌, ◌+◌, ◌*◌, ◌/◌, nat_lt};
-ghost use Rattle.tending.specs.Low.{is_low, is_short, usual_for};
+ghost use Rattle.tending.specs.Low.{is_low, is_short, is_tight, usual_for};
 
 use crate::weighing::Weight;
 use driving::master::{Config, Master};
@@ -47,6 +47,14 @@ impl Policy {
         ensures { result ≡ is_short self.now master.now.knows }
     {
         product(master.free_seglets(), self.seglet) < product(self.spare, self.segment)
+    }
+
+    /// Whether fewer whole segments are free than the policy spares, less one.
+    pub(crate) fn is_tight<F: Fleet>(&self, master: &Master<F>) -> bool
+        ensures { result ≡ is_tight self.now master.now.knows }
+    {
+        let spare = self.spare.saturating_sub(1);
+        product(master.free_seglets(), self.seglet) < product(spare, self.segment)
     }
 
     /// Whether a digest that lists so many segments has room for fewer than the policy spares.

@@ -1,11 +1,11 @@
 //! The steps of a cleaner.
 
-ghost use Rattle.std.specs.Prelude.{◌≡◌, ◌<◌, [], None, true, IfOk, IfErr, IfSome};
+ghost use Rattle.std.specs.Prelude.{◌≡◌, ◌<◌, ◌&&◌, [], None, not, true, IfOk, IfErr, IfSome};
 ghost use Rattle.driving.specs.master.World.{world};
 ghost use Rattle.driving.specs.master.Keeps.{Keeps};
 ghost use Rattle.driving.specs.master.master_space.Choosing.{next_step, pending_step};
 ghost use Rattle.driving.specs.Served.{IsSpent, LivesOn};
-ghost use Rattle.tending.specs.Low.{is_low, MayRest};
+ghost use Rattle.tending.specs.Low.{is_low, is_tight, MayRest};
 ghost use Rattle.tending.specs.Tends.{IsTendStep, IsTended, MakesStep, TendsUntil, is_compaction};
 
 use crate::choosing::begin;
@@ -66,8 +66,8 @@ pub fn tend<F: Fleet>(
     Ok(most)
 }
 
-/// Makes the next step of the cleaner, if there is one, and answers whether it is one that compacts a segment. A step in
-/// which a backup is lost counts as made.
+/// Makes the next step of the cleaner, if there is one, and answers whether a cleaner behind a command stops behind it:
+/// the step compacts a segment, and memory isn't tight. A step in which a backup is lost counts as made.
 pub(crate) fn make_step<F: Fleet>(
     master: &mut Master<F>,
     policy: &Policy,
@@ -83,12 +83,19 @@ pub(crate) fn make_step<F: Fleet>(
     };
     let is_long = is_compaction(&step);
     match master.step(step) {
-        Ok(_) => Ok(Some(is_long)),
+        Ok(_) => Ok(Some(stops(master, policy, is_long))),
         Err(refusal) => match refusal {
-            Refusal::Lost(_) => Ok(Some(is_long)),
+            Refusal::Lost(_) => Ok(Some(stops(master, policy, is_long))),
             _ => Err(refusal),
         },
     }
+}
+
+/// Whether a cleaner behind a command stops behind a step that was made and is long.
+fn stops<F: Fleet>(master: &Master<F>, policy: &Policy, is_long: bool) -> bool
+    ensures { result ≡ is_long && not (is_tight policy.now master.now.knows) }
+{
+    is_long && !policy.is_tight(master)
 }
 
 /// Whether a step compacts a segment.

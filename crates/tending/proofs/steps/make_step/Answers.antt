@@ -1,4 +1,4 @@
-use Rattle.std.proofs.Common.{◌≡◌, Bool, [], subst, sym}
+use Rattle.std.proofs.Common.{◌≡◌, ◌∙◌, ◌&&◌, Bool, not, [], ap, subst, sym}
 use Rattle.std.specs.Prelude.{Option, Result, IfErr, IfSome}
 use Rattle.driving.specs.master.World.{World, world}
 use Rattle.driving.specs.master.master_state.declared.step.Refusal.{Refusal}
@@ -7,6 +7,7 @@ use Rattle.driving.specs.master.master_state.declared.step.Step.{Step}
 use Rattle.driving.specs.Served.{IsSpent, LivesOn}
 use Rattle.driving.proofs.AnyStep.{step_goes_on, step_spent}
 use Rattle.driving.proofs.Losses.{goes_lost, goes_ok, unlost}
+use Rattle.tending.specs.Low.{is_tight}
 use Rattle.tending.specs.Tends.{IsTendStep, MakesStep}
 use Rattle.tending.proofs.Tended.{makes_step, no_record, refuses_step}
 use Rattle.tending.proofs.steps.make_step.Goals.{in-Ok, in-Err+in-Lost, in-Err+in_default-refusal}
@@ -22,14 +23,14 @@ returns-clause-makes g c =
     let is : IsTendStep mid.knows c.in-Some.step =
     subst (λ (o : Option Step). IfSome o (λ (s : Step). IsTendStep mid.knows s)) c.in-Some.is
     c.in_ok-step.ensures.some in
-    let long = c.is_compaction-is_long.result in
-    let long_is = c.is_compaction-is_long.ensures in
+    let long_is = ap (λ (b : Bool). b && not (is_tight policy new.knows)) (sym c.is_compaction-is_long.ensures) in
     elim c.match-step.branch as (λ _. MakesStep policy old c.match-step.result new) [
       | in-Ok w ↦ subst (λ (r : Result (Option Bool) Refusal). MakesStep policy old r new) (sym w.result-is)
-          (makes_step policy old mid new c.in-Some.step long same is long_is
+          (makes_step policy old mid new c.in-Some.step w.stops.result same is (long_is ∙ sym w.stops.ensures)
           (goes_ok c.in-Some.step mid new c.step.result w.in-Ok.field-0 w.in-Ok.is c.step.ensures.gives))
       | in-Err+in-Lost w ↦ subst (λ (r : Result (Option Bool) Refusal). MakesStep policy old r new) (sym w.result-is)
-          (makes_step policy old mid new c.in-Some.step long same is long_is
+          (makes_step policy old mid new c.in-Some.step w.stops-in-Lost.result same is
+          (long_is ∙ sym w.stops-in-Lost.ensures)
           (goes_lost c.in-Some.step mid new w.in-Err.refusal w.in-Lost.field-0 w.in-Lost.is w.in-Err.ensures.gives))
       | in-Err+in_default-refusal w ↦ subst (λ (r : Result (Option Bool) Refusal). MakesStep policy old r new)
           (sym w.result-is)
