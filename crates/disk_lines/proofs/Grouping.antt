@@ -1,12 +1,12 @@
 -- Commands that are gathered, and what is printed of them.
-use Rattle.std.proofs.Common.{[], ◌≡◌, ◌∙◌, ℕ, zero, suc, ◌+◌, ◌-◌, ◌<◌, ◌≤◌, Bool, true, false, List, ◌∷◌, ◌++◌, length, map}
+use Rattle.std.proofs.Common.{[], ◌≡◌, ◌∙◌, ℕ, zero, suc, ◌+◌, ◌-◌, ◌<◌, ◌≤◌, Bool, true, false, List, ◌∷◌, ◌++◌, length}
 use Rattle.std.proofs.Common.{arith, ap, append_assoc, inl, inr, refl, subst, sym}
 use Rattle.std.proofs.Math.Nat.{le_trans}
 use Rattle.std.proofs.lemmas.List.{append-nil, append_cancel_left, length-append, map-append}
 use Rattle.std.proofs.lemmas.Bool.Decides.{nat_tests}
-use Rattle.std.specs.Prelude.{Option, Some, None, Result, Ok, Err, if◌then◌else◌, nat_lt, slice_get, unwrap_or}
+use Rattle.std.specs.Prelude.{Option, Some, Ok, Err, if◌then◌else◌, nat_lt, slice_get, unwrap_or}
 use Rattle.std.specs.Option.{option_map}
-use Rattle.std.specs.Io.KnownBytes.{Appends, Consumes, Keeps}
+use Rattle.std.specs.Io.KnownBytes.{Appends, Consumes}
 use Rattle.std.proofs.KnownBytes.{Appends-kept, Appends-nil, Consumes-nil, Consumes-trans}
 use Rattle.lines.specs.Grammar.{LineValue}
 use Rattle.lines.specs.Reading.{IsLineText}
@@ -19,17 +19,15 @@ use Rattle.versioned_map.specs.declared.command.Record.{Record}
 use Rattle.versioned_map.specs.declared.command.Reply.{Reply as MapReply}
 use Rattle.versioned_map.specs.declared.command.Reply.TheVariants as said
 use Rattle.answers.specs.declared.fault.ScriptFault.{ScriptFault}
-use Rattle.answers.specs.declared.fault.ScriptFault.TheVariants as fault
-use Rattle.answers.specs.driving.Served.{LivesOn, record_of}
+use Rattle.answers.specs.driving.Served.{LivesOn}
 use Rattle.answers.specs.driving.master.log_laws.Data.{durable_of}
 use Rattle.answers.specs.driving.master.master_state.Data.{MasterData}
 use Rattle.answers.specs.driving.master.master_state.Log.{log_of, opening_of, state_now}
 use Rattle.raw_answers.specs.Texts.{reply_in}
-use Rattle.embedded.specs.Replies.{GoesOn, kept_reply, number_of}
-use Rattle.disk_lines.specs.Lines.{word_of}
-use Rattle.disk_lines.specs.Groups.{AppliesLine, AskFor, Asks, IsAnsweredBy, RunsGroup, told_short, told_whole, unsure_line}
-use Rattle.disk_lines.specs.Runs.{AreSaid, CutsLast, IsTold, RunsFrom, Said, Told, lines_of, printed_of, said_in, texts_of}
-use Rattle.disk_lines.specs.Turns.{AnswersGroup, HasRun, IsGathered, IsPushed, IsWritten, Known, TakesTurn, told_at}
+use Rattle.embedded.specs.Replies.{GoesOn, kept_reply}
+use Rattle.disk_lines.specs.Groups.{AppliesLine, AskFor, Asks, IsAnsweredBy, told_short, told_whole, unsure_line}
+use Rattle.disk_lines.specs.Runs.{AreSaid, IsTold, RunsFrom, Said, Told, lines_of, texts_of}
+use Rattle.disk_lines.specs.Turns.{AnswersGroup, HasRun, IsGathered, IsPushed, IsWritten, Known, told_at}
 use Rattle.disk_lines.specs.Turns.{told_from}
 use Rattle.disk_lines.proofs.Telling.{texts_both}
 

@@ -1,10 +1,9 @@
 -- Bad lines behind which a run goes on.
-use Rattle.std.proofs.Common.{[], ◌≡◌, ◌∙◌, ℕ, ◌+◌, ◌-◌, ◌^◌, ◌<◌, ◌≤◌, Bool, true, false, List, ◌∷◌, ◌++◌, arith, ap, refl}
+use Rattle.std.proofs.Common.{[], ◌≡◌, ◌∙◌, ℕ, ◌+◌, ◌-◌, ◌^◌, Bool, true, false, List, ◌∷◌, ◌++◌, ap, refl}
 use Rattle.std.proofs.Common.{append-nil, inl, inr, subst, sym}
 use Rattle.std.proofs.lemmas.List.Concat.{flat_map-append}
-use Rattle.std.specs.Prelude.{Option, Some, None, Result, Ok, Err}
+use Rattle.std.specs.Prelude.{Some, None, Result, Ok, Err}
 use Rattle.std.specs.Io.KnownBytes.{Keeps}
-use Rattle.lines.specs.declared.reason.Reason.{Reason}
 use Rattle.lines.specs.declared.reason.Reason.TheVariants.{TooMany}
 use Rattle.answers.specs.Errors.{Errors, Reports}
 use Rattle.answers.specs.Texts.{fault_lines}

@@ -1,16 +1,16 @@
 -- Lines that are told of, one after another.
-use Rattle.std.proofs.Common.{[], ◌≡◌, ◌∙◌, ℕ, ◌+◌, ◌-◌, ◌^◌, ◌<◌, Bool, List, ◌∷◌, ◌++◌, length, arith, ap, append_assoc, inl, inr}
+use Rattle.std.proofs.Common.{[], ◌≡◌, ◌∙◌, ℕ, ◌+◌, ◌-◌, ◌^◌, Bool, List, ◌∷◌, ◌++◌, length, arith, ap, append_assoc, inl, inr}
 use Rattle.std.proofs.Common.{refl, subst, sym}
 use Rattle.std.proofs.lemmas.List.{append-nil, length-append}
 use Rattle.std.proofs.lemmas.List.Concat.{flat_map-append}
 use Rattle.std.specs.Prelude.{Option, Some, None, Result, Ok, Err}
-use Rattle.std.specs.Io.KnownBytes.{Appends, Consumes, IsAtEnd, Keeps}
+use Rattle.std.specs.Io.KnownBytes.{Appends, Consumes, Keeps}
 use Rattle.std.proofs.KnownBytes.{Appends-kept, Appends-nil, Appends-trans, Consumes-nil, Consumes-trans}
 use Rattle.answers.specs.declared.fault.ScriptFault.{ScriptFault}
 use Rattle.answers.specs.declared.fault.ScriptFault.TheVariants as fault
 use Rattle.answers.specs.driving.master.master_state.Data.{MasterData}
 use Rattle.lines.specs.declared.reason.Reason.TheVariants.{TooMany}
-use Rattle.disk_lines.specs.Runs.{AreLines, AreTold, CutsLast, EndsWith, IsTold, Prints, RunsFrom, Said, Told}
+use Rattle.disk_lines.specs.Runs.{AreLines, AreTold, EndsWith, Prints, RunsFrom, Said, Told}
 use Rattle.disk_lines.specs.Runs.{printed_of, said_in, texts_of}
 use Rattle.disk_lines.specs.Turns.{HasRun, Known, TakesTurn}
 

@@ -1,24 +1,22 @@
 -- A line that is run by itself.
-use Rattle.std.proofs.Common.{[], ◌≡◌, ◌∙◌, ℕ, ◌+◌, ◌-◌, ◌^◌, ◌<◌, Bool, List, ◌∷◌, ◌++◌, length, arith, ap, inl, inr, refl, subst, sym}
+use Rattle.std.proofs.Common.{[], ◌∙◌, ℕ, ◌+◌, ◌-◌, ◌^◌, ◌<◌, Bool, List, ◌∷◌, ◌++◌, arith, inl, inr, refl, subst, sym}
 use Rattle.std.proofs.lemmas.List.{append-nil}
-use Rattle.std.specs.Prelude.{Option, Some, None, Result, Ok, Err}
-use Rattle.std.specs.Io.KnownBytes.{Appends, Consumes, IsAtEnd, Keeps}
-use Rattle.std.proofs.KnownBytes.{Appends-kept, Appends-nil, Appends-trans, Consumes-nil}
+use Rattle.std.specs.Prelude.{Some, None, Result, Ok, Err}
+use Rattle.std.specs.Io.KnownBytes.{Appends, Consumes}
+use Rattle.std.proofs.KnownBytes.{Appends-kept, Appends-nil, Appends-trans}
 use Rattle.lines.specs.Grammar.{LineValue}
 use Rattle.raw_lines.specs.Raw.{SaysIn}
 use Rattle.lines.specs.Reading.{IsLineText, StopsIn, TakesLine}
 use Rattle.lines.specs.declared.reading.ReadFault.{ReadFault}
 use Rattle.lines.specs.declared.reading.ReadFault.TheVariants as read
-use Rattle.lines.specs.declared.reading.Taken.{Taken}
 use Rattle.lines.specs.declared.reading.Taken.TheVariants.{Ended, Last, TooLong, Nothing}
 use Rattle.lines.specs.declared.reason.Reason.TheVariants as reason
-use Rattle.answers.specs.Errors.{AppendsFront}
 use Rattle.answers.proofs.Fronts.{cut_later, cut_there}
 use Rattle.answers.specs.declared.fault.ScriptFault.{ScriptFault}
 use Rattle.answers.specs.declared.fault.ScriptFault.TheVariants as fault
 use Rattle.answers.specs.driving.master.master_state.Data.{MasterData}
 use Rattle.disk_lines.specs.Lines.{RunsLine}
-use Rattle.disk_lines.specs.Runs.{AreLines, CutsLast, IsTakenLine, IsTold, RunsFrom, Said, Told}
+use Rattle.disk_lines.specs.Runs.{AreLines, IsTakenLine, IsTold, RunsFrom, Told}
 use Rattle.disk_lines.specs.Turns.{IsWritten, Known, PrintsText, TakesTurn}
 use Rattle.disk_lines.proofs.Telling.{ends_there}
 

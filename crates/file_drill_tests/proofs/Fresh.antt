@@ -1,6 +1,6 @@
 -- A fleet of one fresh backup holds nothing.
 use Rattle.std.proofs.Common.{[], ◌≡◌, ◌∷◌, ℕ, zero, suc, List, map, refl, subst, sym}
-use Rattle.std.specs.Prelude.{Option, Some, None}
+use Rattle.std.specs.Prelude.{Some, None}
 use Rattle.registry_file.specs.declared.file.RegistryFile.{RegistryFile}
 use Rattle.file_fleet.specs.Fleet.{FleetValue}
 use Rattle.file_fleet.specs.Members.{picture_of, replicas_at}

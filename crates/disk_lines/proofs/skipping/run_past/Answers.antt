@@ -1,5 +1,5 @@
 use Rattle.std.proofs.Common.{◌≡◌, ◌-◌, ◌^◌, arith}
-use Rattle.disk_lines.proofs.Past.{dry_past, ends_past, fails_past, skips_more, starts_past}
+use Rattle.disk_lines.proofs.Past.{dry_past, ends_past, fails_past, skips_more}
 use Rattle.disk_lines.proofs.skipping.run_past.Goals as goal
 
 pub returns-in-Ok : goal.returns-in-Ok
