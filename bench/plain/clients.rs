@@ -11,8 +11,8 @@
 //!
 //! - `three` or `six`: with `three`, as in `ramlog`, the holding that makes a step also answers a call whose record is durable
 //!   then, so a put takes the lock three times and a get once. With `six` an answer has a holding of its own.
-//! - `back` or `sleep`: with `back`, as in `ramlog`, a thread that finds the lock held tries again, with pauses that double, before
-//!   it sleeps. With `sleep` it waits as Rust's mutex does.
+//! - `back` or `sleep`: with `back`, as in `ramlog`, a thread that finds the lock held tries again, and lets other threads run before
+//!   each try, before it sleeps. With `sleep` it waits as Rust's mutex does.
 
 use std::collections::HashMap;
 use std::hint::{black_box, spin_loop};
@@ -20,10 +20,9 @@ use std::sync::{Mutex, MutexGuard, TryLockError};
 use std::thread;
 use std::time::Instant;
 
-/// How often a thread tries to take the lock before it sleeps, and how long it pauses between tries, at first and at most.
-const TRIES: usize = 40;
-const FIRST_PAUSE: usize = 16;
-const LONGEST_PAUSE: usize = 512;
+/// How often the processor pauses before a thread tries the second time, and how often the thread then tries before it sleeps.
+const PAUSES: usize = 16;
+const TRIES: usize = 2_000;
 
 /// Where an object is: its version, its segment, and where its value begins and ends there.
 #[derive(Clone, Copy)]
@@ -184,19 +183,31 @@ struct Store<const REPLICAS: usize> {
 
 impl<const REPLICAS: usize> Store<REPLICAS> {
     fn take(&self) -> MutexGuard<'_, Master<REPLICAS>> {
-        let mut pause = FIRST_PAUSE;
-        for _ in 0..if self.tries { TRIES } else { 0 } {
-            match self.master.try_lock() {
-                Ok(guard) => return guard,
-                Err(TryLockError::WouldBlock) => {}
-                Err(TryLockError::Poisoned(_)) => panic!("a client panicked"),
+        if !self.tries {
+            return self.master.lock().unwrap();
+        }
+        if let Some(guard) = self.attempt() {
+            return guard;
+        }
+        for _ in 0..PAUSES {
+            spin_loop();
+        }
+        for _ in 0..TRIES {
+            if let Some(guard) = self.attempt() {
+                return guard;
             }
-            for _ in 0..pause {
-                spin_loop();
-            }
-            pause = (2 * pause).min(LONGEST_PAUSE);
+            thread::yield_now();
         }
         self.master.lock().unwrap()
+    }
+
+    /// Takes the lock if no thread has it.
+    fn attempt(&self) -> Option<MutexGuard<'_, Master<REPLICAS>>> {
+        match self.master.try_lock() {
+            Ok(guard) => Some(guard),
+            Err(TryLockError::WouldBlock) => None,
+            Err(TryLockError::Poisoned(_)) => panic!("a client panicked"),
+        }
     }
 
     /// Answers the call if its record is durable, in the holding of its step.

@@ -34,11 +34,11 @@ use Rattle.master.proofs.MendEnds.{IsLimited}
 use Rattle.master.proofs.MendOps.{mend_op}
 use Rattle.master.proofs.MendPushes.{few_for_mend, op_on, bytes_op, mend_bytes}
 use Rattle.master.proofs.MendSeals.{are_limited}
-use Rattle.master.proofs.MendServed.{on_later, served_core, served_may, served_mends, served_mended, mend_not_wrong}
+use Rattle.master.proofs.MendServed.{on_later, served_may, served_mends, served_mended, mend_not_wrong}
 use Rattle.master.proofs.MendServed.{mend_works, mend_declines, mend_failed}
 use Rattle.master.proofs.NextOps.{op_bytes}
 use Rattle.master.proofs.Pushed.{few_for}
-use Rattle.master.proofs.Served.{served_told, served_not_wrong, served_works, served_declines}
+use Rattle.master.proofs.Served.{served_core, served_told, served_not_wrong, served_works, served_declines}
 use Rattle.master.proofs.Served.{served_failed, served_taken}
 
 -- What holds of a push that comes next.

@@ -22,6 +22,7 @@ pub mod NextMends
 pub mod PushedPlaces
 pub mod Ended
 pub mod Pushed
+mod Refused
 pub mod Served
 pub mod Loaded
 pub mod PassPlaces

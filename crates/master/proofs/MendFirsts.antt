@@ -62,8 +62,9 @@ use Rattle.master.proofs.MendEnds.{MayMend, IsMendPush}
 use Rattle.master.proofs.MendOps.{mend_op, mend_act}
 use Rattle.master.proofs.MendPushes.{bytes_op, mend_bytes, few_for_mend}
 use Rattle.master.proofs.PushKinds.{mends_on}
-use Rattle.master.proofs.MendServed.{mend_passed, served_core, served_may, served_push, served_mended}
-use Rattle.master.proofs.MendServed.{mend_not_wrong, op_of_master}
+use Rattle.master.proofs.MendServed.{mend_passed, served_may, served_push, served_mended, mend_not_wrong}
+use Rattle.master.proofs.Refused.{op_of_master}
+use Rattle.master.proofs.Served.{served_core}
 use Rattle.master.proofs.MendTurns.{IsTurn, turns}
 use Rattle.master.proofs.MendedRest.{turned_rest}
 use Rattle.master.proofs.Models.{own_holds}

@@ -43,7 +43,7 @@ use Rattle.master.proofs.MendPushes.{mend_push, few_for_mend}
 use Rattle.master.proofs.MendedRest.{mended_rest}
 use Rattle.master.proofs.Models.{IsModel, own_holds}
 use Rattle.master.proofs.Placing.{core_within}
-use Rattle.master.proofs.Pushed.{shut_whole}
+use Rattle.master.proofs.Pushed.{EndsPass, shut_whole}
 
 -- Laws of what holds of a log, its memory and the fleet, in a failover.
 pub record LastsOn (Holds : FailData → FailMemory → FleetState → Type 0) : Type 0 where
@@ -81,14 +81,6 @@ loading_on = record {
   by_op d e m f g o holds (inl head) there took = ok_holds_loading d e m f g o holds head there took
   by_op d e m f g o holds (inr repair) there took = repair_holds_loading d e m f g o holds repair there took
 
--- What ends with a commit, of a master that has an open pass.
-pub record EndsPassOn (Holds : FailData → FailMemory → FleetState → Type 0) (d : MasterData) : Type 0 where
-  pub finish : (p : Pass) → d.pass ≡ Some p → (l : FailData) (m : FailMemory) (g : FleetState) (n : Start)
-      → Holds l m g → EndsRoll l n Repairs → m.commits ≡ true → Holds (ended l n Repairs) (finished l m) g
-  -- no victim waits already
-  pub gone : (p : Pass) → d.pass ≡ Some p → (w : Spot) → IsAmong w (memory_of d).waiting
-      → IsAmong w.segment (victims_of d.pass) → ⊥
-
 module _ {Holds : FailData → FailMemory → FleetState → Type 0} (on : LastsOn Holds) (d : MasterData)
     (f : FleetState) (kept : IsKeptAs Holds d f) where
   abbrev held : (texts : Texts) × IsLogHeld (log_of d) texts (read_of (log_of d) f)
@@ -118,7 +110,7 @@ module _ {Holds : FailData → FailMemory → FleetState → Type 0} (on : Lasts
 
   -- ---- the op is taken
 
-  module _ (m : Push) (may : MayMend d m) (later : IsLater m) (passing : EndsPassOn Holds d)
+  module _ (m : Push) (may : MayMend d m) (later : IsLater m) (passing : EndsPass Holds d)
       (core : IsCore (mended_data d m)) (g : FleetState) (takes : TakesOp d.config.master f (mend_op d m) g) where
     abbrev e : MasterData
     e = mended_data d m
@@ -168,7 +160,7 @@ module _ {Holds : FailData → FailMemory → FleetState → Type 0} (on : Lasts
       )
       | inr (inr a) ↦ (
         own (finished is.mid (memory_of d)) (ended is.mid a.n Repairs) a.log
-            (passing.finish a.pass a.opened is.mid (memory_of d) g a.n then_holds a.ends a.commits) a.model,
+            (passing.finish a.pass a.opened is.mid (memory_of d) g a.n Repairs then_holds a.ends a.commits) a.model,
         a.apart kept.apart (passing.gone a.pass a.opened),
       )
     ]

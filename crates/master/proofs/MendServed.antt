@@ -46,17 +46,19 @@ use Rattle.master.specs.Invariant.{IsServed, StaysServed}
 use Rattle.master.specs.Pushes.{IsMendOp, Pushes, push_answer}
 use Rattle.master.specs.Steps.{IsPushOp, Declines}
 use Rattle.master.specs.World.{world_of}
-use Rattle.master.proofs.Handed.{failed_tells, raise_tells, not_wrong, op_failed, loading_not_wrong, loading_failed}
+use Rattle.master.proofs.Handed.{raise_tells}
 use Rattle.master.proofs.Handed.{raise_failed, raise_loading_failed, failing_lags}
 use Rattle.master.proofs.Lasting.{kept_as, well_kept, loaded_as, well_loaded}
 use Rattle.master.proofs.MendEnds.{IsLimited, MayMend, IsMendPush}
-use Rattle.master.proofs.MendKeeps.{all_on, loading_on, EndsPassOn, may_mend, mended_kept}
+use Rattle.master.proofs.MendKeeps.{all_on, loading_on, may_mend, mended_kept}
 use Rattle.master.proofs.PushKinds.{mends_on}
 use Rattle.master.proofs.MendOps.{mend_op, mend_act}
 use Rattle.master.proofs.MendPushes.{mend_push, few_for_mend, op_on, bytes_op}
 use Rattle.master.proofs.MendedRest.{mended_rest}
 use Rattle.master.proofs.NextMends.{later_may}
 use Rattle.master.proofs.Placing.{core_within, core_left}
+use Rattle.master.proofs.Refused.{IsHanded, op_of_master, refused_right, refused_declines, refused_stays}
+use Rattle.master.proofs.Served.{served_core, all_ends, none_ends}
 
 -- ---- a failover is open
 
@@ -65,22 +67,7 @@ pub mend_passed : (d : MasterData) → d.is_halted ≡ false → IsSome d.failov
 mend_passed d running failing =
     λ i. if running i then Some Halted else if failing_lags d failing i then Some Nothing else None
 
--- ---- passes
-
--- that of a master ends
-ends_on : (d : MasterData) (f : FleetState) → HoldsAll (log_of d) (memory_of d) f → EndsPassOn HoldsAll d
-ends_on d f holds = record {
-  finish = λ p opened l m g n then_holds ends commits. finish_holds_all l m g n Repairs then_holds ends commits;
-  gone = λ p opened w waits victim. holds.keeps.intact.waiting.out w waits
-      (holds.keeps.intact.passing.victims_count w.segment victim);
-}
-
--- one that is loading has none
-none_ends_on : (d : MasterData) → IsBare d → EndsPassOn HoldsLoading d
-none_ends_on d bare = record {
-  finish = λ p opened. absurd (let both = sym opened ∙ bare.pass in cc);
-  gone = λ p opened. absurd (let both = sym opened ∙ bare.pass in cc);
-}
+-- ---- one that is loading has no pass
 
 -- and gets none
 abbrev HasNone : MasterData → Type 0
@@ -168,20 +155,11 @@ mended_bare d m later bare =
 
 -- ---- a push
 
--- a repair is an op of a master too
-pub op_of_master : (d e : FailData) (m : _) (o : Op) → IsLoadingOp d m o e → IsOp d m o e m
-op_of_master d e m o (inl head) = inl (head, refl)
-op_of_master d e m o (inr repair) = inr (inr (inl (repair, refl)))
-
 pub on_later : (m : PushKind) → IsOnReplica m → IsLater m
 on_later (push.Head n) on = tt
 on_later push.Turn on = absurd on
 on_later (push.Raise id) on = tt
 on_later (push.Repair s j) on = tt
-
-pub served_core : (d : MasterData) (f : FleetState) → IsServed d f → IsCore d
-served_core d f (inl kept) = kept.core
-served_core d f (inr loaded) = loaded.core
 
 not_turn : (m : PushKind) → IsLater m → m ≡ push.Turn → ⊥
 not_turn m later is = subst IsLater is later
@@ -219,10 +197,10 @@ module _ (d : MasterData) (m : PushKind) (f : FleetState) (running : d.is_halted
   served_mended core g takes = (
     λ kept. well_kept (mended_data d m) g
         (mended_kept all_on d f (kept_as d f kept running) m (served_may (inl kept)) later
-        (ends_on d f (kept.known running)) core g takes),
+        (all_ends d f (kept.known running)) core g takes),
     λ loaded. well_loaded (mended_data d m) g
         (mended_kept loading_on d f (loaded_as d f loaded running) m (served_may (inr loaded)) later
-        (none_ends_on d loaded.bare) core g takes)
+        (none_ends d loaded.bare) core g takes)
         (mended_bare d m later loaded.bare) ((mended_rest d m).2 ∙ running),
   )
 
@@ -231,14 +209,6 @@ module _ (d : MasterData) (m : PushKind) (f : FleetState) (running : d.is_halted
   module _ (on : IsOnReplica m) where
     abbrev b : ℕ
     b = backup_for d m
-
-    abbrev IsHandedOp : Op → Type 0
-    IsHandedOp o = (e : FailData) × IsLoadingOp (log_of d) (memory_of d) o e × ((x : FailData) × IsMendOp d m o x)
-
-    handed_op : IsServed d f → IsHandedOp (On (backup_for d m) (segment_for d m) (mend_act d m))
-    handed_op served =
-        let is = served_push served in
-        subst IsHandedOp (op_on d m on) (is.mid, is.op, is.asks)
 
     few : IsCore d → replica_for m < d.config.replicas
     few core = few_for_mend d m core next on
@@ -249,43 +219,42 @@ module _ (d : MasterData) (m : PushKind) (f : FleetState) (running : d.is_halted
     pub mend_works : IsCore d → has d.failed (backup_for d m) ≡ false
     mend_works core = core_left d core (segment_for d m) (replica_for m) (few core)
 
-    pub mend_not_wrong : IsServed d f → (g : FleetState) (x : TakeFault)
-        → Refuses f (backup_for d m) (bytes_op d m) x g → x ≡ take_fault.Wrong → ⊥
-    mend_not_wrong (inl kept) =
-        let op = handed_op (inl kept) in
-        not_wrong d f kept running b (segment_for d m) (mend_act d m) op.0 (memory_of d)
-        (op_of_master (log_of d) op.0 (memory_of d) _ op.1) (within kept.core)
-    mend_not_wrong (inr loaded) =
-        let op = handed_op (inr loaded) in
-        loading_not_wrong d f loaded running b (segment_for d m) (mend_act d m) op.0 op.1 (within loaded.core)
+    -- the op may be asked for, and is one of the failover
+    abbrev IsAsked : Op → Type 0
+    IsAsked o = (e : FailData) × IsLoadingOp (log_of d) (memory_of d) o e × ((x : FailData) × IsMendOp d m o x)
 
-    pub mend_declines : IsServed d f → (g : FleetState) (x : TakeFault)
-        → Refuses f (backup_for d m) (bytes_op d m) x g
-        → Declines (world_of d f) Push (refusal_of d (backup_for d m) x) (world_of (failed_data d (backup_for d m) x) g)
-    mend_declines served g x refused =
-        let op = handed_op served in
-        inr (
-          mend_passed d running (mend_fails d m next),
-          inr (inr (
-            later_may d m later next,
-            failed_tells d f b (segment_for d m) (mend_act d m) (IsPushOp (world_of d f))
-                (m, op.2.0, next_of d m next, not_turn m later, inr (mend_fails d m next, op.2.1)) g x refused
-                (mend_not_wrong served g x refused),
-          )),
-        )
+    asked_op : IsServed d f → IsAsked (On b (segment_for d m) (mend_act d m))
+    asked_op served =
+        let is = served_push served in
+        subst IsAsked (op_on d m on) (is.mid, is.op, is.asks)
 
-    pub mend_failed : (g : FleetState) (x : TakeFault) → Refuses f (backup_for d m) (bytes_op d m) x g
-        → StaysServed d f (failed_data d (backup_for d m) x) g
-    mend_failed g x refused = (
-      λ kept.
-          let op = handed_op (inl kept) in
-          op_failed d f kept running b (segment_for d m) (mend_act d m) op.0 (memory_of d)
-          (op_of_master (log_of d) op.0 (memory_of d) _ op.1) (within kept.core) (mend_works kept.core) g x refused,
-      λ loaded.
-          let op = handed_op (inr loaded) in
-          loading_failed d f loaded running b (segment_for d m) (mend_act d m) op.0 op.1 (within loaded.core)
-          (mend_works loaded.core) (failing_lags d (mend_fails d m next)) g x refused,
-    )
+    handed : IsServed d f → IsHanded d b (segment_for d m) (mend_act d m)
+    handed served =
+        let op = asked_op served in
+        let core = served_core d f served in
+        record {
+          mid = op.0;
+          op = op.1;
+          within = within core;
+          works = mend_works core;
+          lags = failing_lags d (mend_fails d m next);
+        }
+
+    pub mend_not_wrong : IsServed d f → (g : FleetState) (x : TakeFault) → Refuses f b (bytes_op d m) x g
+        → x ≡ take_fault.Wrong → ⊥
+    mend_not_wrong = refused_right d f running b (segment_for d m) (mend_act d m) handed
+
+    pub mend_declines : IsServed d f → (g : FleetState) (x : TakeFault) → Refuses f b (bytes_op d m) x g
+        → Declines (world_of d f) Push (refusal_of d b x) (world_of (failed_data d b x) g)
+    mend_declines served =
+        let op = asked_op served in
+        refused_declines d f running b (segment_for d m) (mend_act d m) handed
+        (mend_passed d running (mend_fails d m next)) (later_may d m later next)
+        (m, op.2.0, next_of d m next, not_turn m later, inr (mend_fails d m next, op.2.1)) served
+
+    pub mend_failed : (g : FleetState) (x : TakeFault) → Refuses f b (bytes_op d m) x g
+        → StaysServed d f (failed_data d b x) g
+    mend_failed = refused_stays d f running b (segment_for d m) (mend_act d m) handed
 
 -- ---- a raise is refused
 

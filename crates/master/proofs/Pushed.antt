@@ -22,7 +22,7 @@ use Rattle.log_head.proofs.Rolls.{rolls}
 use Rattle.log_head.specs.log_laws.Heads.{Start}
 use Rattle.log_head.specs.log_laws.Ids.{has}
 use Rattle.log_head.specs.log_laws.Ops.{op_of}
-use Rattle.master_core.specs.log_laws.Data.{Calm, FailData, IsHome}
+use Rattle.master_core.specs.log_laws.Data.{Mode, Calm, FailData, IsHome}
 use Rattle.master_core.specs.log_laws.Log.{Texts, IsLogHeld}
 use Rattle.master_core.specs.log_laws.Shown.{Shown}
 use Rattle.master_core.specs.log_laws.Text.{Replica}
@@ -320,7 +320,7 @@ few_for d core (next.CloseOld j) waits =
 -- What ends with a commit, of a master that has an open pass.
 pub record EndsPass (Holds : FailData → FailMemory → FleetState → Type 0) (d : MasterData) : Type 0 where
   pub finish : (p : OpenPass) → d.pass ≡ Some p → (l : FailData) (m : FailMemory) (g : FleetState) (n : Start)
-      → Holds l m g → EndsRoll l n Calm → m.commits ≡ true → Holds (ended l n Calm) (finished l m) g
+      (mode : Mode) → Holds l m g → EndsRoll l n mode → m.commits ≡ true → Holds (ended l n mode) (finished l m) g
   -- no victim waits already
   pub gone : (p : OpenPass) → d.pass ≡ Some p → (w : Spot) → IsAmong w (memory_of d).waiting
       → IsAmong w.segment (victims_of d.pass) → ⊥
@@ -357,30 +357,6 @@ module _ {Holds : FailData → FailMemory → FleetState → Type 0} (lasts : La
   pub works : has d.failed backup ≡ false
   works = core_left d kept.core (segment_of d.head push) (replica_of push) few
 
-  pub push_not_wrong : (g : FleetState) (x : TakeFault) → Refuses f backup bytes x g → x ≡ take_fault.Wrong → ⊥
-  push_not_wrong g x refused is =
-      let op = head_push d push (answer_of push backup (segment_of d.head push)) told in
-      lasts.right (log_of d) op.mid (memory_of d) f g (push_op d push) kept.holds op.op
-      (let le = kept.backups in let lt = within in omega arith)
-      (subst (λ (y : TakeFault). Refuses f backup bytes y g) is refused)
-
-  pub push_declines : d.is_halted ≡ false → (g : FleetState) (x : TakeFault) → Refuses f backup bytes x g
-      → Declines (world_of d f) Push (refusal_of d backup x) (world_of (failed_data d backup x) g)
-  push_declines running g x refused = inr (
-    push_passed d push running waits,
-    inr (inr (
-      calm_may d calm,
-      failed_tells d f backup (segment_of d.head push) (act_now d push) (IsPushOp (world_of d f)) (
-        kind.Head push,
-        log_of (pushed_data d push),
-        inl (calm, waits),
-        (λ turn. (cc)),
-        inl (calm, told),
-      ) g x refused
-          (push_not_wrong g x refused),
-    )),
-  )
-
   module _ (passing : EndsPass Holds d) (core : IsCore (pushed_data d push)) (g : FleetState)
       (takes : Takes f backup bytes g) where
     abbrev e : MasterData
@@ -410,7 +386,7 @@ module _ {Holds : FailData → FailMemory → FleetState → Type 0} (lasts : La
       )
       | inr (inr a) ↦ (
         own (finished is.mid (memory_of d)) (ended is.mid a.n Calm) a.log
-            (passing.finish a.pass a.opened is.mid (memory_of d) g a.n then_holds a.ends a.commits) a.model,
+            (passing.finish a.pass a.opened is.mid (memory_of d) g a.n Calm then_holds a.ends a.commits) a.model,
         a.apart kept.apart (passing.gone a.pass a.opened),
       )
     ]

@@ -35,7 +35,8 @@ use Rattle.master.specs.Steps.{Declines}
 use Rattle.master.specs.World.{world_of}
 use Rattle.master.proofs.MendFirsts.{stuck_served, put_valid, turning_core, turn_not_wrong, turn_mends, turn_mended}
 use Rattle.master.proofs.MendFirsts.{turn_faults, turn_halts, turn_declines}
-use Rattle.master.proofs.MendServed.{mend_passed, served_core}
+use Rattle.master.proofs.MendServed.{mend_passed}
+use Rattle.master.proofs.Served.{served_core}
 use Rattle.master.proofs.pushing.turn.Given as given
 use Rattle.master.proofs.pushing.turn.Goals as goal
 use Rattle.master.proofs.pushing.turn.Goals.{After-reserve-2, After-master, After-ledger_of_turn-core-inside}
