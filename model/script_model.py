@@ -737,7 +737,7 @@ class Weight:
 class Policy:
     """When a cleaner begins something, and what."""
 
-    SPARE, STORED = 4, 105
+    SPARE, STORED, STONES = 4, 130, 25
 
     def __init__(self, master, options):
         self.master, self.options, self.segment = master, options, options.segment
@@ -769,7 +769,10 @@ class Policy:
 
     def wants_pass(self, weights):
         memory = self.options.seglets * self.options.seglet
-        return self.is_crowded(len(weights) + 1) or len(weights) * self.segment * 100 >= self.STORED * memory
+        stones = sum(it.stones for it in weights)
+        left = max(0, memory - self.SPARE * self.segment - sum(it.live for it in weights))
+        return (self.is_crowded(len(weights) + 1) or len(weights) * self.segment * 100 >= self.STORED * memory
+                or stones * 100 >= self.STONES * left)
 
     def three_quarters(self):
         return self.segment - 18 - self.segment // 4

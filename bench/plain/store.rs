@@ -946,8 +946,10 @@ impl Master {
 
 /// A cleaner begins something while fewer whole segments are free, or the digest has room for fewer.
 const SPARE: usize = 4;
-/// A pass comes first if the closed segments, each counted whole, are so many percent of memory.
-const STORED: usize = 105;
+/// A pass comes first if the closed segments, each counted whole, are so many percent of memory, or if their tombstones are so many
+/// percent of the memory that objects and the spared segments leave.
+const STORED: usize = 130;
+const STONES: usize = 25;
 
 impl Master {
     /// Compacts a segment or makes a whole pass if memory is short. The answer is whether it did.
@@ -962,7 +964,7 @@ impl Master {
         }
         let best = self.best(&closed);
         let memory = self.sizes.seglets * self.sizes.seglet;
-        let wants_pass = closed.len() + 1 + SPARE > most || closed.len() * self.sizes.segment * 100 >= STORED * memory;
+        let wants_pass = closed.len() + 1 + SPARE > most || self.is_long(&closed, memory);
         let victims = if best.is_some() && !wants_pass { None } else { self.victims(&closed, best.is_some()) };
         match (victims, best) {
             (Some(victims), _) => self.clean(fleet, &victims).map(|_| true),
@@ -978,6 +980,17 @@ impl Master {
                 self.clean(fleet, &chosen).map(|_| true)
             }
         }
+    }
+
+    /// Whether the closed segments are many for a memory of so many bytes, or their tombstones many for what objects leave of it.
+    fn is_long(&self, closed: &[u64], memory: usize) -> bool {
+        let (mut objects, mut stones) = (0, 0);
+        for &id in closed {
+            let row = &self.rows[id as usize];
+            objects += row.kept() - row.stones;
+            stones += row.stones;
+        }
+        closed.len() * self.sizes.segment * 100 >= STORED * memory || stones * 100 >= STONES * memory.saturating_sub(objects + SPARE * self.sizes.segment)
     }
 
     /// Reads which segments the tombstones of a closed segment name, once.

@@ -8,12 +8,14 @@
 #![tactic(auto)]
 
 mod answer;
+mod counts;
 mod errors;
 mod fault;
 mod handing;
 mod limits;
 mod segment_rows;
 mod short_line;
+mod tables;
 
 pub use answer::{Answer, write_answer, write_number, write_reply};
 pub use errors::ErrorOutput;

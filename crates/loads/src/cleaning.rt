@@ -17,6 +17,9 @@ const MOST_AT_FIRST: u64 = 4_096;
 /// How many microseconds a cleaner sleeps if there is nothing to clean.
 const REST: u64 = 50;
 
+/// How often a thread looks whether no other thread cleans, before it goes on without cleaning.
+const LOOKS: u64 = 64;
+
 /// What threads share that clean: what is noted of segments, which one thread at a time has, and whether memory was
 /// short when one of them cleaned last.
 #[derive(Drop)]
@@ -99,25 +102,38 @@ impl Cleaner {
     }
 }
 
-/// Makes a few steps of the cleaner, while no other thread cleans.
+/// What is noted, once no other thread cleans; None if another one cleans whenever this one looks. Between two looks other
+/// threads run. Nobody sleeps, so nobody has to be woken.
+fn free_notes(cleaner: &Cleaner) -> Option<MutexGuard<'_, Notes>> {
+    for _ in 0..LOOKS {
+        match cleaner.notes.try_lock() {
+            Some(held) => return Some(held),
+            None => thread::yield_now(),
+        }
+    }
+    None
+}
+
+/// Makes a few steps of the cleaner, while no other thread cleans. None if another one does.
 fn clean_in_turn<F: Fleet, B: Naming, R: Wait>(
     rt: &R,
     store: &Store<F, B>,
     policy: &Policy,
     cleaner: &Cleaner,
-) -> Cleaned {
-    let mut held = cleaner.notes.lock(rt);
+) -> Option<Cleaned> {
+    let mut held = free_notes(cleaner)?;
     let cleaned = clean_a_little(rt, store, policy, &mut *held);
     let is_short = match cleaned {
         Cleaned::Steps => true,
         _ => false,
     };
     cleaner.is_short.store(is_short, Ordering::SeqCst);
-    cleaned
+    Some(cleaned)
 }
 
-/// Makes a few steps behind a put if memory was short when a thread cleaned last. So each put pays for a part of the
-/// cleaning, and mostly none comes that finds no room and waits for all of it.
+/// Makes a few steps behind a put if memory was short when a thread cleaned last, unless another thread cleans all the
+/// while. So each put pays for a part of the cleaning, or waits a little, and mostly none comes that finds no room and
+/// waits for all of it.
 pub(crate) fn clean_behind<F: Fleet, B: Naming, R: Wait>(
     rt: &R,
     store: &Store<F, B>,
@@ -144,9 +160,9 @@ pub(crate) fn clean<F: Fleet, B: Naming, R: Wait + Clock>(
             return;
         }
         match clean_in_turn(rt, store, &policy, cleaner) {
-            Cleaned::Steps => {}
-            Cleaned::Nothing => thread::sleep(rt, Duration::from_micros(REST)),
-            Cleaned::Refused(_) => return,
+            None | Some(Cleaned::Steps) => {}
+            Some(Cleaned::Nothing) => thread::sleep(rt, Duration::from_micros(REST)),
+            Some(Cleaned::Refused(_)) => return,
         }
     }
 }

@@ -300,7 +300,8 @@ const POLICY: Policy = Policy {
     segment: 512,
     seglet: 64,
     spare: 4,
-    stored: 105,
+    stored: 130,
+    stones: 25,
 };
 
 /// Has a cleaner tend the log until it rests, or has made 16 steps. How many it made, or `None` after a refusal.

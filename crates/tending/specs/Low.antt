@@ -26,7 +26,7 @@ is_tight policy d = nat_lt (free_seglets d * policy.seglet) ((policy.spare - 1) 
 
 -- the usual policy for a configuration: four segments are spared
 abbrev pub usual_for : Config → Policy
-usual_for c = record { segment = c.segment; seglet = c.seglet; spare = 4; stored = 105 }
+usual_for c = record { segment = c.segment; seglet = c.seglet; spare = 4; stored = 130; stones = 25 }
 
 -- A cleaner may rest: nothing is under way, and it has to begin nothing or no pass may begin.
 pub record MayRest (policy : Policy) (d : MasterData) : Type 0 where

@@ -34,13 +34,14 @@ fn best_of(policy: &Policy, weights: &[Weight]) -> Option<u64> {
     best
 }
 
-/// Whether a pass comes before a compaction: the log has many segments for its memory or for its digest.
+/// Whether a pass comes before a compaction: the log has many segments for its digest or for its memory, or tombstones
+/// fill much of the memory that objects leave.
 fn wants_pass<F: Fleet>(master: &Master<F>, policy: &Policy, weights: &[Weight]) -> bool {
     let memory = master.config().seglets.saturating_mul(policy.seglet);
     let closed = weights.len() as u64;
-    let stored = closed.saturating_mul(policy.segment);
     policy.is_crowded_by(closed.saturating_add(1))
-        || product(stored, 100) >= product(policy.stored, memory)
+        || policy.is_long(closed, memory)
+        || policy.is_buried(weights, memory)
 }
 
 /// The victims of a pass, with the sums of what they keep and of the seglets that they give back.

@@ -20,6 +20,9 @@ pub struct Policy {
     pub spare: u64,
     /// A pass comes first if the closed segments, each counted whole, are so many percent of memory or more.
     pub stored: u64,
+    /// A pass comes first, too, if tombstones are so many percent or more of the memory that objects and the spared
+    /// segments leave.
+    pub stones: u64,
 }
 
 /// The product of two numbers.
@@ -38,7 +41,8 @@ impl Policy {
             segment: config.segment,
             seglet: config.seglet,
             spare: 4,
-            stored: 105,
+            stored: 130,
+            stones: 25,
         }
     }
 
@@ -69,6 +73,24 @@ impl Policy {
         ensures { result ≡ is_low self.now master.now.knows }
     {
         self.is_short(master) || self.is_crowded_by(master.digest_len())
+    }
+
+    /// Whether so many closed segments, each counted whole, are many for a memory of so many bytes.
+    pub(crate) fn is_long(&self, closed: u64, memory: u64) -> bool {
+        let stored = closed.saturating_mul(self.segment);
+        product(stored, 100) >= product(self.stored, memory)
+    }
+
+    /// Whether tombstones of these segments fill much of the memory, of so many bytes, that their objects and the spared
+    /// segments leave.
+    pub(crate) fn is_buried(&self, weights: &[Weight], memory: u64) -> bool {
+        let mut left = memory.saturating_sub(self.spare.saturating_mul(self.segment));
+        let mut stones: u64 = 0;
+        for weight in weights {
+            left = left.saturating_sub(weight.kept.saturating_sub(weight.stones));
+            stones = stones.saturating_add(weight.stones);
+        }
+        product(stones, 100) >= product(self.stones, left)
     }
 
     /// The seglets of so many bytes.

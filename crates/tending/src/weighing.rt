@@ -18,6 +18,8 @@ pub(crate) struct Weight {
     pub opening: u64,
     /// The bytes of its kept objects and tombstones.
     pub kept: u64,
+    /// The bytes of its kept tombstones.
+    pub stones: u64,
 }
 
 /// The ids of the digest in force.
@@ -49,11 +51,13 @@ fn weigh<F: Fleet>(master: &Master<F>, note: &Note) -> Option<Weight> {
         Some(tally) => u64::from(tally.live).saturating_add(note.stones),
         None => master.kept_bytes(note.id)? as u64,
     };
+    let stones = note.stones.min(kept);
     Some(Weight {
         id: note.id,
         len,
         opening: note.opening,
         kept,
+        stones,
     })
 }
 

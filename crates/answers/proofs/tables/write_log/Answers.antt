@@ -1,0 +1,20 @@
+use Rattle.std.proofs.Common.{[], ◌∷◌, ◌++◌, refl}
+use Rattle.std.specs.List.{flat_map}
+use Rattle.std.proofs.KnownBytes.{Appends-trans}
+use Rattle.answers.specs.Texts.{spaced_text}
+use Rattle.answers.proofs.Fronts.{hands_as, out_first, out_later}
+use Rattle.answers.proofs.tables.write_log.Goals as goal
+
+pub returns-in_err-hand : goal.returns-in_err-hand
+returns-in_err-hand g c =
+    out_first _ _ _ (flat_map spaced_text c.args.ids.now ++ 10 ∷ []) _ c.from_residual.result
+    c.from_residual.ensures.0 c.in_err-hand.ensures refl
+
+pub returns-in_err-write_ids : goal.returns-in_err-write_ids
+returns-in_err-write_ids g c =
+    out_later _ _ _ _ _ (10 ∷ []) _ c.from_residual-in_err-write_ids.result
+    c.from_residual-in_err-write_ids.ensures.0 c.in_ok-hand.ensures c.in_err-write_ids.ensures refl
+
+pub returns : goal.returns
+returns g c = hands_as _ _ _ _ _ _ c.hand-2.result
+    (Appends-trans _ _ _ _ _ c.in_ok-hand.ensures c.in_ok-write_ids.ensures) c.hand-2.ensures refl

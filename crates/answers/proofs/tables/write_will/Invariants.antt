@@ -1,0 +1,10 @@
+use Rattle.std.proofs.Common.{take}
+use Rattle.std.specs.List.{flat_map}
+use Rattle.std.specs.Io.KnownBytes.{Appends}
+use Rattle.answers.specs.Texts.{part_text}
+use Rattle.answers.proofs.tables.write_will.Given as goal
+
+abbrev pub invariant-loop-part : goal.invariant-loop-part
+invariant-loop-part g l =
+    Appends (g.W.Write.contents l.fn.writer) (g.W.Write.contents l.writer)
+    (flat_map part_text (take l.part-index l.parts))
