@@ -1,5 +1,5 @@
 -- A push that is handed to a backup, of the head or of a failover: what the take of its op makes of a master.
-use Rattle.std.proofs.Common.{◌≡◌, ◌⊎◌, ℕ, ◌<◌, inl, inr, false, refl, sym, ap, subst, ◌∙◌}
+use Rattle.std.proofs.Common.{◌≡◌, ◌⊎◌, ◌<◌, inl, inr, false, refl, sym, ap, subst}
 use Rattle.std.specs.Prelude.{Some, None}
 use Rattle.std.proofs.lemmas.Option.{same_Some}
 use Rattle.images.specs.Images.{AreWithin}
@@ -9,7 +9,7 @@ use Rattle.replica.specs.Take.{Takes, Refuses}
 use Rattle.replica.specs.declared.op.TakeFault.{TakeFault}
 use Rattle.replica.specs.declared.op.TakeFault.TheVariants as take_fault
 use Rattle.log_head.specs.declared.next.Next.{Next}
-use Rattle.log_head.specs.Next.{IsNextPush, op_of}
+use Rattle.log_head.specs.Next.{IsNextPush}
 use Rattle.log_head.specs.log_laws.Ids.{has}
 use Rattle.master_core.specs.log_laws.Shown.{Op}
 use Rattle.master_core.specs.log_bytes.Ops.{TakesOp}

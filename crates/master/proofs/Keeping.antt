@@ -56,8 +56,8 @@ use Rattle.master_core.specs.master_state.Ledger.{forgotten, took_in, shut_in, p
 use Rattle.master_core.specs.master_state.Log.{home, mode_of, durable_now, log_of, memory_of}
 use Rattle.master_core.specs.master_state.Steps.{Applies, BeginsRoll, Compacts, BeginsPass, Copies, record_now}
 use Rattle.master_core.specs.master_state.Steps.{rolling_data}
-use Rattle.master_core.specs.master_state.Steps.{sealed_data, lost_data, halted, pushed_data}
-use Rattle.master_core.specs.master_failover.Mending.{mended_data, turned_data}
+use Rattle.master_core.specs.master_state.Steps.{sealed_data, lost_data, halted}
+use Rattle.master_core.specs.master_failover.Mending.{turned_data}
 use Rattle.master_core.specs.master_state.Waits.{next_seal}
 use Rattle.master_core.proofs.master_state.Imaging.{other_id}
 use Rattle.master_core.proofs.master_state.Refusals.{is_admitted, passed_early, unit_working, working_parts, may_begin}

@@ -1,21 +1,18 @@
 -- A push of a failover that is taken keeps what holds of a master, and of one that is loading.
-use Rattle.std.proofs.Common.{◌≡◌, ℕ, inl, inr, true, refl, sym, ap, subst, ◌∙◌}
-use Rattle.std.specs.Prelude.{Some}
-use Rattle.master_core.specs.cleaner.declared.pass.Pass.{Pass}
+use Rattle.std.proofs.Common.{◌≡◌, ℕ, inl, inr, refl, sym, ap, subst, ◌∙◌}
 use Rattle.entry.specs.Bag.{IsAmong}
 use Rattle.entry.proofs.BagLemmas.{among_left}
 use Rattle.replica.specs.Picture.{FleetState}
-use Rattle.log_head.specs.log_laws.Heads.{Start}
 use Rattle.master_core.specs.log_laws.Data.{Repairs, FailData}
 use Rattle.master_core.specs.log_laws.Log.{Texts, IsLogHeld}
 use Rattle.master_core.specs.log_laws.Runs.{IsThere}
 use Rattle.master_core.specs.log_laws.Shown.{Op, On, Raise}
-use Rattle.master_core.specs.log_laws.Steps.{ended, mended, ids_now, EndsRoll}
+use Rattle.master_core.specs.log_laws.Steps.{ended, mended, ids_now}
 use Rattle.master_core.specs.log_bytes.Ops.{TakesOp, log_op_for}
 use Rattle.master_core.specs.log_bytes.Text.{entries_for}
 use Rattle.master_core.specs.log_memory.Fleet.{read_of, HoldsAll, HoldsLoading}
 use Rattle.master_core.specs.log_memory.Loading.{IsLoadingOp}
-use Rattle.master_core.specs.log_memory.Memory.{Spot, FailMemory, AreImages, text_in, log_ids}
+use Rattle.master_core.specs.log_memory.Memory.{FailMemory, AreImages, text_in, log_ids}
 use Rattle.master_core.specs.log_memory.Steps.{finished}
 use Rattle.master_core.proofs.log_memory.FleetAnswers.{ok_holds_all}
 use Rattle.master_core.proofs.log_memory.FleetSteps.{mend_holds_all}
@@ -28,7 +25,6 @@ use Rattle.master_core.specs.master_failover.declared.push.Push.TheVariants as p
 use Rattle.master_core.specs.master_failover.Mending.{IsNextMend, IsLater, IsOnReplica, mended_data, backup_for}
 use Rattle.master_core.specs.master_failover.Mending.{segment_for}
 use Rattle.master_core.specs.master_failover.Mending.{replica_for}
-use Rattle.master_core.specs.master_state.Budget.{victims_of}
 use Rattle.master_core.specs.master_state.Data.{MasterData}
 use Rattle.master_core.specs.master_state.Invariant.{AreApart, IsCore}
 use Rattle.master_core.specs.master_state.Log.{images_of, log_of, memory_of}

@@ -3,15 +3,14 @@ use Rattle.std.proofs.Common.{◌≡◌, ℕ, ◌<◌, ◌≤◌, inl, inr, Bool
 use Rattle.std.proofs.Common.{get_or, refl, sym, ap, ◌∙◌, arith}
 use Rattle.std.specs.Prelude.{Option, Some, None, unwrap_or}
 use Rattle.std.specs.List.{AllByRecursion}
-use Rattle.std.specs.Option.{option_map_or}
 use Rattle.std.proofs.lemmas.Option.{slice_get_within, slice_get-get_or}
 use Rattle.log_head.specs.declared.head.Roll.{Roll}
-use Rattle.log_head.specs.Head.{HeadValue, IsLagging}
+use Rattle.log_head.specs.Head.{IsLagging}
 use Rattle.log_head.specs.Log.{head_of, start_of}
 use Rattle.log_head.specs.Next.{units_of}
 use Rattle.log_head.proofs.HeadLog.{count_is}
 use Rattle.log_head.proofs.Rolls.{rolls}
-use Rattle.log_head.specs.log_laws.Heads.{Start, entries_of}
+use Rattle.log_head.specs.log_laws.Heads.{entries_of}
 use Rattle.log_head.specs.log_laws.Ids.{has, without}
 use Rattle.log_head.specs.log_laws.HeadSteps.{units_between}
 use Rattle.log_head.specs.declared.next.Next.TheVariants as nexts

@@ -15,22 +15,18 @@ use Rattle.log_head.specs.declared.head.Roll.{Roll}
 use Rattle.log_head.specs.Steps.{with_closed_replica, old_image}
 use Rattle.log_head.specs.log_laws.Ids.{has}
 use Rattle.log_head.specs.declared.next.Next.TheVariants as nexts
-use Rattle.master_core.specs.log_laws.Data.{FailData, Repairs}
+use Rattle.master_core.specs.log_laws.Data.{FailData}
 use Rattle.master_core.specs.log_laws.Shown.{Op, On, Raise}
 use Rattle.master_core.specs.log_bytes.Ops.{TakesOp}
-use Rattle.master_core.specs.log_memory.Fleet.{HoldsAll, HoldsLoading}
 use Rattle.master_core.specs.log_memory.Loading.{IsLoadingOp}
-use Rattle.master_core.specs.log_memory.Ops.{IsOp}
-use Rattle.master_core.proofs.log_memory.FleetSteps.{finish_holds_all}
 use Rattle.master_core.specs.master_failover.declared.push.Push.{Push as PushKind}
 use Rattle.master_core.specs.master_failover.declared.push.Push.TheVariants as push
-use Rattle.master_core.specs.master_failover.Mending.{IsInPart, IsNextMend, IsLater, IsOnReplica, mended_data}
+use Rattle.master_core.specs.master_failover.Mending.{IsNextMend, IsLater, IsOnReplica, mended_data}
 use Rattle.master_core.specs.master_failover.Mending.{backup_for}
 use Rattle.master_core.specs.master_failover.Mending.{segment_for, replica_for, was_headless, first_lost, repaired_data}
 use Rattle.master_core.specs.master_failover.Mending.{with_part}
 use Rattle.master_core.specs.master_failover.Mending.{closed_more}
 use Rattle.master_core.proofs.master_failover.PushKinds.{mend_fails, next_of}
-use Rattle.master_core.specs.master_state.declared.failover.Part.{Part}
 use Rattle.master_core.specs.master_state.declared.failover.Part.TheVariants as part
 use Rattle.master_core.specs.master_state.declared.ledger.Posting.TheVariants as posting
 use Rattle.master_core.specs.master_state.declared.step.Refusal.TheVariants.{Halted, Nothing}

@@ -15,9 +15,9 @@ use Rattle.replica.specs.Op.{ActValue, Open as OpenBytes, Extend as ExtendBytes}
 use Rattle.log_head.specs.declared.head.Roll.{Roll}
 use Rattle.log_head.specs.declared.next.Next.{Next}
 use Rattle.log_head.specs.declared.next.Next.TheVariants as next
-use Rattle.log_head.specs.Head.{HeadValue, IsHeadValue}
+use Rattle.log_head.specs.Head.{HeadValue}
 use Rattle.log_head.specs.Log.{start_in, head_of, start_of, units_from}
-use Rattle.log_head.specs.Next.{IsWholeHead, IsNextPush, replica_of, units_of, segment_of, act_of}
+use Rattle.log_head.specs.Next.{IsWholeHead, IsNextPush, units_of, segment_of, act_of}
 use Rattle.log_head.specs.Steps.{with_opened_replica, with_all_taken, with_new_replica, in_force}
 use Rattle.log_head.proofs.HeadLog.{end_is, front_is, part_is, count_is}
 use Rattle.log_head.proofs.RollLog.{head_in_force}

@@ -9,9 +9,7 @@ use Rattle.master_core.specs.cleaner.declared.pass.Pass.{Pass as OpenPass}
 use Rattle.entry.specs.Bag.{IsAmong}
 use Rattle.replica.specs.Op.{OpValue}
 use Rattle.replica.specs.Picture.{FleetState}
-use Rattle.replica.specs.Take.{Takes, Refuses}
-use Rattle.replica.specs.declared.op.TakeFault.{TakeFault}
-use Rattle.replica.specs.declared.op.TakeFault.TheVariants as take_fault
+use Rattle.replica.specs.Take.{Takes}
 use Rattle.log_head.specs.declared.head.Roll.{Roll}
 use Rattle.log_head.specs.declared.next.Next.{Next}
 use Rattle.log_head.specs.declared.next.Next.TheVariants as next
@@ -36,30 +34,23 @@ use Rattle.master_core.specs.log_memory.Ops.{IsHeadOp}
 use Rattle.master_core.specs.log_memory.Steps.{finished}
 use Rattle.master_core.specs.master_state.declared.ledger.Posting.{Posting}
 use Rattle.master_core.specs.master_state.declared.ledger.Posting.TheVariants as posting
-use Rattle.master_core.specs.master_state.declared.step.Step.TheVariants.{Push}
 use Rattle.master_core.specs.master_state.declared.waiting.Waiting.{Waiting}
 use Rattle.master_core.specs.master_state.Budget.{victims_of, is_committing}
-use Rattle.master_core.specs.master_failover.declared.push.Push.TheVariants as kind
 use Rattle.master_core.specs.master_state.Data.{MasterData}
 use Rattle.master_core.specs.master_state.Invariant.{AreApart, IsOpenPass, IsCore}
 use Rattle.master_core.specs.master_state.Ledger.{ended_with}
 use Rattle.master_core.specs.master_state.Log.{log_of, memory_of}
 use Rattle.master_core.specs.master_state.Steps.{pass_ended, roll_ended, backup_of, pushed_data}
-use Rattle.master_core.specs.master_state.Steps.{refusal_of, failed_data}
 use Rattle.master_core.proofs.master_state.Imaging.{same_id, same_roll}
-use Rattle.master_core.proofs.master_state.Refusals.{push_passed}
 use Rattle.master.specs.Placed.{IsPlaced}
 use Rattle.master.specs.Pushes.{IsNextOp, answer_of}
-use Rattle.master.specs.Steps.{IsPushOp, Declines}
-use Rattle.master.specs.World.{world_of}
 use Rattle.master.proofs.Counting.{AreUnfailed, held_unfailed}
 use Rattle.master.proofs.Ended.{segments_in, same_model, rolled_model, apart_then, ended_model}
-use Rattle.master.proofs.Handed.{taken_size, handed_kept, failed_tells}
+use Rattle.master.proofs.Handed.{taken_size, handed_kept}
 use Rattle.master.proofs.Lasting.{Lasts, IsKeptAs}
 use Rattle.master.proofs.Models.{IsModel, own_holds}
-use Rattle.master.proofs.NextMends.{calm_may}
 use Rattle.master.proofs.NextOps.{act_now, push_op, WholeOnceShut, first_told, extends, next_told}
-use Rattle.master.proofs.NextOps.{new_mid, opens_new, new_after, head_push}
+use Rattle.master.proofs.NextOps.{new_mid, opens_new, new_after}
 use Rattle.master.proofs.NextOps.{no_roll, old_mid, old_posts, closed_one, closed_at, closes, ends, old_more, old_last}
 use Rattle.master.proofs.NextOps.{old_is}
 use Rattle.master.proofs.Placing.{core_within, core_left}

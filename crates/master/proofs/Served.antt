@@ -1,5 +1,5 @@
 -- A push keeps a master, and one that is loading.
-use Rattle.std.proofs.Common.{◌≡◌, ℕ, ◌<◌, inl, inr, false, refl, sym, ◌∙◌}
+use Rattle.std.proofs.Common.{◌≡◌, ℕ, ◌<◌, inl, inr, false, sym, ◌∙◌}
 use Rattle.std.specs.Prelude.{Some, None}
 use Rattle.master_core.specs.cleaner.declared.pass.Pass.{Pass as OpenPass}
 use Rattle.replica.specs.Op.{OpValue}
@@ -11,7 +11,6 @@ use Rattle.log_head.specs.declared.next.Next.{Next}
 use Rattle.log_head.specs.Next.{IsNextPush, replica_of, segment_of}
 use Rattle.log_head.specs.log_laws.Ids.{has}
 use Rattle.log_head.specs.log_laws.Ops.{op_of}
-use Rattle.master_core.specs.log_laws.Data.{Calm}
 use Rattle.master_core.specs.log_bytes.Ops.{log_op_for}
 use Rattle.master_core.specs.log_memory.Fleet.{HoldsAll, HoldsLoading}
 use Rattle.master_core.proofs.log_memory.FleetSteps.{finish_holds_all}
@@ -26,7 +25,7 @@ use Rattle.master_core.specs.master_state.Log.{log_of, memory_of}
 use Rattle.master_core.specs.master_state.Steps.{backup_of, pushed_data, refusal_of, failed_data}
 use Rattle.master_core.proofs.master_state.Refusals.{passes, push_passed}
 use Rattle.master_core.proofs.master_commands.LoadedCore.{pushed_bare}
-use Rattle.master.specs.Invariant.{IsWellKept, IsWellLoaded, IsServed, StaysServed}
+use Rattle.master.specs.Invariant.{IsServed, StaysServed}
 use Rattle.master.specs.Pushes.{IsNextOp, answer_of}
 use Rattle.master.specs.Steps.{Declines}
 use Rattle.master.specs.World.{world_of}

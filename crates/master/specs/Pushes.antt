@@ -1,5 +1,5 @@
 -- One push: the op that it hands to a backup, what the op makes of the log, and what the push answers.
-use Rattle.std.specs.Prelude.{◌≡◌, ◌⊎◌, ℕ, length, true, false, Bool, Option, None, Some, IsSome, Result, Ok, Err}
+use Rattle.std.specs.Prelude.{◌≡◌, ◌⊎◌, ℕ, length, true, false, Bool, None, Some, IsSome, Result, Ok, Err}
 use Rattle.entry.specs.Text.{text_of}
 use Rattle.replica.specs.declared.op.TakeFault.TheVariants as take_fault
 use Rattle.replica.specs.Op.{OpValue, Open}

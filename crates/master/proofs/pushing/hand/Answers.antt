@@ -1,5 +1,4 @@
 use Rattle.std.proofs.Common.{◌≡◌, ℕ, ◌<◌, sym, ap, subst, ◌∙◌}
-use Rattle.std.specs.Prelude.{Some}
 use Rattle.std.proofs.lemmas.Option.{same_Some}
 use Rattle.replica.specs.Op.{OpValue, shown_op}
 use Rattle.replica.specs.Picture.{FleetState}
@@ -7,17 +6,14 @@ use Rattle.replica.specs.Take.{Takes, Refuses}
 use Rattle.replica.specs.declared.op.TakeFault.{TakeFault}
 use Rattle.log_head.specs.log_laws.Ids.{has}
 use Rattle.master_core.specs.master_failover.declared.push.Push.{Push as PushKind}
-use Rattle.master_core.specs.master_failover.Mending.{backup_for, segment_for, op_now, pushed}
+use Rattle.master_core.specs.master_failover.Mending.{backup_for, segment_for, pushed}
 use Rattle.master_core.specs.master_state.declared.step.StepAnswer.{StepAnswer}
-use Rattle.master_core.specs.master_state.declared.step.Step.TheVariants.{Push}
-use Rattle.master_core.specs.master_state.declared.step.Refusal.{Refusal}
 use Rattle.master_core.specs.master_state.Data.{MasterData}
 use Rattle.master_core.specs.master_state.Invariant.{IsCore}
 use Rattle.master_core.specs.master_state.Log.{home}
-use Rattle.master_core.specs.master_state.Steps.{refusal_of, failed_data}
+use Rattle.master_core.specs.master_state.Steps.{failed_data}
 use Rattle.master.specs.Invariant.{StaysServed}
 use Rattle.master.specs.Pushes.{Pushes, answer_for}
-use Rattle.master.specs.Steps.{Declines}
 use Rattle.master.specs.World.{world_of}
 use Rattle.master.proofs.Handing.{Handing, handing, op_segment}
 use Rattle.master.proofs.pushing.hand.Given as given
