@@ -5,6 +5,6 @@ mod Pictures
 mod Held
 mod Rising
 mod Serving
-mod Others
+pub mod Others
 mod Freeing
 pub mod Empty

@@ -14,6 +14,7 @@ mod registry;
 mod shelf;
 mod slots;
 mod stored;
+mod taking;
 
 pub use division::{DivideFault, Group, divide};
 pub use fleet::MemoryFleet;

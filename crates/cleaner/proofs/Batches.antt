@@ -77,9 +77,12 @@ module _ (ids : List ℕ) (held : Places) (s : ℕ) where
           let to : end - Bytes xs + Bytes before ≡ end - seen_len x = omega (arith, bytes_last, le) in
           ap (λ (ys : List Seen). filled limit from (seen_lengths ids held s (end - Bytes xs) ys)) split
           ∙ ap (filled limit from) (lengths_last (end - Bytes xs) before x)
-          ∙ filled_on limit from (seen_lengths ids held s (end - Bytes xs) before) (Last (end - Bytes xs + Bytes before) x)
-          ∙ ap (λ (n : ℕ). filled limit (filled limit from (seen_lengths ids held s (end - Bytes xs) before)) (Last n x)) to
-          ∙ ap (λ (n : ℕ). filled limit (filled limit from (seen_lengths ids held s n before)) (Last (end - seen_len x) x)) at
+          ∙ filled_on limit from (seen_lengths ids held s (end - Bytes xs) before)
+          (Last (end - Bytes xs + Bytes before) x)
+          ∙ ap (λ (n : ℕ). filled limit (filled limit from (seen_lengths ids held s (end - Bytes xs) before))
+          (Last n x)) to
+          ∙ ap (λ (n : ℕ). filled limit (filled limit from (seen_lengths ids held s n before))
+          (Last (end - seen_len x) x)) at
 
       module _ (from level : Level)
           (was : level ≡ filled limit from (seen_lengths ids held s (end - seen_len x - Bytes before) before)) where
@@ -140,7 +143,8 @@ module _ (ids : List ℕ) (held : Places) (s : ℕ) (es : List Entry) where
         past_data es s at one.entry one.lies (shows_data held.seed one.entry x one.shows)
         ∙ ap (λ (n : ℕ). place_at s at ∷ places_past s (at + n) es) (sym (shows_len held.seed one.entry x one.shows))
 
-    first_lengths : Left at ≡ cond (is_seen_kept ids held (place_at s at) x) (seen_len x ∷ []) [] ++ Left (at + seen_len x)
+    first_lengths : Left at ≡ cond (is_seen_kept ids held (place_at s at) x) (seen_len x ∷ []) [] ++ Left
+        (at + seen_len x)
     first_lengths =
         ap (kept_lengths ids held images) first_is
         ∙ lengths_cons ids held images (place_at s at) (places_past s (at + seen_len x) es) one.entry one.valid one.lies

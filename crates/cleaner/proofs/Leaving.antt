@@ -199,7 +199,8 @@ module _ (segment : ℕ) (ids : List ℕ) (p q : Pass) (images after : List Imag
         rooms = left_by (filled_one segment a n) went.0 (copy_leaves segment count a n Behind rooms_first);
         blank = λ i lt less.
             let le = went.1 in
-            ap (λ (es : List Entry). length (text_of es)) (other_image (p.survivors.first + i) (λ at. omega (arith, at, lt)))
+            ap (λ (es : List Entry). length (text_of es)) (other_image (p.survivors.first + i)
+            (λ at. omega (arith, at, lt)))
             ∙ r.blank i (omega (arith, le, lt)) less;
       }
 

@@ -32,7 +32,8 @@ begin_has_rooms_in segment ids p images held least none rest valid enough blank 
     record {
       rooms =
           subst (λ (a : Level). HasRooms segment p.survivors.count a (lengths_left ids p images held))
-          (sym (level_same p.filling 0 (length (text_of (images_in images (p.survivors.first + p.filling)))) 18 none len))
+          (sym (level_same p.filling 0 (length (text_of (images_in images (p.survivors.first + p.filling)))) 18 none
+          len))
           (subst (λ (xs : List ℕ). HasRooms segment p.survivors.count (level 0 18) xs) (sym left)
           (begin_has_rooms segment p.survivors.count ns least
           (victims_fit segment ids held (images_in images) p.victims valid) (omega (arith, enough))));

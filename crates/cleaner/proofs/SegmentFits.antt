@@ -33,10 +33,12 @@ Sizes es = map (λ (e : Entry). length (spelling e)) (filter is_data es)
 cond_lengths : (own keeps : Bool) (e : Entry) (es : List Entry) → is_data e ≡ own
     → cond own (One keeps e ++ Sizes es) (Sizes es) ≡ Sizes (cond keeps (e ∷ es) es)
 cond_lengths true true e es own =
-    sym (ap (λ (b : Bool). map (λ (x : Entry). length (spelling x)) (cond b (e ∷ filter is_data es) (filter is_data es)))
+    sym (ap (λ (b : Bool). map (λ (x : Entry). length (spelling x))
+    (cond b (e ∷ filter is_data es) (filter is_data es)))
     own)
 cond_lengths false true e es own =
-    sym (ap (λ (b : Bool). map (λ (x : Entry). length (spelling x)) (cond b (e ∷ filter is_data es) (filter is_data es)))
+    sym (ap (λ (b : Bool). map (λ (x : Entry). length (spelling x))
+    (cond b (e ∷ filter is_data es) (filter is_data es)))
     own)
 cond_lengths true false e es own = refl
 cond_lengths false false e es own = refl

@@ -1,5 +1,6 @@
 -- How a cursor moves on, and what a pass finds at its next place.
-use Rattle.std.specs.Prelude.{◌≡◌, ℕ, suc, ◌+◌, ◌<◌, ◌≤◌, ◌⊎◌, Bool, true, false, if◌then◌else◌, List, [], ◌∷◌, ◌++◌, length, drop, Option, Some, None}
+use Rattle.std.specs.Prelude.{◌≡◌, ℕ, suc, ◌+◌, ◌<◌, ◌≤◌, ◌⊎◌, Bool, true, false, if◌then◌else◌, List, [], ◌∷◌, ◌++◌}
+use Rattle.std.specs.Prelude.{length, drop, Option, Some, None}
 use Rattle.entry.specs.declared.entry.Entry.{Entry}
 use Rattle.entry.specs.declared.entry.Entry.TheVariants as entry
 use Rattle.entry.specs.Format.{spelling, IsEntry}
@@ -112,11 +113,12 @@ HasPlace segment s filling images n =
 
 -- The object or tombstone at the place is treated.
 pub record Treats (segment : ℕ) (ids : List ℕ) (images : List Image) (held : Places) (p : Place) (s : Survivors)
-    (filling : ℕ) (copied : Copied) (len filling_after : ℕ) (images_after : List Image) (held_after : Places) : Type 0 where
-  pub entry : Entry
-  pub seen : IsSeen (images_in images) p len entry
-  pub told : copied ≡ copied_as (kept ids held p entry) entry
-  pub filled : filling_after ≡ filling_with (kept ids held p entry) segment (level_at s filling images) entry
-  pub grown : images_after ≡ images_with (kept ids held p entry) (s.first + filling_after) entry images
-  pub index : held_after
-      ≡ held_with (kept ids held p entry) p (copy_place (s.first + filling_after) images) entry held
+    (filling : ℕ) (copied : Copied) (len filling_after : ℕ) (images_after : List Image) (held_after : Places) : Type 0
+  where
+    pub entry : Entry
+    pub seen : IsSeen (images_in images) p len entry
+    pub told : copied ≡ copied_as (kept ids held p entry) entry
+    pub filled : filling_after ≡ filling_with (kept ids held p entry) segment (level_at s filling images) entry
+    pub grown : images_after ≡ images_with (kept ids held p entry) (s.first + filling_after) entry images
+    pub index : held_after
+        ≡ held_with (kept ids held p entry) p (copy_place (s.first + filling_after) images) entry held

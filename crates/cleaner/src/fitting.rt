@@ -69,7 +69,8 @@ pub fn fit(
     requires segment { segment ≡ images.now.segment }
     ensures count { let survivors = survivors_over segment (ids_in images.now.images head new) index.now.held
         (images_in images.now.images) victims.now in
-        option_map (λ (size : SizeOfPass). size.survivors) result ≡ (if nat_le survivors 4 then Some survivors else None) }
+        option_map (λ (size : SizeOfPass). size.survivors) result
+        ≡ (if nat_le survivors 4 then Some survivors else None) }
     ensures valid { AllByRecursion (λ s. IsSegment (images_in images.now.images s)
         × (length (text_of (images_in images.now.images s)) ≤ segment)) victims.now }
 {

@@ -288,7 +288,8 @@ way_more rounds (Up m) (Up k) (Down f) new c way makes (same, wrong) = absurd (c
 way_more rounds (Up m) (Up k) Changing new c way makes (same, wrong) = absurd (cc)
 way_more rounds (Up m) (Down f) full new c (w, way, there) makes gains = absurd (cc)
 way_more rounds (Up m) Changing full new c (w, way, there) makes gains = absurd (cc)
-way_more rounds (Down f) mid full new c (same, none) makes gains = absurd (down_full (Down f) mid full c refl same makes)
+way_more rounds (Down f) mid full new c (same, none) makes gains = absurd
+    (down_full (Down f) mid full c refl same makes)
   where
     down_full : (old mid full : Node) (c : Command) → is_up old ≡ false → mid ≡ old
         → MakesCommand mid c full (answer.Refused refusal.Full) → ⊥
@@ -296,7 +297,8 @@ way_more rounds (Down f) mid full new c (same, none) makes gains = absurd (down_
         let bad : true ≡ false = ap is_up same ∙ down in cc
     down_full old (Down f) full c down same (stayed, wrong) = cc
     down_full old Changing full c down same (stayed, wrong) = cc
-way_more rounds Changing mid full new c (same, none) makes gains = absurd (down_full Changing mid full c refl same makes)
+way_more rounds Changing mid full new c (same, none) makes gains = absurd
+    (down_full Changing mid full c refl same makes)
   where
     down_full : (old mid full : Node) (c : Command) → is_up old ≡ false → mid ≡ old
         → MakesCommand mid c full (answer.Refused refusal.Full) → ⊥
@@ -349,7 +351,11 @@ replied_tended steps rounds some few (Up m) (Up k) (Up l) new c reply (w, way, t
         way = way;
         last = v;
         run = ran;
-        ends = (steps_made, subst (λ (x : World). TendsBehind (usual_for x.knows.config) steps x steps_made u) on tends);
+        ends = (
+          steps_made,
+          subst (λ (x : World). TendsBehind (usual_for x.knows.config) steps x steps_made u) on
+              tends,
+        );
       }),
       refl,
       ends,

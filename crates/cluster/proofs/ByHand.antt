@@ -7,7 +7,8 @@ use Rattle.lines.specs.Grammar.{LineValue}
 use Rattle.answers.specs.driving.master.master_state.declared.config.Config.{Config}
 use Rattle.answers.specs.driving.master.master_state.declared.step.Refusal.{Refusal}
 use Rattle.answers.specs.driving.master.master_state.declared.step.Step.{Step}
-use Rattle.answers.specs.driving.master.master_state.declared.step.Step.TheVariants.{Apply, Push, BeginRoll, Compact, BeginClean, Copy, Seal}
+use Rattle.answers.specs.driving.master.master_state.declared.step.Step.TheVariants.{Apply, Push, BeginRoll, Compact}
+use Rattle.answers.specs.driving.master.master_state.declared.step.Step.TheVariants.{BeginClean, Copy, Seal}
 use Rattle.answers.specs.driving.master.master_state.declared.step.Step.TheVariants.{Free}
 use Rattle.answers.specs.driving.master.master_state.declared.step.StepAnswer.{StepAnswer}
 use Rattle.answers.specs.driving.master.Keeps.{Keeps}
@@ -43,7 +44,13 @@ asks (Apply seat command) = tt
 asks Push = record { up = refl; alone = refl; ops = refl; none = refl; refused = λ config life r is. is }
 asks BeginRoll = record { up = refl; alone = refl; ops = refl; none = refl; refused = λ config life r is. is }
 asks (Compact segment) = record { up = refl; alone = refl; ops = refl; none = refl; refused = λ config life r is. is }
-asks (BeginClean victims) = record { up = refl; alone = refl; ops = refl; none = refl; refused = λ config life r is. is }
+asks (BeginClean victims) = record {
+  up = refl;
+  alone = refl;
+  ops = refl;
+  none = refl;
+  refused = λ config life r is. is;
+}
 asks Copy = record { up = refl; alone = refl; ops = refl; none = refl; refused = λ config life r is. is }
 asks Seal = record { up = refl; alone = refl; ops = refl; none = refl; refused = λ config life r is. is }
 asks Free = record { up = refl; alone = refl; ops = refl; none = refl; refused = λ config life r is. is }

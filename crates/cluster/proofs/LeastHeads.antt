@@ -106,7 +106,8 @@ module _ (number : ℕ) where
 
   pub clean_made : (old : Node) (victims : List ℕ) (new : Node) (a : Answer) → MakesClean old victims new a
       → IsUpTo number old → StaysUnraised number old new
-  clean_made old victims = run_made (CleanRuns victims) cleaned (λ v w r ran. (cleans_leave v w victims r ran).least) old
+  clean_made old victims = run_made (CleanRuns victims) cleaned (λ v w r ran. (cleans_leave v w victims r ran).least)
+      old
 
   pub tend_made : (old : Node) (steps : ℕ) (new : Node) (a : Answer) → MakesTend old steps new a
       → IsUpTo number old → StaysUnraised number old new

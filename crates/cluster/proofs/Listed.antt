@@ -12,7 +12,7 @@ use Rattle.answers.specs.driving.master.master_state.Log.{opening_of, state_now}
 use Rattle.cluster.specs.declared.node.Node.{Node}
 use Rattle.cluster.specs.Lives.{life_to, Position}
 use Rattle.cluster.specs.Served.{IsNodeAt, life_of}
-use Rattle.cluster.specs.Told.{AreListedAt}
+use Rattle.cluster.specs.Looks.{AreListedAt}
 
 -- the objects of a master's map are those of its life
 pub listed_at : (node : Node) (config : Config) (d : MasterData) (at : Position) (table : ℕ) (objects : List Object)

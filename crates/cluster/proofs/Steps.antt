@@ -25,10 +25,12 @@ use Rattle.cluster.specs.declared.node.Node.{Node}
 use Rattle.cluster.specs.declared.node.Node.TheVariants.{Up}
 use Rattle.cluster.specs.Lives.{Life, life_to, HasLived, Left, IsLeftBySpent, Position}
 use Rattle.answers.specs.driving.Served.{LivesOn, IsSpent}
-use Rattle.cluster.specs.Served.{AnswersLine, IsOf, IsNodeAt, MakesRun, Refuses, cleaned, fleet_of, life_of, held_answer}
+use Rattle.cluster.specs.Served.{AnswersLine, IsOf, IsNodeAt, MakesRun, Refuses, cleaned, fleet_of, life_of}
+use Rattle.cluster.specs.Served.{held_answer}
 use Rattle.cluster.specs.Served.{IsLeftIn, ShowsFleet, refusal_answer, world_of}
 use Rattle.cluster.specs.Told.{CleanRuns, IsRunAt, IsStepRefusal, RollRuns, TendRuns, is_for_master, pushes}
-use Rattle.cluster.specs.Told.{AreHeldAt, TellsNoStep, Tells}
+use Rattle.cluster.specs.Told.{TellsNoStep, Tells}
+use Rattle.cluster.specs.Looks.{AreHeldAt}
 use Rattle.cluster.proofs.Rolls.{no_step_told}
 use Rattle.cluster.proofs.Standing.{Answered, still_stands, lived, lived_longer}
 
@@ -125,7 +127,8 @@ module _ (X : Type 0) (runs : World → Result X Refusal → World → Type 0) (
       subst (λ (n : Node). MakesRun runs gives n (Up m) (gives x)) (sym there)
       (Ok x, world fleet_state m, ran, refl, left)
 
-  pub run_refused : (r : Refusal) → runs (world fleet_state up) (Err r) (world fleet_state m) → (new : Node) (a : Answer)
+  pub run_refused : (r : Refusal) → runs (world fleet_state up) (Err r) (world fleet_state m)
+      → (new : Node) (a : Answer)
       → Refuses (Up m) r new a → MakesRun runs gives node new a
   run_refused r ran new a refuses =
       let left = refused_left (Up m) new (world fleet_state m) r a refl refl refuses in

@@ -21,7 +21,8 @@ use Rattle.cluster.specs.declared.node.Node.{Node}
 use Rattle.cluster.specs.declared.node.Node.TheVariants.{Down}
 use Rattle.cluster.specs.Lives.{Life, life_to, Left, left_now, is_left, Position}
 use Rattle.cluster.specs.Served.{IsLeftOf, IsOf, IsNodeAt, AnswersLine, is_up, held_answer}
-use Rattle.cluster.specs.Told.{AreLeft, AreHeldAt, Tells}
+use Rattle.cluster.specs.Told.{Tells}
+use Rattle.cluster.specs.Looks.{AreLeft, AreHeldAt}
 use Rattle.cluster.proofs.Standing.{Answered, still_stands, lived_longer, is_up_none}
 use Rattle.answers.specs.driving.GoesOn.{goes_nowhere}
 

@@ -14,7 +14,7 @@ use Rattle.cluster.specs.declared.node.Node.{Node}
 use Rattle.answers.specs.declared.limits.Limits.{Limits}
 use Rattle.cluster.specs.Lives.{life_to, Position}
 use Rattle.cluster.specs.Served.{DividesAnew, IsNodeAt, life_of}
-use Rattle.cluster.specs.Told.{IsWillAt}
+use Rattle.cluster.specs.Looks.{IsWillAt}
 use Rattle.cluster.specs.Wills.{MakesWill}
 
 -- ---- a will that stays

@@ -2,6 +2,8 @@ pub mod Wills
 pub mod Lives
 pub mod Shows
 pub mod Counted
+pub mod Looks
+pub mod Found
 pub mod Told
 pub mod Served
 pub mod Waits

@@ -1,64 +1,39 @@
 -- What the lines of a script tell of a master's life.
-use Rattle.std.specs.Prelude.{◌≡◌, ◌⊎◌, ◌↔◌, ℕ, suc, ◌<◌, List, ◌∷◌, map, Bool, true, false}
-use Rattle.std.specs.Prelude.{Option, Some, None, Result, Ok, Err, slice_get}
-use Rattle.std.specs.Option.{option_map}
-use Rattle.entry.specs.declared.entry.Object.{Object}
-use Rattle.entry.specs.Meaning.{IsMeaning, among, contents_of}
-use Rattle.entry.specs.Text.{text_of}
+use Rattle.std.specs.Prelude.{◌≡◌, ◌⊎◌, ℕ, suc, List, ◌∷◌, Bool, true, false, Option, Some, None, Result, Ok, Err}
+use Rattle.std.specs.Prelude.{slice_get}
 use Rattle.lines.specs.Grammar.{LineValue, Idle, Put, New, Cas, Get, Del, Compact, Roll, BeginRoll, Push, Log, Room}
 use Rattle.lines.specs.Grammar.{Hex, Stop, Fault, Crash, Lose, Will, Recover, Holdings, Clean, Begin, Copy, Seal, Free}
 use Rattle.lines.specs.Grammar.{Clients, Format, Listing, LiveBytes, Needs, Seglets, Segments, Tend}
-use Rattle.lines.specs.declared.line.ReplayOrder.{ReplayOrder}
 use Rattle.backup.specs.Inventory.{AreRising}
 use Rattle.answers.specs.driving.master.cleaner.declared.survivors.Survivors.{Survivors}
-use Rattle.replica.specs.Choice.{Choice, IsShownChoice, bag_of}
-use Rattle.entry.specs.Bag.{IsAmong}
-use Rattle.replica.specs.declared.holding.Holding.{Holding}
-use Rattle.replica.specs.declared.label.Label.{Label}
-use Rattle.replica.specs.Picture.{FleetState, left_on, IsHeld, AreLabelsOf, label_of, survivors}
-use Rattle.replica.specs.Survival.{BothSurvive}
+use Rattle.replica.specs.Picture.{FleetState, survivors}
 use Rattle.versioned_map.specs.declared.command.Command.{Command}
 use Rattle.versioned_map.specs.declared.command.Command.TheVariants as command
 use Rattle.versioned_map.specs.declared.command.If.TheVariants.{Any, Absent, Version}
 use Rattle.versioned_map.specs.declared.command.Reply.{Reply}
-use Rattle.versioned_map.specs.History.{commands_of}
-use Rattle.versioned_map.specs.Versioned.{after}
 use Rattle.answers.specs.driving.master.master_state.declared.config.Config.{Config}
 use Rattle.answers.specs.driving.master.master_state.declared.step.Refusal.{Refusal}
 use Rattle.answers.specs.driving.master.master_state.declared.step.Refusal.TheVariants as refusal
 use Rattle.answers.specs.driving.master.master_state.Causes.{command_refusal}
-use Rattle.answers.specs.driving.master.log_head.Head.{digest_of}
 use Rattle.answers.specs.driving.master.master_state.declared.step.Step.{Step}
 use Rattle.answers.specs.driving.master.master_state.declared.step.Step.TheVariants as step
 use Rattle.answers.specs.driving.master.master_state.declared.step.StepAnswer.{StepAnswer}
 use Rattle.answers.specs.driving.master.master_state.Data.{MasterData}
 use Rattle.answers.specs.driving.master.Steps.{Steps}
 use Rattle.answers.specs.driving.master.World.{World}
-use Rattle.answers.specs.driving.master.master_state.Budget.{used_seglets, free_seglets}
-use Rattle.answers.specs.driving.master.master_state.Log.{image_of}
-use Rattle.answers.specs.driving.master.master_space.Objects.{AreObjectsOf}
-use Rattle.answers.specs.driving.master.declared.segments.SegmentRow.{SegmentRow}
-use Rattle.answers.specs.driving.master.Segments.{segment_rows}
-use Rattle.answers.specs.claims.declared.rebuilt.Rebuilt.{Rebuilt}
-use Rattle.answers.specs.recovery.declared.recovery.RecoveryFault.{RecoveryFault}
-use Rattle.answers.specs.recovery.declared.recovery.RecoveryFault.TheVariants as recovery_fault
-use Rattle.answers.specs.recovery.Headline.{IsLoss, IsMapAfter, IsNoMemory}
-use Rattle.answers.specs.recovery_plan.Planned.{IsPlanFault, NamesLoss}
 use Rattle.answers.specs.declared.answer.Answer.{Answer}
 use Rattle.answers.specs.declared.answer.Answer.TheVariants as answer
-use Rattle.cluster.specs.Lives.{Life, life_to, HasLived, Left, is_left, IsLeftBy, IsLeftBySpent, IsHomeOf, Position}
-use Rattle.answers.specs.replay.Adopting.{DeclinesList}
-use Rattle.answers.specs.replay.Needs.{IsNeeded, NoneIsEnough}
-use Rattle.tablet_will.specs.declared.part.Part.{Part}
+use Rattle.cluster.specs.Lives.{Life, life_to, HasLived, Left, IsLeftBy, IsLeftBySpent, Position}
 use Rattle.tablet_will.specs.Sizes.{are_limits}
-use Rattle.answers.specs.declared.limits.Limits.{Limits}
-use Rattle.cluster.specs.Wills.{IsWillOf}
 use Rattle.answers.specs.driving.Cleans.{Cleans}
 use Rattle.cluster.specs.Counted.{AsksClients, AreCounted, AreUncounted}
 use Rattle.answers.specs.driving.Rolls.{PushesUntil, Rolls}
 use Rattle.answers.specs.driving.Served.{is_of_push}
 use Rattle.tending.specs.Low.{usual_for}
 use Rattle.tending.specs.Tends.{Tends}
+use Rattle.cluster.specs.Looks.{AreHeldAt, AreListedAt, AreSegmentsAt, IsDigestAt, IsImageAt, IsLiveAt, IsRoomAt}
+use Rattle.cluster.specs.Looks.{IsWillAt, shows}
+use Rattle.cluster.specs.Found.{AsksTable, IsLossOf, IsNeededAt, IsUnadopted}
 
 -- ---- commands
 
@@ -189,140 +164,6 @@ IsRefused config life at line r next = (r ≡ refusal.Spent → ⊥)
     × ((IsOut at line None next × ((r ≡ refusal.NoMemory)
     ⊎ ((c : Command) × (command_of line ≡ Some c) × IsCause config (life_to life at.made) c r)))
     ⊎ (IsIn life at line None next × IsPushedAt config (life_to life next.made) r × (is_of_push r ≡ true)))
-
--- ---- what is shown
-
--- the line shows something, and needs memory for that
-abbrev pub shows : LineValue → Bool
-shows (Hex segment) = true
-shows Log = true
-shows Holdings = true
-shows Segments = true
-shows (Listing table) = true
-shows Will = true
-shows _ = false
-
--- a master that has lived this life has this digest in force
-abbrev pub IsDigestAt : Config → Life → List ℕ → Type 0
-IsDigestAt config life ids = (d : MasterData) × (f : FleetState) × HasLived config life d f
-    × (ids ≡ digest_of d.head.image)
-
--- a master that has lived this life counts this many seglets of memory, and has this many free
-abbrev pub IsRoomAt : Config → Life → ℕ → ℕ → Type 0
-IsRoomAt config life used free = (d : MasterData) × (f : FleetState) × HasLived config life d f
-    × (used ≡ used_seglets d) × (free ≡ free_seglets d)
-
--- a master that has lived this life has these segments
-abbrev pub AreSegmentsAt : Config → Life → List SegmentRow → Type 0
-AreSegmentsAt config life rows = (d : MasterData) × (f : FleetState) × HasLived config life d f
-    × (rows ≡ segment_rows d)
-
--- these are the objects of the table in the versioned map after this life, in the order of their keys' bytes
-abbrev pub AreListedAt : Life → ℕ → List Object → Type 0
-AreListedAt life table objects = AreObjectsOf (after life.opening (commands_of life.history)).contents table objects
-
--- all live objects of a master that has lived this life have this many bytes together
-abbrev pub IsLiveAt : Config → Life → ℕ → Type 0
-IsLiveAt config life bytes = (d : MasterData) × (f : FleetState) × HasLived config life d f × (bytes ≡ d.live)
-
--- just these of the master's replicas are left
-abbrev pub AreLeft : Config → Left → List Holding → Type 0
-AreLeft config l hs = (h : Holding) → h.master ≡ config.master
-    → IsAmong h hs ↔ IsHeld (left_on (is_left l.lost) l.shown.holds) h
-
--- what the backups hold: of a master that has lived this life, or what is left of it
-abbrev pub AreHeldAt : Config → Life → Option Left → List Label → Type 0
-AreHeldAt config life None labels =
-    (d : MasterData) × (f : FleetState) × HasLived config life d f × AreLabelsOf f.picture labels
-AreHeldAt config life (Some l) labels = (hs : List Holding) × AreLeft config l hs × (labels ≡ map label_of hs)
-
--- ---- wills
-
--- the will of the objects of the versioned map after this life
-abbrev pub IsWillAt : Config → Life → Limits → List Part → Type 0
-IsWillAt config life limits parts =
-    IsWillOf config.tablets (after life.opening (commands_of life.history)).contents limits parts
-
--- the answer to the line `will` has these limits
-abbrev pub HasLimits : Limits → Answer → Type 0
-HasLimits limits (answer.Will parts under) = under ≡ limits
-HasLimits limits (answer.BadLimits under) = under ≡ limits
-HasLimits limits _ = Unit {0}
-
--- ---- images
-
--- a master that has lived this life has this image of the segment
-abbrev pub IsImageAt : Config → Life → ℕ → Option (List ℕ) → Type 0
-IsImageAt config life segment image = (d : MasterData) × (f : FleetState) × HasLived config life d f
-    × (option_map text_of (image_of d segment) ≡ image)
-
--- ---- recovered tables
-
--- the table is the map after a prefix of the commands that the lines have made, with each acknowledged one in it
-abbrev pub IsRecoveredAt : Life → Position → Rebuilt → Type 0
-IsRecoveredAt life at r = IsMapAfter life.opening (life_to life at.made).history at.acknowledged r
-
--- the objects are those of a log that is chosen from what the backups still hold
-abbrev pub IsOfLeft : Config → Left → Rebuilt → Type 0
-IsOfLeft config l r = (c : Choice) × IsShownChoice (survivors (is_left l.lost) l.shown) config.master c
-    × IsMeaning (among (bag_of c)) (contents_of r.objects)
-
--- the line asks for a recovery, in some order
-abbrev pub IsRecover : LineValue → Type 0
-IsRecover line = (order : ReplayOrder) × (line ≡ Recover order)
-
--- the line asks what a recovery finds: it asks for a recovery, or for what a new master needs after one
-abbrev pub AsksTable : LineValue → Type 0
-AsksTable line = IsRecover line ⊎ (line ≡ Needs)
-
--- a recovery of what is left gives this table
-abbrev pub IsFoundAt : Config → Life → Position → Left → Rebuilt → Type 0
-IsFoundAt config life at l r = IsRecoveredAt life at r × IsOfLeft config l r
-
--- The same configuration, for a master with a greater number. It writes the same format or format 2, and may have
--- another number of seglets.
-abbrev pub IsNextConfig : Config → Config → Type 0
-IsNextConfig old new = (old.master < new.master) × ((new.format ≡ old.format) ⊎ (new.format ≡ 2))
-    × (new ≡ record old { master = new.master; format = new.format; seglets = new.seglets })
-
--- of the master's replicas the fleet holds just what is left
-abbrev pub HoldsLeft : Config → Left → FleetState → Type 0
-HoldsLeft config l f =
-    (b s : ℕ) → f.picture b config.master s ≡ left_on (is_left l.lost) l.shown.holds b config.master s
-
--- A master of the new configuration doesn't adopt the table, over a fleet that holds what is left of the old one.
-abbrev pub IsListDeclined : Config → Left → Config → Rebuilt → Refusal → Type 0
-IsListDeclined config l new table r =
-    (before after : FleetState) × HoldsLeft config l before × DeclinesList new table before r after
-
--- The table was recovered, and no master adopted it, for this refusal. What is left of the old master stays.
-abbrev pub IsUnadopted : Config → Life → Position → LineValue → Refusal → Position → Type 0
-IsUnadopted config life at line r next = IsRecover line × ((l : Left) × (at.left ≡ Some l)
-    × (table : Rebuilt) × IsFoundAt config life at l table
-    × (new : Config) × IsNextConfig config new × IsListDeclined config l new table r)
-    × (next ≡ at)
-
--- A new master of this configuration needs so many seglets to adopt the table, or no number is enough.
-abbrev pub NeedsFor : Config → Rebuilt → Option ℕ → Type 0
-NeedsFor config table (Some needed) = IsNeeded config table.objects needed
-NeedsFor config table None = NoneIsEnough config table.objects
-
--- A recovery of what is left gives a table, and this is what a new master needs to adopt it.
-abbrev pub IsNeededAt : Config → Life → Position → Left → Option ℕ → Type 0
-IsNeededAt config life at l needed = (table : Rebuilt) × IsFoundAt config life at l table
-    × (new : Config) × IsNextConfig config new × NeedsFor new table needed
-
--- What the backups that are left hold of the master has this fault, and the loss that is named hides the log.
-abbrev pub NamesLossOf : Config → Left → RecoveryFault → Type 0
-NamesLossOf config l (recovery_fault.Plan loss) = (hs : List Holding) × AreLeft config l hs
-    × IsPlanFault hs l.shown.least config.master loss × NamesLoss hs l.shown.least config.master loss
-NamesLossOf config l (recovery_fault.Replay refused) = ⊥
-
--- what the refusal names is lost, or memory ran out; if the backups that are left have head and segments, memory ran
--- out
-abbrev pub IsLossOf : Config → Left → RecoveryFault → Type 0
-IsLossOf config l e = (IsLoss e ⊎ IsNoMemory e) × (IsNoMemory e ⊎ NamesLossOf config l e)
-    × (BothSurvive (IsHomeOf l) l.opened l.shown config.master (is_left l.lost) → IsNoMemory e)
 
 -- ---- lines
 

@@ -14,7 +14,7 @@ ghost use Rattle.cluster.specs.Shows.{ShowsDigest, ShowsImage, ShowsLive, ShowsR
 ghost use Rattle.cluster.specs.Waits.{MakesRoom, MakesOpen, TriesLine, IsReplyAt};
 
 use crate::tried::Tried;
-use answers::driving::master::{CommandRef, Look, Master, Refusal, ReplyRef, Shown, Step};
+use answers::driving::master::{CommandRef, Master, Refusal, ReplyRef, Step};
 use answers::driving::{clean_all, roll_all, serve};
 use answers::{Answer, WriteFailed};
 use backup::MemoryFleet;
@@ -46,7 +46,8 @@ fn held(labels: Result<Labels, NoMemory>) -> Answer
 }
 
 impl Node {
-    ghost use Rattle.lines.specs.Grammar.{Roll, Clean, Log, Room, LiveBytes, Hex, Stop, Fault, Crash, Lose, Holdings, Tend};
+    ghost use Rattle.lines.specs.Grammar.{Roll, Clean, Log, Room, LiveBytes, Hex, Stop, Fault, Crash, Lose, Holdings};
+    ghost use Rattle.lines.specs.Grammar.{Tend};
     ghost use Rattle.lines.specs.Grammar.{Segments};
 
     /// Applies a command, whose bytes may lie anywhere, and pushes until its record is durable.
@@ -236,9 +237,8 @@ impl Node {
             return Answer::Down;
         };
         up.show_valid();
-        match up.look(Look::Digest) {
-            Ok(Shown::Digest(ids)) => Answer::Log(ids),
-            Ok(_) => unreachable!(),
+        match up.digest() {
+            Ok(ids) => Answer::Log(ids),
             Err(NoMemory) => Answer::Refused(Refusal::NoMemory),
         }
     }
@@ -268,10 +268,9 @@ impl Node {
             return Answer::Down;
         };
         up.show_valid();
-        match up.look(Look::Image(segment)) {
-            Ok(Shown::Image(Some(bytes))) => Answer::Hex(bytes),
-            Ok(Shown::Image(None)) => Answer::NotInLog(segment),
-            Ok(_) => unreachable!(),
+        match up.image(segment) {
+            Ok(Some(bytes)) => Answer::Hex(bytes),
+            Ok(None) => Answer::NotInLog(segment),
             Err(NoMemory) => Answer::Refused(Refusal::NoMemory),
         }
     }
@@ -285,11 +284,7 @@ impl Node {
             return Answer::Down;
         };
         up.show_valid();
-        match up.look(Look::Room) {
-            Ok(Shown::Room(used, free)) => Answer::Room(used, free),
-            Ok(_) => unreachable!(),
-            Err(NoMemory) => unreachable!(),
-        }
+        Answer::Room(up.used_seglets(), up.free_seglets())
     }
 
     /// Answers the master's segments, with what each is to it and how many of its bytes are kept. It is refused as

@@ -3,7 +3,7 @@
 ghost use Rattle.std.specs.Prelude.{◌≡◌, IfOk, IfErr, OnErr};
 ghost use Rattle.answers.specs.driving.master.master_state.declared.config.Config.{Config};
 ghost use Rattle.cluster.specs.Served.{AnswersLine, DividesAnew, HandsOver};
-ghost use Rattle.cluster.specs.Told.{HasLimits};
+ghost use Rattle.cluster.specs.Looks.{HasLimits};
 ghost use Rattle.cluster.specs.Wills.{IsNoWill, MakesWill};
 
 use crate::node::Node;

@@ -99,7 +99,8 @@ module _ (number : ℕ) where
   line_unraised tend old (New table key value) new a is below =
       tended_made number tend old (command.Put (record { table = table; bytes = key }) value Absent) new a is below
   line_unraised tend old (Cas table key version value) new a is below =
-      tended_made number tend old (command.Put (record { table = table; bytes = key }) value (Version version)) new a is below
+      tended_made number tend old (command.Put (record { table = table; bytes = key }) value (Version version)) new a
+      is below
   line_unraised tend old (Get table key) new a is below =
       tended_made number 0 old (command.Get (record { table = table; bytes = key })) new a is below
   line_unraised tend old (Del table key) new a is below =

@@ -107,7 +107,8 @@ all_take app c m from is name takes p parsed has j x high at same =
     obeyed under =
         let rules : map rule_of (args_of c) ≡ app.top.rules = ap (λ (a : App). a.top.rules) is.shape in
         let all : list_all (λ a. obeys name takes (rule_of a)) (args_of c) ≡ true =
-        sym (list_all-map (obeys name takes) rule_of (args_of c)) ∙ (ap (list_all (obeys name takes)) rules ∙ has.obeyed) in
+        sym (list_all-map (obeys name takes) rule_of (args_of c))
+        ∙ (ap (list_all (obeys name takes)) rules ∙ has.obeyed) in
         All-get_or (λ a. obeys name takes (rule_of a) ≡ true) (args_of c) j x under
         (AllPass-from_list_all (λ a. obeys name takes (rule_of a)) (args_of c) all)
 

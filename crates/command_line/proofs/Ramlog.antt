@@ -1,5 +1,6 @@
 -- The program's command: how it grows, that clap's exact rules apply to it, and what its options are.
-use Rattle.std.proofs.Common.{◌||◌, ◌≡◌, ◌∙◌, ap, ap₂, Bool, true, false, [], ◌∷◌, inl, inr, length, ℕ, List, Option, Some}
+use Rattle.std.proofs.Common.{◌||◌, ◌≡◌, ◌∙◌, ap, ap₂, Bool, true, false, [], ◌∷◌, inl, inr, length, ℕ, List, Option}
+use Rattle.std.proofs.Common.{Some}
 use Rattle.std.proofs.Common.{None, refl, sym, subst, arith, drop, ◌+◌, ◌<◌, ◌≤◌, slice_index_or, codes}
 use Rattle.std.proofs.lemmas.List.{at_drop_more, drop_all}
 use Rattle.std.proofs.lemmas.List.Elements.{All-nil}
@@ -25,7 +26,8 @@ use Rattle.clap.proofs.CallerLemmas.{added_plain}
 use Rattle.clap.proofs.OnLiterals.{clap_on_literals}
 use Rattle.clap.proofs.WalkLemmas.{one_text-rows}
 use Rattle.command_line.specs.CommandLine.{HasNumber, HasOptions, IsCommand, IsDefault, IsNumberIn}
-use Rattle.command_line.specs.CommandLine.{IsFlag, NumberOption, ReadsFlag, ReadsNumber, default_options, flag_rule, forget}
+use Rattle.command_line.specs.CommandLine.{IsFlag, NumberOption, ReadsFlag, ReadsNumber, default_options, flag_rule}
+use Rattle.command_line.specs.CommandLine.{forget}
 use Rattle.command_line.specs.CommandLine.{number_rule, numbered}
 use Rattle.command_line.specs.CommandLine.{ramlog, with_version, ramlog_faults, ramlog_matches}
 use Rattle.command_line.specs.CommandLine.{backups, replicas, step, segment, seglet, seglets}

@@ -1,5 +1,6 @@
 -- What a fleet shows once its power was cut amid a call: what the images show.
-use Rattle.std.proofs.Common.{◌≡◌, ◌⊎◌, inl, inr, ℕ, zero, suc, ◌+◌, ◌<◌, ◌==◌, ◌∷◌, List, [], length, refl, sym, ◌∙◌, ap}
+use Rattle.std.proofs.Common.{◌≡◌, ◌⊎◌, inl, inr, ℕ, zero, suc, ◌+◌, ◌<◌, ◌==◌, ◌∷◌, List, [], length, refl, sym, ◌∙◌}
+use Rattle.std.proofs.Common.{ap}
 use Rattle.std.proofs.Common.{subst, Bool, true, false, cond, Option, None, Some, Err, arith}
 use Rattle.std.specs.Prelude.{Result, nat_lt}
 use mathlib.Core.Path.{fun_ext}

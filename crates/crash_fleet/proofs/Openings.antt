@@ -1,5 +1,6 @@
 -- What is found of crash images, as one more is opened.
-use Rattle.std.proofs.Common.{◌≡◌, ◌↔◌, ◌⊎◌, inl, inr, ℕ, zero, suc, ◌+◌, ◌<◌, List, [], ◌∷◌, ◌++◌, length, Option, None, Some}
+use Rattle.std.proofs.Common.{◌≡◌, ◌↔◌, ◌⊎◌, inl, inr, ℕ, zero, suc, ◌+◌, ◌<◌, List, [], ◌∷◌, ◌++◌, length, Option}
+use Rattle.std.proofs.Common.{None, Some}
 use Rattle.std.proofs.Common.{Bool, true, refl, sym, ◌∙◌, ap, subst, arith}
 use Rattle.std.specs.Prelude.{Contains}
 use Rattle.std.specs.List.{slice_get}
@@ -47,7 +48,8 @@ module _ {D : Type 0} (image : D → List ℕ) (list : List (Member D)) (files :
         (λ c place was g is. read.each c g (was ∙ ap Some is))
         (λ g is. subst (λ (file : List ℕ). ShowsUnder (noted.span (length old)) (replicas_at g) file)
         (sym (named_is (length old) ∙ ap (image_at image) at)) (opened.shows g is))
-        b (Some h) (subst (λ (ps : List (Option (Member D))). slice_get ps b ≡ Some (Some h)) opened.added there) h refl;
+        b (Some h) (subst (λ (ps : List (Option (Member D))). slice_get ps b ≡ Some (Some h)) opened.added there) h
+        refl;
   }
 
   pub kept_more : (kept : List ℕ) → (is_kept ≡ true) ↔ Contains kept (length old) → AreKept kept old → AreKept kept new

@@ -1,5 +1,6 @@
 -- Members of a front of a list, and what tells whether two lists have the same.
-use Rattle.std.proofs.Common.{◌≡◌, ◌↔◌, ℕ, ◌<◌, ◌+◌, List, [], ◌∷◌, ◌++◌, length, take, get_or, inl, inr, refl, sym, ◌∙◌}
+use Rattle.std.proofs.Common.{◌≡◌, ◌↔◌, ℕ, ◌<◌, ◌+◌, List, [], ◌∷◌, ◌++◌, length, take, get_or, inl, inr, refl, sym}
+use Rattle.std.proofs.Common.{◌∙◌}
 use Rattle.std.proofs.Common.{ap, subst, Bool, true, false, IsTrue}
 use Rattle.std.proofs.lemmas.Grind.{take_at_read}
 use Rattle.entry.specs.Bag.{IsAmong}

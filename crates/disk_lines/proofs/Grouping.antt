@@ -1,5 +1,6 @@
 -- Commands that are gathered, and what is printed of them.
-use Rattle.std.proofs.Common.{[], ◌≡◌, ◌∙◌, ℕ, zero, suc, ◌+◌, ◌-◌, ◌<◌, ◌≤◌, Bool, true, false, List, ◌∷◌, ◌++◌, length}
+use Rattle.std.proofs.Common.{[], ◌≡◌, ◌∙◌, ℕ, zero, suc, ◌+◌, ◌-◌, ◌<◌, ◌≤◌, Bool, true, false, List, ◌∷◌, ◌++◌}
+use Rattle.std.proofs.Common.{length}
 use Rattle.std.proofs.Common.{arith, ap, append_assoc, inl, inr, refl, subst, sym}
 use Rattle.std.proofs.Math.Nat.{le_trans}
 use Rattle.std.proofs.lemmas.List.{append-nil, append_cancel_left, length-append, map-append}
@@ -33,7 +34,8 @@ use Rattle.disk_lines.proofs.Telling.{texts_both}
 
 -- ---- replies
 
-replies_both : (st : State) (one two : List Command) → replies st (one ++ two) ≡ replies st one ++ replies (after st one) two
+replies_both : (st : State) (one two : List Command) → replies st (one ++ two)
+    ≡ replies st one ++ replies (after st one) two
 replies_both st [] two = refl
 replies_both st (c ∷ cs) two = ap (λ l. reply_to st c ∷ l) (replies_both (after_command st c) cs two)
 

@@ -12,7 +12,8 @@ use Rattle.answers.specs.declared.fault.ScriptFault.TheVariants as fault
 use Rattle.answers.proofs.Fronts.{reports_explain, reports_join}
 use Rattle.answers.specs.driving.master.master_state.Data.{MasterData}
 use Rattle.disk_lines.specs.Runs.{IsBad, RunsFrom}
-use Rattle.disk_lines.specs.Skips.{EndsRun, IsLast, MaySkip, RunsLines, RunsPast, Skipped, Skips, ending, has_some, reports_of}
+use Rattle.disk_lines.specs.Skips.{EndsRun, IsLast, MaySkip, RunsLines, RunsPast, Skipped, Skips, ending, has_some}
+use Rattle.disk_lines.specs.Skips.{reports_of}
 use Rattle.disk_lines.specs.Turns.{Known}
 use Rattle.disk_lines.proofs.Telling.{fails_to_flush, flushes, runs_dry, starts_running}
 
@@ -131,13 +132,15 @@ module _ (is_raw : Bool) where
           stops = λ (off : keeps ≡ false). absurd (cc);
           tells = sym (some_more p.skipped s);
           reports = subst (Reports before after)
-              (sym (flat_map-append (λ (x : Skipped). fault_lines before.explains (fault.BadLine x.number x.why)) p.skipped
+              (sym (flat_map-append (λ (x : Skipped). fault_lines before.explains (fault.BadLine x.number x.why))
+              p.skipped
               (s ∷ [])
               ∙ ap (λ l. reports_of before.explains p.skipped ++ l)
               (append-nil (fault_lines before.explains (fault.BadLine number why)))))
               (reports_join before during after (reports_of before.explains p.skipped)
               (fault_lines before.explains (fault.BadLine number why)) p.reports
-              (subst (λ (e : Bool). Reports during after (fault_lines e (fault.BadLine number why))) explains reported));
+              (subst (λ (e : Bool). Reports during after (fault_lines e (fault.BadLine number why))) explains
+              reported));
         })
     skips_more fault.ReadFailed later new left holds after runs none = absurd none
     skips_more fault.WriteFailed later new left holds after runs none = absurd none

@@ -95,7 +95,8 @@ module _ (is_raw : Bool) where
         by_end (inl e) = inl (e ∙ sym (append-nil (text ++ 10 ∷ [])))
         by_end (inr e) = inr ([], record { text = text; line = line }, refl, e.0, e.1)
 
-      pub turn_fails : (f : ScriptFault) → number < 2 ^ 64 - 1 → PrintsText is_raw old new text number held holds (Err f)
+      pub turn_fails : (f : ScriptFault) → number < 2 ^ 64 - 1
+          → PrintsText is_raw old new text number held holds (Err f)
           → TakesTurn is_raw number old new had left held holds (Err f)
       turn_fails (fault.BadLine n why) below (is_number, none, kept, same) =
           subst (λ (d : MasterData). RunsFrom is_raw number old d had left held holds (Err (fault.BadLine n why)))
@@ -157,15 +158,16 @@ module _ (is_raw : Bool) where
   stops_part had left text read.WriteFailed stops = (text, stops.0)
   stops_part had left text read.NoMemory stops = ([], stops.0)
 
-  module _ (d : MasterData) (number : ℕ) (had left held : Known) (part : List ℕ) (consumed : Consumes had left part) where
-    pub turn_unread : TakesTurn is_raw number d d had left held held (Err fault.ReadFailed)
-    turn_unread = ends_there is_raw number d had left held held part (Err fault.ReadFailed) consumed (part, refl)
-        (Appends-nil held)
+  module _ (d : MasterData) (number : ℕ) (had left held : Known) (part : List ℕ) (consumed : Consumes had left part)
+    where
+      pub turn_unread : TakesTurn is_raw number d d had left held held (Err fault.ReadFailed)
+      turn_unread = ends_there is_raw number d had left held held part (Err fault.ReadFailed) consumed (part, refl)
+          (Appends-nil held)
 
-    pub turn_unflushed : TakesTurn is_raw number d d had left held held (Err fault.WriteFailed)
-    turn_unflushed = ends_there is_raw number d had left held held part (Err fault.WriteFailed) consumed
-        (inr (part, refl)) (inl (Appends-nil held))
+      pub turn_unflushed : TakesTurn is_raw number d d had left held held (Err fault.WriteFailed)
+      turn_unflushed = ends_there is_raw number d had left held held part (Err fault.WriteFailed) consumed
+          (inr (part, refl)) (inl (Appends-nil held))
 
-    pub turn_no_memory : TakesTurn is_raw number d d had left held held (Err fault.NoMemory)
-    turn_no_memory = ends_there is_raw number d had left held held part (Err fault.NoMemory) consumed (part, refl)
-        (Appends-nil held)
+      pub turn_no_memory : TakesTurn is_raw number d d had left held held (Err fault.NoMemory)
+      turn_no_memory = ends_there is_raw number d had left held held part (Err fault.NoMemory) consumed (part, refl)
+          (Appends-nil held)

@@ -33,7 +33,8 @@ abbrev pub IsWritten : Known → Known → List ℕ → Result (Unit {0}) Script
 IsWritten held holds bytes (Ok done) = Appends held holds bytes
 IsWritten held holds bytes (Err f) = (f ≡ fault.WriteFailed) × AppendsFront held holds bytes
 
--- The line of a text was run, and what is printed of it was written. Or the writer failed. Or the text says no line, and
+-- The line of a text was run, and what is printed of it was written. Or the writer failed. Or the text says no line,
+-- and
 -- the reason says why.
 abbrev pub PrintsText : Bool → MasterData → MasterData → List ℕ → ℕ → Known → Known → Result (Unit {0}) ScriptFault
     → Type 0

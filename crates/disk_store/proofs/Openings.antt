@@ -15,7 +15,8 @@ use Rattle.disk_store.specs.declared.fault.NotOpened.{NotOpened}
 use Rattle.disk_store.specs.declared.fault.NotOpened.TheVariants as why
 
 -- a master that begins with the table of what was left opens the store
-pub opened : (o : Options) (registry : RegistryFile DiskFile) (places : List (Option (Member DiskFile))) (table : Rebuilt)
+pub opened : (o : Options) (registry : RegistryFile DiskFile) (places : List (Option (Member DiskFile)))
+    (table : Rebuilt)
     (r : Result (FileStore DiskFile (RegistryFile DiskFile) × ℕ) NotOpened) → IsLeft o registry places
     → IsTableOf (noted_by registry) places table → IfOk r (λ s. IsBegun o table s.0.master)
     → IfOk r (λ s. s.1 ≡ length table.objects) → IfOk r (λ s. IsOpened o s.1 s.0)

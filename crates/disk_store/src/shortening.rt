@@ -66,7 +66,8 @@ fn shorten_one(
     Ok(())
 }
 
-/// Writes each file of a store anew that is long: `DiskStore::shorten` says when. It is for those who have lent the store
+/// Writes each file of a store anew that is long: `DiskStore::shorten` says when. It is for those who have lent the
+/// store
 /// and its folders apart.
 pub fn shorten(
     rt: &HostRuntime,

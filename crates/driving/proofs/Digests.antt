@@ -434,7 +434,8 @@ open_headed d in_part held = (
   inl (opened_full d.head (full_in d part.Opens in_part (λ e. cc) held)),
 )
 
-mend_headed : (d : MasterData) (m : PushKind) → IsNextMend d m → IsHeaded (outline d) → IsHeaded (outline (mended_data d m))
+mend_headed : (d : MasterData) (m : PushKind) → IsNextMend d m → IsHeaded (outline d)
+    → IsHeaded (outline (mended_data d m))
 mend_headed d (push.Head (next.Extend j)) comes (replicas, first, inl full) =
     (replicas, first, inl (head_full d.head (next.Extend j) full))
 mend_headed d (push.Head (next.Extend j)) comes (replicas, first, inr mends) = (replicas, first, inr mends)

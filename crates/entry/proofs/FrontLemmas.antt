@@ -107,7 +107,8 @@ begins_of kind.Tombstone bytes fits first e =
     (version_from n inner.0) limits.0 limits.1
 begins_of kind.Lengths bytes fits first e =
     let tests = Passes-from_none kind.Lengths bytes e in
-    lengths_begins bytes (number_at 4 1 bytes) (listed_at (number_at 4 1 bytes) 5 bytes) fits tests.whole first refl refl
+    lengths_begins bytes (number_at 4 1 bytes) (listed_at (number_at 4 1 bytes) 5 bytes) fits tests.whole first refl
+    refl
     tests.order
 
 -- the tests of the first byte's kind are those of the bytes

@@ -21,7 +21,7 @@ use Rattle.file_backup.specs.Mirror.{memory_of}
 use Rattle.file_fleet.specs.Members.{picture_of, replica_on}
 use Rattle.file_fleet.specs.declared.member.Member.{Member}
 use Rattle.file_fleet.proofs.Held.{among_held, held_among, rising_images, shown_value}
-use Rattle.file_fleet.proofs.Others.{are_others, others_append}
+use Rattle.backup.proofs.Others.{are_others, others_append}
 
 abbrev pub memory_at : {D : Type 0} → Member D → MemoryBackup
 memory_at h = memory_of h.backup

@@ -200,12 +200,8 @@ impl<D: Device> Member<D> {
         if self.frames >= MAX_FRAMES {
             return Err(TakeFault::NoMemory);
         }
-        match self.backup.take(alloc, op) {
-            Ok(()) => {
-                self.frames += 1;
-                Ok(())
-            }
-            Err(fault) => Err(fault),
-        }
+        self.backup.take(alloc, op)?;
+        self.frames += 1;
+        Ok(())
     }
 }

@@ -18,7 +18,8 @@ use Rattle.embedded.specs.declared.reply.Reply.{Reply}
 abbrev pub AreUpTo : Picture → ℕ → ℕ → Type 0
 AreUpTo p backups last = (b n s : ℕ) → b < backups → last < n → p b n s ≡ None
 
--- The master adopted the table: it has nothing else, and its head is open. The registry names it, so a start recovers it.
+-- The master adopted the table: it has nothing else, and its head is open. The registry names it, so a start recovers
+-- it.
 pub record IsStarted {D R : Type 0} (noted : R → Noted) (o : Options) (table : Rebuilt)
     (m : MasterValue (FleetValue D R)) : Type 0 where
   pub adopted : IsAdopted (config_of o m.knows.config.master) table m.knows

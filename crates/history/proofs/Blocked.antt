@@ -91,5 +91,6 @@ module _ {A : Type 0} where
       sym (append_assoc b.items (flat_map (λ (c : Vec Row A). c.items) bs) last) ∙ view in (
         omega (arith, ap (λ (l : List Row). length l) whole, length-append b.items (rows_in bs last), are.filled.0),
         ap (λ (l : List (Vec Row A)). rows_in l last) is
-            ∙ sym (dropped_front b.items (rows_in bs last) 1024 are.filled.0) ∙ ap (λ (l : List Row). drop 1024 l) whole,
+            ∙ sym (dropped_front b.items (rows_in bs last) 1024 are.filled.0)
+            ∙ ap (λ (l : List Row). drop 1024 l) whole,
       )

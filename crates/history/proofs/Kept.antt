@@ -1,6 +1,7 @@
 -- The records of rows: growing texts keep them, texts without their first blocks keep those of later rows, one more row
 -- adds a record, and a reader finds the record of a row.
-use Rattle.std.proofs.Common.{◌≡◌, ℕ, zero, suc, ◌+◌, ◌<◌, ◌≤◌, List, [], ◌∷◌, ◌++◌, length, get_or, take, drop, Some, not, true}
+use Rattle.std.proofs.Common.{◌≡◌, ℕ, zero, suc, ◌+◌, ◌<◌, ◌≤◌, List, [], ◌∷◌, ◌++◌, length, get_or, take, drop, Some}
+use Rattle.std.proofs.Common.{not, true}
 use Rattle.std.proofs.Common.{refl, sym, ap, subst, ◌∙◌, arith}
 use Rattle.std.proofs.lemmas.List.{take-take, drop-drop, drop-take, map-append}
 use Rattle.std.proofs.lemmas.Option.{slice_get-map, slice_get_read}
@@ -96,7 +97,8 @@ module _ (least : ℕ) (old new : TextsValue) (keeps : KeepsFrom least old new) 
   pub ascend_kept : (rows : List Row) → AreFrom old.base least rows → Ascend old.base rows → Ascend new.base rows
   ascend_kept [] from up = tt
   ascend_kept (r ∷ rs) from up = (
-    from_kept (steps_to old.base r.block) rs from.0 from.1 up.0 (steps_to new.base r.block) (keeps.steps r.block from.0),
+    from_kept (steps_to old.base r.block) rs from.0 from.1 up.0 (steps_to new.base r.block)
+        (keeps.steps r.block from.0),
     ascend_kept rs from.1 up.1,
   )
 
@@ -267,4 +269,5 @@ module _ (t : TextsValue) (row : Row) (f len : ℕ) (bytes front rest key value 
   value_valid is = subst (λ (bs : List ℕ). IsValue bs) (sym value_there) is.value
 
   pub read_as : (n : Numbers) → n ≡ row_numbers row front → record_of row n key value ≡ record_in t row
-  read_as n is = (λ i. record_of row (is i) (key_there i) (value_there i)) ∙ ap (λ (bs : List ℕ). unpacked row bs (key_at t row) (value_at t row)) front_there
+  read_as n is = (λ i. record_of row (is i) (key_there i) (value_there i))
+      ∙ ap (λ (bs : List ℕ). unpacked row bs (key_at t row) (value_at t row)) front_there

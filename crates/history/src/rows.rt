@@ -1,6 +1,7 @@
 //! The rows of a history, in blocks of 1,024.
 
-ghost use Rattle.std.specs.Prelude.{◌≡◌, ◌<◌, ◌≤◌, ◌^◌, ◌∷◌, ◌++◌, [], length, drop, slice_index_or, OnOk, OnErr, MatchBool};
+ghost use Rattle.std.specs.Prelude.{◌≡◌, ◌<◌, ◌≤◌, ◌^◌, ◌∷◌, ◌++◌, [], length, drop, slice_index_or, OnOk, OnErr};
+ghost use Rattle.std.specs.Prelude.{MatchBool};
 
 use crate::packing::Row;
 use entry::NoMemory;

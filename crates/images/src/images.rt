@@ -1,8 +1,7 @@
 //! Images in memory, with the sum of the seglets that they count.
 
 ghost use Rattle.std.specs.Prelude.{◌≡◌, ◌+◌, ◌<◌, ◌≤◌, ◌↔◌, ◌∷◌, [], true, false, None, length, map, sum_by};
-ghost use Rattle.std.specs.Prelude.{IfOk, IfErr, OnOk, OnErr, IsErrAnd, IsErrOf, IsErr, IsSome, IsSomeAnd, IfSome};
-ghost use Rattle.std.specs.Prelude.{slice_index_or};
+ghost use Rattle.std.specs.Prelude.{IfOk, IfErr, OnOk, OnErr, IsErrAnd, IsErrOf, IsErr, IsSome, IfSome};
 ghost use Rattle.std.specs.Int.{div_ceil};
 ghost use Rattle.entry.specs.declared.entry.Entry.{Entry};
 ghost use Rattle.entry.specs.declared.entry.Role.{Role};
@@ -31,11 +30,11 @@ pub struct Images {
     seglet: usize,
     /// How many seglets there are.
     seglets: u64,
-    images: Vec<Image>,
+    pub(crate) images: Vec<Image>,
     /// How many seglets are counted.
     used: u64,
     /// Hints for the places of the images in the list.
-    hints: Hints,
+    pub(crate) hints: Hints,
     /// Memory that dropped images have left.
     spares: Spares,
 }
@@ -349,51 +348,6 @@ impl Images {
         image.replace(segment);
         self.used = others + count;
         Ok(())
-    }
-
-    /// Returns how many backups hold the segment of this number, or 0 if it has no image.
-    pub fn replicas(&self, id: u64) -> usize
-        ensures { result ≡ replicas_of self.now.images id }
-    {
-        match place_of(self.images.as_slice(), id, &self.hints) {
-            Some(at) => self.images[at].replicas(),
-            None => 0,
-        }
-    }
-
-    /// Counts one more backup that holds the segment of this number.
-    pub fn add_replica(&mut self, id: u64)
-        requires { IsSomeAnd (image_of self.old.images id) (λ image. image.replicas < 64) }
-        ensures { self.new ≡ record self.old { images = changed self.old.images id more_replicas } }
-    {
-        let Some(at) = place_of(self.images.as_slice(), id, &self.hints) else {
-            unreachable!()
-        };
-        self.images[at].add_replica();
-    }
-
-    /// Returns the number of the segment whose image is at this place of the list.
-    pub fn id_at(&self, place: usize) -> u64
-        requires { place < length self.now.images }
-        ensures { (image : ImageValue) → result ≡ (slice_index_or self.now.images place image).id }
-    {
-        self.images[place].id()
-    }
-
-    /// Returns how many backups hold the segment whose image is at this place of the list.
-    pub fn replicas_at(&self, place: usize) -> usize
-        requires { place < length self.now.images }
-        ensures { (image : ImageValue) → result ≡ (slice_index_or self.now.images place image).replicas }
-    {
-        self.images[place].replicas()
-    }
-
-    /// Counts one backup fewer that holds the segment whose image is at this place of the list. A count of 0 stays 0.
-    pub fn lose_at(&mut self, place: usize)
-        requires { place < length self.old.images }
-        ensures { self.new ≡ record self.old { images = changed_at self.old.images place fewer_replicas } }
-    {
-        self.images[place].lose_replica();
     }
 
     /// Drops the image of this number, and frees the seglets that it counts. If its memory is enough for a whole

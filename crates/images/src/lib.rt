@@ -15,6 +15,7 @@ mod image;
 mod images;
 mod laws;
 mod placing;
+mod replica_counts;
 mod spares;
 
 pub use fault::ImagesFault;

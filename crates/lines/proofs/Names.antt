@@ -4,7 +4,8 @@ use Rattle.std.proofs.Common.{map, cond, codes, true, false, arith}
 use Rattle.std.specs.Str.Parse.{digits_value}
 use Rattle.std.specs.Fmt.{decimal}
 use Rattle.lines.specs.Grammar.{LineValue, words_of}
-use Rattle.lines.specs.Grammar.{Idle, Put, New, Cas, Get, Del, Compact, Roll, BeginRoll, Push, Log, Room, LiveBytes, Needs}
+use Rattle.lines.specs.Grammar.{Idle, Put, New, Cas, Get, Del, Compact, Roll, BeginRoll, Push, Log, Room, LiveBytes}
+use Rattle.lines.specs.Grammar.{Needs}
 use Rattle.lines.specs.Grammar.{Hex, Stop, Fault, Format, Seglets, Crash, Lose, Will, Recover, Holdings}
 use Rattle.lines.specs.Grammar.{Clean, Begin, Copy, Seal, Free, Clients, Listing, Tend, Segments}
 use Rattle.lines.specs.declared.line.ReplayOrder.{ReplayOrder}

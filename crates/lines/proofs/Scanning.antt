@@ -1,5 +1,6 @@
 -- How a line stands behind two parts of it, one after another.
-use Rattle.std.proofs.Common.{◌≡◌, ◌≢◌, ◌∙◌, ◌<◌, ◌+◌, ◌++◌, ◌∷◌, [], sym, refl, subst, ap, get_or, ℕ, suc, Bool, true, false, List, length, take, arith}
+use Rattle.std.proofs.Common.{◌≡◌, ◌≢◌, ◌∙◌, ◌<◌, ◌+◌, ◌++◌, ◌∷◌, [], sym, refl, subst, ap, get_or, ℕ, suc, Bool, true}
+use Rattle.std.proofs.Common.{false, List, length, take, arith}
 use Rattle.std.specs.List.{All}
 use Rattle.std.proofs.lemmas.List.{take_more}
 use Rattle.lines.specs.Scanning.{HoldsTogether, IsInBytes, behind, step}

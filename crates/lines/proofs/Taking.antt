@@ -1,6 +1,8 @@
 -- What next_line has taken of its reader, part by part.
-use Rattle.std.proofs.Common.{◌≡◌, ◌∙◌, ◌≤◌, ◌<◌, ◌+◌, ◌++◌, [], sym, subst, ap, ℕ, true, false, List, Option, None, Some, Bool}
-use Rattle.std.proofs.Common.{length, take, drop, take-append-drop, length-append, append-nil, append_assoc, length-take-le, arith, ◌∷◌}
+use Rattle.std.proofs.Common.{◌≡◌, ◌∙◌, ◌≤◌, ◌<◌, ◌+◌, ◌++◌, [], sym, subst, ap, ℕ, true, false, List, Option, None}
+use Rattle.std.proofs.Common.{Some, Bool}
+use Rattle.std.proofs.Common.{length, take, drop, take-append-drop, length-append, append-nil, append_assoc}
+use Rattle.std.proofs.Common.{length-take-le, arith, ◌∷◌}
 use Rattle.std.specs.Prelude.{IfSome, Ok}
 use Rattle.std.specs.Io.{StartsWith}
 use Rattle.std.specs.Io.BufRead.{DropsConsumable}

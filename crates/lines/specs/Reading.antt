@@ -1,4 +1,5 @@
--- The lines that are taken from a reader. A line feed that is no raw byte ends each line, but the last line may lack it.
+-- The lines that are taken from a reader. A line feed that is no raw byte ends each line, but the last line may lack
+-- it.
 use Rattle.std.specs.Prelude.{◌≡◌, ◌≢◌, ◌<◌, ◌≤◌, ◌+◌, ℕ, Bool, true, false, List, [], ◌∷◌, ◌++◌, length, take, min}
 use Rattle.std.specs.Prelude.{Option, Some, None, Result, Ok, Err}
 use Rattle.std.specs.List.{All}
@@ -30,7 +31,8 @@ abbrev pub TakesByte : Option (List ℕ) → Option (List ℕ) → Option ℕ �
 TakesByte old new (Some byte) = Consumes old new (byte ∷ [])
 TakesByte old new None = Consumes old new [] × IsAtEnd new
 
--- What was taken of the reader: a line with its line feed, a last line of one byte or more without one, the bytes at the
+-- What was taken of the reader: a line with its line feed, a last line of one byte or more without one, the bytes at
+-- the
 -- front of a line that is too long, one more than a line may have, or nothing at the end.
 abbrev pub TakesLine : Bool → Option (List ℕ) → Option (List ℕ) → List ℕ → Taken → Type 0
 TakesLine is_raw old new line Ended =

@@ -35,5 +35,6 @@ pub record IsSoundInBytes (master : ℕ) (d : FailData) (shown : Shown) : Type 0
   pub prefix : (keep : ℕ → Bool) (c : Choice) → IsLeftChoice master shown keep c
       → (count : ℕ) × StandsForPrefix d c count
   -- if both survive there is a choice
-  pub choice : (keep : ℕ → Bool) (newest : Option ℕ) → IsNewestOpenedOrNone (IsOpenedHead d master shown) shown.least newest
+  pub choice : (keep : ℕ → Bool) (newest : Option ℕ) → IsNewestOpenedOrNone (IsOpenedHead d master shown) shown.least
+      newest
       → BothSurvive (IsHome d) newest shown master keep → (c : Choice) × IsLeftChoice master shown keep c

@@ -179,14 +179,16 @@ module _ (victims ids survivors pushed waits : List ℕ) (place room : ℕ)
     pub pushed_all : pushed ++ waits ≡ coming victims ids survivors 0
     pushed_all =
         ap (λ (l : List ℕ). pushed ++ l)
-        (sym (ap (λ (l : List ℕ). all_inserted waits (without victims l)) (drop_all place ids end) ∙ alone waits is.rise))
+        (sym (ap (λ (l : List ℕ). all_inserted waits (without victims l)) (drop_all place ids end)
+        ∙ alone waits is.rise))
         ∙ is.all
 
   -- a turn with this id
   module _ (id : ℕ) (at : slice_get ids place ≡ Some id) where
     pub pushed_victim : has victims id ≡ true → IsPushed victims ids survivors pushed waits (place + 1) room
     pushed_victim victim = record {
-      all = ap (λ (l : List ℕ). pushed ++ all_inserted waits l) (sym (left_same victims ids place id at victim)) ∙ is.all;
+      all = ap (λ (l : List ℕ). pushed ++ all_inserted waits l) (sym (left_same victims ids place id at victim))
+          ∙ is.all;
       fits = is.fits;
       rise = is.rise;
     }

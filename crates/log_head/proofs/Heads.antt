@@ -93,7 +93,8 @@ pub record Lags (units least : ℕ) (found : Option ℕ) (ns : List ℕ) : Type 
 pub lags_new : (units least n : ℕ) (found : Option ℕ) (ns : List ℕ) → Lags units least found ns → n < least
     → Lags units n (Some (length ns)) (ns ++ n ∷ [])
 lags_new units least n found ns before lt =
-    let all = all_append (λ m. n ≤ m) ns (n ∷ []) (all_above ns n least (omega (arith, lt)) before.all) (omega arith, tt) in
+    let all = all_append (λ m. n ≤ m) ns (n ∷ []) (all_above ns n least (omega (arith, lt)) before.all)
+    (omega arith, tt) in
     record {
       lags = (
         n,

@@ -58,7 +58,8 @@ len_in_fits id n (s ∷ ss) each is =
       go false rest same = rest same
 
 -- a length that a digest in bytes lists
-pub listed_fits : (b : Bool) (count : ℕ) (bytes : List ℕ) → (b ≡ true → AreLengths (listed_at count 5 bytes)) → (id n : ℕ)
+pub listed_fits : (b : Bool) (count : ℕ) (bytes : List ℕ) → (b ≡ true → AreLengths (listed_at count 5 bytes))
+    → (id n : ℕ)
     → listed_len id (digest_at b count bytes) ≡ Some n → IsLen n
 listed_fits false count bytes are id n is = absurd (cc)
 listed_fits true count bytes are id n is = len_in_fits id n (listed_at count 5 bytes) (are refl).each is
@@ -147,7 +148,8 @@ module _ (head : ℕ) (image : List Entry) (victims ids : List ℕ) (survivors :
       waiting = is.waiting;
     }
 
-    pub listing_other : (id n : ℕ) → slice_get ids place ≡ Some id → has victims id ≡ false → (mid zs still : List Listed)
+    pub listing_other : (id n : ℕ) → slice_get ids place ≡ Some id → has victims id ≡ false
+        → (mid zs still : List Listed)
         → ((rest : List ℕ) → ids_in mid ++ id ∷ all_inserted (ids_in still) rest
         ≡ ids_in segments ++ all_inserted (ids_in waits) (id ∷ rest))
         → IsStrictlyIncreasing (ids_in still) → AreListedBy f mid × AreListedBy f still

@@ -1,14 +1,13 @@
 //! The head of the log: its image, where its units end, and what each replica of it has.
 
-ghost use Rattle.std.specs.Prelude.{◌≡◌, ◌+◌, ◌-◌, ◌<◌, ◌≤◌, ◌^◌, ◌++◌, ◌∷◌, [], ℕ, List, length, map, take, drop};
-ghost use Rattle.std.specs.Prelude.{true, Some, None, IfSome, IfOk, OnOk, OnErr, IsErrOf, ◌↔◌, slice_get, slice_set};
-ghost use Rattle.entry.specs.declared.entry.Entry.{Entry};
-ghost use Rattle.entry.specs.declared.entry.Role.TheVariants.{Head as head_role};
+ghost use Rattle.std.specs.Prelude.{◌≡◌, ◌+◌, ◌<◌, ◌≤◌, ◌^◌, [], length, map, take};
+ghost use Rattle.std.specs.Prelude.{true, Some, None, IfSome, IfOk, OnOk, OnErr, IsErrOf, slice_get};
 ghost use Rattle.entry.specs.Text.{text_of, are_data};
 ghost use Rattle.entry.specs.View.{shown};
 ghost use Rattle.std.specs.Prelude.{nat_le, Option, ◌==◌};
 ghost use Rattle.std.specs.Option.{option_map, option_copied};
 
+use crate::lagging::lagging;
 use entry::{Digest, EntryRef, Ids, Lengths, Listed, NoMemory, SafeVersion};
 use segment::{AppendFault, Segment};
 use std::alloc::Global;
@@ -343,7 +342,6 @@ impl Head {
     }
 }
 
-ghost use Rattle.log_head.specs.Head.{IsLagging};
 ghost use Rattle.log_head.specs.Steps.{lone_start};
 ghost use Rattle.log_laws.specs.Heads.{digest_with, start_entries};
 ghost use Rattle.log_laws.specs.HeadSteps.{no_lens};
@@ -374,43 +372,4 @@ fn first_digest(alloc: Global, id: u64, format: u64) -> Result<Digest, NoMemory>
     let mut ids = Vec::with_capacity(alloc, 1)?;
     ids.push(id)?;
     Ok(Digest::Ids(Ids::new(ids)))
-}
-
-/// Returns the place of the least number, and of several the first, if this number is below `units`.
-#[inline(always)]
-fn lagging(taken: &[usize], units: usize) -> Option<usize>
-    ensures { IsLagging units taken.now result }
-{
-    match taken {
-        [first, second] => lagging_of_two(*first, *second, units),
-        _ => lagging_of_all(taken, units),
-    }
-}
-
-/// Does the same as `lagging` for two numbers, since most heads have two replicas.
-#[inline(always)]
-fn lagging_of_two(first: usize, second: usize, units: usize) -> Option<usize>
-    ensures { IsLagging units (first ∷ second ∷ []) result }
-{
-    if second < first && second < units {
-        return Some(1);
-    }
-    (first < units).then_some(0)
-}
-
-/// Does the same as `lagging` for any count of numbers.
-fn lagging_of_all(taken: &[usize], units: usize) -> Option<usize>
-    ensures { IsLagging units taken.now result }
-{
-    let mut found = None;
-    let mut least = units;
-    let mut place = 0;
-    while place < taken.len() {
-        if taken[place] < least {
-            least = taken[place];
-            found = Some(place);
-        }
-        place += 1;
-    }
-    found
 }

@@ -7,7 +7,9 @@
 #![tactic(auto)]
 
 mod head;
+mod lagging;
 mod laws;
+mod leaving;
 mod next;
 mod rolling;
 

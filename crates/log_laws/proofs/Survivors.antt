@@ -122,7 +122,8 @@ module _ (d : FailData) (texts : Texts) (p : Shown) (some : 0 < d.config.replica
   abbrev Counts : ℕ → Type 0
   Counts t = (u : ℕ) × (t ≤ u) × IsOpenedHead d p u × (p.least ≤ u)
 
-  new_counts : (n : Start) → IsNew d n → d.config.replicas ≤ length (d.took n.id) → p.least ≤ n.id → IsOpenedHead d p n.id
+  new_counts : (n : Start) → IsNew d n → d.config.replicas ≤ length (d.took n.id) → p.least ≤ n.id
+      → IsOpenedHead d p n.id
   new_counts n is_new opened usable =
       let one = some_member (d.took n.id) (omega arith) in
       (opened, (one.0, one.1, holds_new n one.0 is_new one.1 usable))

@@ -82,6 +82,7 @@ SegmentsSurvive IsHome s keep = (t : ℕ) (opening : Opening) → IsNewestLeft s
     (id : ℕ) → IsAmong id (listed_ids opening.digest) → (id ≡ t → ⊥) → IsHomeLeft IsHome keep id
 
 -- both the head and the segments survive if these backups are left
-pub record BothSurvive (IsHome : ℕ → ℕ → Type 0) (IsOpenedHead : ℕ → Type 0) (s : Shown) (keep : ℕ → Bool) : Type 0 where
-  pub head : HeadSurvives IsHome IsOpenedHead s keep
-  pub segments : SegmentsSurvive IsHome s keep
+pub record BothSurvive (IsHome : ℕ → ℕ → Type 0) (IsOpenedHead : ℕ → Type 0) (s : Shown) (keep : ℕ → Bool) : Type 0
+  where
+    pub head : HeadSurvives IsHome IsOpenedHead s keep
+    pub segments : SegmentsSurvive IsHome s keep

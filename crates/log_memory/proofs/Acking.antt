@@ -1,5 +1,6 @@
 -- What a master counts is what was answered Ok, through every step and each answer to an op.
-use Rattle.std.proofs.Common.{◌≡◌, ℕ, zero, suc, ◌<◌, ◌≤◌, inl, inr, Bool, true, false, cond, List, [], ◌∷◌, ◌++◌, length, take}
+use Rattle.std.proofs.Common.{◌≡◌, ℕ, zero, suc, ◌<◌, ◌≤◌, inl, inr, Bool, true, false, cond, List, [], ◌∷◌, ◌++◌}
+use Rattle.std.proofs.Common.{length, take}
 use Rattle.std.proofs.Common.{append_assoc, append-nil, Some, refl, sym, ap, subst, ◌∙◌, arith}
 use Rattle.std.specs.Prelude.{None, ◌==◌}
 use Rattle.std.proofs.lemmas.Bool.{cases_eq}
@@ -215,7 +216,8 @@ ack_for master b s act = record { backup = b; op = op_of master (log_op_for mast
 
 module _ (master : ℕ) (acks : List Ack) (b s : ℕ) (act : Act) where
   -- what it changes at its place
-  ack_here : acked (ack_for master b s act ∷ acks) b master s ≡ bytes_after (act_for master s act) (acked acks b master s)
+  ack_here : acked (ack_for master b s act ∷ acks) b master s
+      ≡ bytes_after (act_for master s act) (acked acks b master s)
   ack_here =
       let place : is_same_place b master s b master s ≡ true = grind (arith, nat_tests) in
       rw place refl
@@ -237,10 +239,11 @@ ack_same : (master : ℕ) (acks : List Ack) (b s : ℕ) (act : Act)
     → acked (ack_for master b s act ∷ acks) c master t ≡ acked acks c master t
 ack_same master acks b s act same c t = elim (cases_eq c b)
     as (λ _. acked (ack_for master b s act ∷ acks) c master t ≡ acked acks c master t) [
-      | inl one ↦ elim (cases_eq t s) as (λ _. acked (ack_for master b s act ∷ acks) c master t ≡ acked acks c master t) [
-        | inl two ↦ rw (one, two) (ack_here master acks b s act ∙ same (acked acks b master s))
-        | inr other ↦ ack_there master acks b s act c t (λ both. other (sym both.1))
-      ]
+      | inl one ↦ elim (cases_eq t s) as (λ _. acked (ack_for master b s act ∷ acks) c master t
+          ≡ acked acks c master t) [
+            | inl two ↦ rw (one, two) (ack_here master acks b s act ∙ same (acked acks b master s))
+            | inr other ↦ ack_there master acks b s act c t (λ both. other (sym both.1))
+          ]
       | inr other ↦ ack_there master acks b s act c t (λ both. other (sym both.0))
     ]
 

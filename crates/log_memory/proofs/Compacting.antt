@@ -86,7 +86,8 @@ compact_keeps d m p s i may =
             record {
               real = was.real;
               done = was.done;
-              images = λ z survivor. was.images z survivor ∙ sym (ap (filter is_data) (same_image d m p s i may z survivor));
+              images = λ z survivor. was.images z survivor ∙ sym
+                  (ap (filter is_data) (same_image d m p s i may z survivor));
             };
         waiting = record { out = i.waiting.out; below = i.waiting.below; real = i.waiting.real };
         recorded = i.recorded;

@@ -169,7 +169,8 @@ module _ (d : FailData) (m : FailMemory) (p : Shown) (i : IsIntact d m p) (first
     record {
       log = i.log;
       tracked = i.tracked;
-      passing = dropped_passing log m.pass m.index (map_of d) first rest i.tracked passing_first victim e at unnamed gone;
+      passing = dropped_passing log m.pass m.index (map_of d) first rest i.tracked passing_first victim e at unnamed
+          gone;
       around = i.around;
       images = i.images;
       repaired = i.repaired;

@@ -75,13 +75,15 @@ module _ (d : MasterData) (f : FleetState) (running : d.is_halted ≡ false) (se
               op = mend_op d (push.Head n);
               running = running;
               calm = calm;
-              next = subst (λ (x : MasterData). IsNextOp d (mend_op d (push.Head n)) (push_answer d (push.Head n)) (log_of x))
+              next = subst (λ (x : MasterData). IsNextOp d (mend_op d (push.Head n)) (push_answer d (push.Head n))
+                  (log_of x))
                   (sym same) (served_told d n f running calm waits served);
               push = n;
               waits = waits;
               rest = same;
               images = λ s. subst (λ (x : MasterData). HasLeft d x s ⊎ (image_of x s ≡ image_of d s)) (sym same)
-                  (taken_images (record d { ledger = ledger_after d n }) (posted_core d (ledger_after d n) core) n waits s);
+                  (taken_images (record d { ledger = ledger_after d n }) (posted_core d (ledger_after d n) core) n
+                  waits s);
               takes = takes;
             }) refl;
         taken = λ own g takes. subst (λ (x : MasterData). StaysServed d f x g) (sym same)

@@ -31,7 +31,8 @@ use Rattle.master_core.proofs.log_memory.FleetSteps.{commit_holds_all}
 use Rattle.master_core.specs.master_failover.declared.push.Push.TheVariants as push
 use Rattle.master_core.specs.master_failover.declared.turning.NewHead.{NewHead}
 use Rattle.master_core.specs.master_failover.declared.turning.NewHead.TheVariants as new_head
-use Rattle.master_core.specs.master_failover.Mending.{IsNextMend, IsNextOpen, IsNewHead, MayPut, put_data, turned_data, turn_roll}
+use Rattle.master_core.specs.master_failover.Mending.{IsNextMend, IsNextOpen, IsNewHead, MayPut, put_data, turned_data}
+use Rattle.master_core.specs.master_failover.Mending.{turn_roll}
 use Rattle.master_core.specs.master_failover.Mending.{mended_data, opened_more, replica_for}
 use Rattle.master_core.specs.master_failover.Mending.{was_headless, backup_for, segment_for, op_now}
 use Rattle.master_core.specs.master_failover.Mending.{opening}
@@ -145,7 +146,8 @@ module _ (d : MasterData) where
     go true = refl
     go false = refl
 
-  open_asks : (o : Op) (e : FailData) → IsMendOp (turned_data d) (push.Head first_next) o e → OpensNew (log_of (turned_data d)) o e
+  open_asks : (o : Op) (e : FailData) → IsMendOp (turned_data d) (push.Head first_next) o e
+      → OpensNew (log_of (turned_data d)) o e
   open_asks o e = go (was_headless d) where
     go : (t : Bool) → IsMendOp (turned_by d t) (push.Head (opens_by t)) o e → OpensNew (log_of (turned_by d t)) o e
     go true is = is
@@ -339,7 +341,8 @@ module _ (d : MasterData) (f : FleetState) (running : d.is_halted ≡ false) (ne
 
     refuses : (g : FleetState) (x : TakeFault)
         → Refuses f (backup_for d push.Turn) (first_open d.config.master d.next new) x g
-        → Refuses f (backup_for (turned_data d) (push.Head (first_next d))) (bytes_op (turned_data d) (push.Head (first_next d))) x g
+        → Refuses f (backup_for (turned_data d) (push.Head (first_next d)))
+        (bytes_op (turned_data d) (push.Head (first_next d))) x g
     refuses g x = subst (λ (y : ℕ × OpValue). Refuses f y.0 y.1 x g) (λ i. (same_backup i, same_bytes i))
 
     takes : (g : FleetState) → Takes f (backup_for d push.Turn) (first_open d.config.master d.next new) g
@@ -349,13 +352,15 @@ module _ (d : MasterData) (f : FleetState) (running : d.is_halted ≡ false) (ne
     pub turn_not_wrong : (g : FleetState)
         → Refuses f (backup_for d push.Turn) (first_open d.config.master d.next new) take_fault.Wrong g → ⊥
     turn_not_wrong g refused =
-        mend_not_wrong (turned_data d) (push.Head (first_next d)) f t_running t_next tt tt tt t_served g take_fault.Wrong
+        mend_not_wrong (turned_data d) (push.Head (first_next d)) f t_running t_next tt tt tt t_served g
+        take_fault.Wrong
         (refuses g take_fault.Wrong refused) refl
 
     opening_push : IsMendPush (turned_data d) (push.Head (first_next d))
     opening_push = served_push (turned_data d) (push.Head (first_next d)) f t_running t_next tt tt t_served
 
-    opens : (e : FailData) → IsMendOp (turned_data d) (push.Head (first_next d)) (mend_op (turned_data d) (push.Head (first_next d))) e
+    opens : (e : FailData) → IsMendOp (turned_data d) (push.Head (first_next d))
+        (mend_op (turned_data d) (push.Head (first_next d))) e
         → (n : Start) × OpensNew (rolling (log_of d) n (Opens n)) (mend_op (turned_data d) (push.Head (first_next d))) e
     opens e is = (
       next_now d,
@@ -372,19 +377,23 @@ module _ (d : MasterData) (f : FleetState) (running : d.is_halted ≡ false) (ne
         → Takes f (backup_for d push.Turn) (first_open d.config.master d.next new) g
         → Pushes (world_of d f) (Opened (backup_for d push.Turn) d.next) (world_of (mended_data d push.Turn) g)
     turn_mends own g took =
-        mends_on (world_of d f) (Opened (backup_for d push.Turn) d.next) (world_of (mended_data d push.Turn) g) (record {
+        mends_on (world_of d f) (Opened (backup_for d push.Turn) d.next) (world_of (mended_data d push.Turn) g)
+        (record {
           op = mend_op (turned_data d) (push.Head (first_next d));
           running = running;
           failing = mend_fails d push.Turn next;
           mend = push.Turn;
           next = next;
           may = λ turn. may;
-          does = subst (λ (x : MasterData). IsMendOp d push.Turn (mend_op (turned_data d) (push.Head (first_next d))) (log_of x))
+          does = subst (λ (x : MasterData). IsMendOp d push.Turn (mend_op (turned_data d) (push.Head (first_next d)))
+              (log_of x))
               (open_counts d)
-              (opens (log_of (mended_data (turned_data d) (push.Head (first_next d)))) (opening_push.does (counted own)));
+              (opens (log_of (mended_data (turned_data d) (push.Head (first_next d))))
+              (opening_push.does (counted own)));
           told = refl;
           rest = refl;
-          takes = subst (λ (c : _). TakesOp c.master f (mend_op (turned_data d) (push.Head (first_next d))) g) (turned_rest d).0
+          takes = subst (λ (c : _). TakesOp c.master f (mend_op (turned_data d) (push.Head (first_next d))) g)
+              (turned_rest d).0
               (takes g took);
         })
 
@@ -392,7 +401,8 @@ module _ (d : MasterData) (f : FleetState) (running : d.is_halted ≡ false) (ne
         → Takes f (backup_for d push.Turn) (first_open d.config.master d.next new) g
         → StaysServed d f (mended_data d push.Turn) g
     turn_mended own g took =
-        let both = served_mended (turned_data d) (push.Head (first_next d)) f t_running t_next tt tt (counted own) g (takes g took) in (
+        let both = served_mended (turned_data d) (push.Head (first_next d)) f t_running t_next tt tt (counted own) g
+        (takes g took) in (
           λ kept. subst (λ (x : MasterData). IsWellKept x g) (open_counts d) (both.0 (turns_kept kept)),
           λ loaded. subst (λ (x : MasterData). IsWellLoaded x g) (open_counts d) (both.1 (turns_loaded loaded)),
         )

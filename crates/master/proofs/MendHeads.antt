@@ -59,14 +59,16 @@ module _ (d0 : MasterData) (f : Failover) where
         does = λ later. extends;
         after = λ later. inl (record {
           log = inl refl;
-          model = same_model mending (mended_data mending (push.Head (nexts.Extend j))) may.core later refl refl (λ s. refl)
+          model = same_model mending (mended_data mending (push.Head (nexts.Extend j))) may.core later refl refl
+              (λ s. refl)
               refl refl refl (omega arith);
           waiting = refl;
         });
         placed = extended_placed d0 f may.core may.placed j may.next.2;
       }
 
-  pub replace_push : MayMend (at_part d0 None (as_part f part.Mends false)) (push.Head (nexts.OpenWhole (length d0.head.taken)))
+  pub replace_push : MayMend (at_part d0 None (as_part f part.Mends false))
+      (push.Head (nexts.OpenWhole (length d0.head.taken)))
       → IsMendPush (at_part d0 None (as_part f part.Mends false)) (push.Head (nexts.OpenWhole (length d0.head.taken)))
   replace_push may =
       let replaces = mend_replaces d0 f may.core may.placed may.next.4 in
@@ -77,7 +79,8 @@ module _ (d0 : MasterData) (f : Failover) where
         does = λ later. replaces;
         after = λ later. inl (record {
           log = inl refl;
-          model = same_model mending (mended_data mending (push.Head (nexts.OpenWhole (length d0.head.taken)))) may.core later
+          model = same_model mending (mended_data mending (push.Head (nexts.OpenWhole (length d0.head.taken))))
+              may.core later
               refl refl (λ s. refl) refl refl refl (omega arith);
           waiting = refl;
         });
@@ -101,7 +104,8 @@ module _ (d0 : MasterData) (r : Roll) (f : Failover) where
         does = λ later. opens;
         after = λ later. inl (record {
           log = inl refl;
-          model = same_model opening_now (mended_data opening_now (push.Head (nexts.OpenNew r.opened))) may.core later refl refl
+          model = same_model opening_now (mended_data opening_now (push.Head (nexts.OpenNew r.opened))) may.core later
+              refl refl
               (same_roll opening_now.head d0.closed r (record r { opened = suc r.opened }) refl refl refl) refl refl
               refl (omega arith);
           waiting = refl;
@@ -136,7 +140,8 @@ module _ (d0 : MasterData) (f : Failover) where
   abbrev first_now : MasterData
   first_now = at_part d0 None (as_part f part.Opens true)
 
-  pub open_first_push : MayMend (at_part d0 None (as_part f part.Opens true)) (push.Head (nexts.OpenFirst (length d0.head.taken)))
+  pub open_first_push : MayMend (at_part d0 None (as_part f part.Opens true))
+      (push.Head (nexts.OpenFirst (length d0.head.taken)))
       → IsMendPush (at_part d0 None (as_part f part.Opens true)) (push.Head (nexts.OpenFirst (length d0.head.taken)))
   open_first_push may =
       let opens = mend_opens_first d0 f may.core may.placed may.unfailed may.next.0.2 in
@@ -147,7 +152,8 @@ module _ (d0 : MasterData) (f : Failover) where
         does = λ later. opens;
         after = λ later. inl (record {
           log = inl refl;
-          model = same_model first_now (mended_data first_now (push.Head (nexts.OpenFirst (length d0.head.taken)))) may.core later
+          model = same_model first_now (mended_data first_now (push.Head (nexts.OpenFirst (length d0.head.taken))))
+              may.core later
               refl refl (λ s. refl) refl refl refl (omega arith);
           waiting = refl;
         });

@@ -73,7 +73,8 @@ pub mend_push : (d : MasterData) (m : Push) → MayMend d m → IsLater m → Is
 mend_push d (push.Head (nexts.Extend j)) may later =
     let f = may.next.0.0 in
     let is = may.next.0.1 in
-    at_its_part d (push.Head (nexts.Extend j)) None f part.Mends false ((fails d may.core f is).mends may.next.0.2).0 is may.next.0.2
+    at_its_part d (push.Head (nexts.Extend j)) None f part.Mends false ((fails d may.core f is).mends may.next.0.2).0
+    is may.next.0.2
     (headed_first d may.core f is may.next.1) (extend_push d f j) may
 mend_push d (push.Head (nexts.OpenWhole j)) may later =
     let f = may.next.0.0 in
@@ -177,7 +178,8 @@ module _ (d : MasterData) (core : IsCore d) (f : Failover) (is : d.failover ≡ 
   units_are : length d.head.units ≡ length (head_of d.head).units
   units_are = count_is d.config.master d.head (head_of d.head) core.image
 
-  extend_bytes : (j : ℕ) → IsNextMend d (push.Head (nexts.Extend j)) → op_now d (push.Head (nexts.Extend j)) ≡ Some (bytes_op d (push.Head (nexts.Extend j)))
+  extend_bytes : (j : ℕ) → IsNextMend d (push.Head (nexts.Extend j)) → op_now d (push.Head (nexts.Extend j))
+      ≡ Some (bytes_op d (push.Head (nexts.Extend j)))
   extend_bytes j waits =
       let from = units_of d.head j in
       let units : from ≡ waits.2.0 = ap (λ (x : Option ℕ). unwrap_or x 0) waits.2.1 in
@@ -202,12 +204,14 @@ module _ (d : MasterData) (core : IsCore d) (f : Failover) (is : d.failover ≡ 
       }))
 
   -- a new head that is a roll's
-  rolled_bytes : (r : Roll) → d.head.roll ≡ Some r → (j : ℕ) → op_now d (push.Head (nexts.OpenNew j)) ≡ Some (bytes_op d (push.Head (nexts.OpenNew j)))
+  rolled_bytes : (r : Roll) → d.head.roll ≡ Some r → (j : ℕ) → op_now d (push.Head (nexts.OpenNew j))
+      ≡ Some (bytes_op d (push.Head (nexts.OpenNew j)))
   rolled_bytes r rolling j =
       let master = d.config.master in
       let path : d ≡ record d { head = record d.head { roll = Some r } } =
       λ i. record d { head = record d.head { roll = rolling i } } in
-      subst (λ (x : MasterData). op_now x (push.Head (nexts.OpenNew j)) ≡ Some (bytes_op x (push.Head (nexts.OpenNew j)))) (sym path)
+      subst (λ (x : MasterData). op_now x (push.Head (nexts.OpenNew j))
+      ≡ Some (bytes_op x (push.Head (nexts.OpenNew j)))) (sym path)
       (ap (λ (es : List Entry). Some (record { master = master; segment = r.id; act = OpenBytes (text_of es) }))
       (roll_of d core r rolling).image
       ∙ ap (λ (s : ℕ).
@@ -223,7 +227,8 @@ module _ (d : MasterData) (core : IsCore d) (f : Failover) (is : d.failover ≡ 
       let first = core.first (headless_is d core f is d.head ∙ none_first d core f is opens none) in
       let path : d ≡ record d { head = record d.head { roll = None } } =
       λ i. record d { head = record d.head { roll = none i } } in
-      subst (λ (x : MasterData). op_now x (push.Head (nexts.OpenFirst j)) ≡ Some (bytes_op x (push.Head (nexts.OpenFirst j)))) (sym path)
+      subst (λ (x : MasterData). op_now x (push.Head (nexts.OpenFirst j))
+      ≡ Some (bytes_op x (push.Head (nexts.OpenFirst j)))) (sym path)
       (ap (λ (bs : List ℕ). Some (record { master = master; segment = d.head.id; act = OpenBytes bs }))
       (front_is master d.head (head_of d.head) core.image 0
       ∙ ap (λ (es : List Entry). text_of (start_entries master n ++ (es ++ []))) first.loaded)

@@ -30,8 +30,10 @@ not_both units j ns lags none =
 -- the head's replicas are mended first, and what comes later is of another part
 no_turn : (d : MasterData) (m : Push) → IsLater m → IsNextMend d m → IsNextMend d push.Turn → ⊥
 no_turn d (push.Head (nexts.Extend j)) later next (is, inl headless) = let both = sym next.1 ∙ headless in absurd (cc)
-no_turn d (push.Head (nexts.Extend j)) later next (is, inr turn) = not_both (length d.head.units) j d.head.taken next.2 turn.0
-no_turn d (push.Head (nexts.OpenWhole j)) later next (is, inl headless) = let both = sym next.1 ∙ headless in absurd (cc)
+no_turn d (push.Head (nexts.Extend j)) later next (is, inr turn) = not_both (length d.head.units) j d.head.taken next.2
+    turn.0
+no_turn d (push.Head (nexts.OpenWhole j)) later next (is, inl headless) = let both = sym next.1
+    ∙ headless in absurd (cc)
 no_turn d (push.Head (nexts.OpenWhole j)) later next (is, inr turn) =
     let at = next.3 in let lacking = next.4 in let full = turn.1 in absurd (omega (arith, at, lacking, full))
 no_turn d push.Turn later next turn = absurd later

@@ -28,7 +28,8 @@ pub op_of_master : (d e : FailData) (m : _) (o : Op) → IsLoadingOp d m o e →
 op_of_master d e m o (inl head) = inl (head, refl)
 op_of_master d e m o (inr repair) = inr (inr (inl (repair, refl)))
 
--- The op may be asked for, and goes to a backup that there is and that hasn't failed. The loading can't be finished yet.
+-- The op may be asked for, and goes to a backup that there is and that hasn't failed. The loading can't be finished
+-- yet.
 pub record IsHanded (d : MasterData) (b s : ℕ) (act : Act) : Type 0 where
   pub mid : FailData
   pub op : IsLoadingOp (log_of d) (memory_of d) (On b s act) mid

@@ -1,8 +1,11 @@
 //! What a master shows of itself and of its fleet.
 
-ghost use Rattle.std.specs.Prelude.{◌≡◌, IfOk, OnErr, length, nat_lt};
+ghost use Rattle.std.specs.Prelude.{◌≡◌, IfOk, IsSome, OnErr, length, nat_lt};
+ghost use Rattle.std.specs.Option.{option_map};
+ghost use Rattle.entry.specs.Text.{text_of};
 ghost use Rattle.log_head.specs.Head.{digest_of};
-ghost use Rattle.master_core.specs.master_state.Budget.{free_seglets};
+ghost use Rattle.master_core.specs.master_state.Budget.{free_seglets, used_seglets};
+ghost use Rattle.master_core.specs.master_state.Log.{image_of};
 ghost use Rattle.replica.specs.Picture.{AreLabelsOf, left_on};
 ghost use Rattle.master.specs.Shown.{IsShown, NeedsMemory};
 ghost use Rattle.master.specs.World.{world};
@@ -56,6 +59,28 @@ impl<F: Fleet> Master<F> {
         ensures { result ≡ length (digest_of self.now.knows.head.image) }
     {
         self.core.digest_len()
+    }
+
+    /// Returns the ids of the digest in force, in order.
+    pub fn digest(&self) -> Result<Row<u64>, NoMemory>
+        ensures { IfOk result (λ ids. ids ≡ digest_of self.now.knows.head.image) }
+    {
+        self.core.digest()
+    }
+
+    /// Returns a copy of the bytes of a segment's image, or `None` if there is no image with this id.
+    pub fn image(&self, id: u64) -> Result<Option<Row<u8>>, NoMemory>
+        ensures image { IfOk result (λ image. image ≡ option_map text_of (image_of self.now.knows id)) }
+        ensures refused { OnErr result (IsSome (image_of self.now.knows id)) }
+    {
+        self.core.bytes_of(id)
+    }
+
+    /// Returns how many seglets of memory are counted as used.
+    pub fn used_seglets(&self) -> u64
+        ensures { result ≡ used_seglets self.now.knows }
+    {
+        self.core.used()
     }
 
     /// Shows what the look asks for. Nothing changes.

@@ -21,7 +21,14 @@ module _ (d : MasterData) (core : IsCore d) (k : Key) (seat : ℕ) (passed : com
   judged : IsJudged d (Get k) change.Nothing (dead_segment d (Get k))
   judged = record {
     lies = refl;
-    change_of = record { unit = λ segment. refl; safe_after = refl; nothing = λ segment. refl; not_spent = refl; live = λ live. refl };
+    change_of = record {
+      unit = λ segment. refl;
+      safe_after = refl;
+      nothing = λ segment. refl;
+      not_spent = refl;
+      live =
+          λ live. refl;
+    };
   }
 
   nowhere : IsPlaced d (Get k) change.Nothing 0

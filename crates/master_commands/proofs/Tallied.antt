@@ -359,7 +359,8 @@ module _ (d : MasterData) (core : IsCore d) (h : HeadValue) (unit : List Entry) 
       ∙ length-append (text_of (images_of d d.head.id)) (text_of front))
 
   -- What a command's change makes of the counts leaves them right.
-  pub change_tallied : (command : Command) (c : Change) (was : Place) (at had : ℕ) (new : Places) (rows next : List Tally)
+  pub change_tallied : (command : Command) (c : Change) (was : Place) (at had : ℕ) (new : Places)
+      (rows next : List Tally)
       → IsChangeNow d command c → unit ≡ unit_of_change was.segment command c
       → BeginsAt d.head.image command c at
       → IsMovedBy (keys_in grown_images) d.index c (command_key command) (at_head at) new

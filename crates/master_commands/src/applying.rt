@@ -92,10 +92,8 @@ pub fn accept(core: &mut Core, seat: u64, command: &CommandRef<'_>) -> Result<u6
         ⊎ ((command_refusal core.old (shown_command command.now) ≡ None) × (r ≡ Refusal.NoMemory))) }
     ensures err { OnErr result (core.new ≡ core.old) }
 {
-    match weigh(core, command) {
-        Ok(judged) => Ok(add_judged(core, seat, command, &judged)?),
-        Err(refusal) => Err(refusal),
-    }
+    let judged = weigh(core, command)?;
+    Ok(add_judged(core, seat, command, &judged)?)
 }
 
 /// Makes all tests of a command. Returns what they found, and the reply.

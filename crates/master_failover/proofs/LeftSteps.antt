@@ -101,7 +101,8 @@ repaired_left d f is p = go (is_none (first_lost d)) where
   go false = (let same = left_is d part.Repairs (f, is, p) in omega arith)
 
 module _ (d : MasterData) where
-  extends : (j : ℕ) → IsNextMend d (push.Head (nexts.Extend j)) → left_now (mended_data d (push.Head (nexts.Extend j))) < left_now d
+  extends : (j : ℕ) → IsNextMend d (push.Head (nexts.Extend j))
+      → left_now (mended_data d (push.Head (nexts.Extend j))) < left_now d
   extends j next =
       let before = left_is d part.Mends next.0 in
       let after = left_is (mended_data d (push.Head (nexts.Extend j))) part.Mends next.0 in
@@ -115,7 +116,8 @@ module _ (d : MasterData) where
       unmended_is (mended_data d (push.Head (nexts.Extend j))) next.1 in
       omega arith
 
-  replaces : (j : ℕ) → IsNextMend d (push.Head (nexts.OpenWhole j)) → left_now (mended_data d (push.Head (nexts.OpenWhole j))) < left_now d
+  replaces : (j : ℕ) → IsNextMend d (push.Head (nexts.OpenWhole j))
+      → left_now (mended_data d (push.Head (nexts.OpenWhole j))) < left_now d
   replaces j next =
       let before = left_is d part.Mends next.0 in
       let after = left_is (mended_data d (push.Head (nexts.OpenWhole j))) part.Mends next.0 in

@@ -43,7 +43,8 @@ use Rattle.master_state.proofs.Refusals.{sizes_of}
 use Rattle.master_failover.specs.declared.push.Push.TheVariants as push
 use Rattle.master_failover.specs.declared.turning.NewHead.{NewHead}
 use Rattle.master_failover.specs.declared.turning.NewHead.TheVariants as new_head
-use Rattle.master_failover.specs.Mending.{IsNextMend, IsNextOpen, IsNewHead, was_headless, turn_roll, closed_before, put_data}
+use Rattle.master_failover.specs.Mending.{IsNextMend, IsNextOpen, IsNewHead, was_headless, turn_roll, closed_before}
+use Rattle.master_failover.specs.Mending.{put_data}
 use Rattle.master_failover.specs.Mending.{opening, turned_data}
 use Rattle.master_failover.proofs.Changed.{own, was_is, headless_is}
 use Rattle.master_rolls.proofs.NewRolls.{rolls_to, pass_then, roll_core}

@@ -189,7 +189,8 @@ module _ (d : MasterData) (core : IsCore d) (calm : d.failover ≡ None) (opened
       go : (t : Bool) → t ≡ true → (if t then Rolls (start_of (fresh_roll d.config.master (start_now d)))
           else Rolls (head_of d.head).start) ≡ Rolls (next_now d)
       go true is =
-          ap Rolls (start_is d.config.master (start_now d) (start_has d (is_ready d)) ∙ next_is d core (headed d calm opened))
+          ap Rolls (start_is d.config.master (start_now d) (start_has d (is_ready d))
+          ∙ next_is d core (headed d calm opened))
       go false is = absurd (cc)
 
   log_begun : log_of (rolling_data d) ≡ rolling (log_of d) (next_now d) (Rolls (next_now d))

@@ -30,5 +30,9 @@ pub begun_all : (s : Survivors) (n : ℕ) (old new : List Tally) → n ≤ s.cou
 begun_all s n old new le all row m = elim (all row m)
     as (λ _. IsAmong row old ⊎ ((k : ℕ) × IsAmong k (survivor_ids s) × (row ≡ of_nothing k))) [
       | inl was ↦ inl was
-      | inr one ↦ inr (let lt = one.1 in (s.first + one.0, id_among s.first s.count one.0 (omega (arith, lt, le)), one.2))
+      | inr one ↦ inr (let lt = one.1 in (
+        s.first + one.0,
+        id_among s.first s.count one.0 (omega (arith, lt, le)),
+        one.2,
+      ))
     ]

@@ -1,5 +1,6 @@
 -- The live objects of a table, once they are sorted by the bytes of their keys.
-use Rattle.std.proofs.Common.{◌≡◌, ℕ, ◌+◌, ◌<◌, Bool, true, false, cond, List, [], ◌∷◌, get_or, length, map, refl, sym, ap}
+use Rattle.std.proofs.Common.{◌≡◌, ℕ, ◌+◌, ◌<◌, Bool, true, false, cond, List, [], ◌∷◌, get_or, length, map, refl, sym}
+use Rattle.std.proofs.Common.{ap}
 use Rattle.std.proofs.Common.{subst, ◌∙◌, inl, inr, arith}
 use Rattle.std.specs.Prelude.{Some, None, ◌==◌}
 use Rattle.std.specs.Cmp.Lexicographic.{slice_cmp, texts_ties, bytes_decides}
@@ -199,7 +200,8 @@ listed contents table live all once before after found moved up = record {
   only = λ o m.
       let at = kept_in table live o (back o m) in (at.1, has o at.0);
   all = λ k x own is. forth k x own is;
-  order = rising table (map shown_object after) (shown_sorted after up) apart_after (λ o m. (kept_in table live o (back o m)).1);
+  order = rising table (map shown_object after) (shown_sorted after up) apart_after
+      (λ o m. (kept_in table live o (back o m)).1);
 }
   where
     shown_moved : IsPermutation (map shown_object before) (map shown_object after)

@@ -14,7 +14,8 @@ use Rattle.compactor.proofs.Walking.{IsHere, cut_behind}
 use Rattle.master_space.specs.Objects.{of_table}
 use Rattle.master_state.specs.Sizes.{live_at, live_from}
 
-pub of_table_append : (table : ℕ) (xs ys : List Object) → of_table table (xs ++ ys) ≡ of_table table xs ++ of_table table ys
+pub of_table_append : (table : ℕ) (xs ys : List Object) → of_table table (xs ++ ys)
+    ≡ of_table table xs ++ of_table table ys
 of_table_append table xs ys = filter-append (λ (o : Object). o.key.table == table) xs ys
 
 module _ (held : Places) (table segment : ℕ) (es : List Entry) (old : List Object) where
@@ -45,7 +46,8 @@ module _ (held : Places) (table segment : ℕ) (es : List Entry) (old : List Obj
 
   pub IsListed-next : (at : ℕ) (objects : List Object) (s : IsListed at objects) (e : Entry) (n : ℕ)
       → IsHere es s.before s.rest at e n
-      → (os : List Object) → os ≡ of_table table (option_to_list (live_at held (record { segment = segment; at = at }) e))
+      → (os : List Object) → os ≡ of_table table (option_to_list
+      (live_at held (record { segment = segment; at = at }) e))
       → IsListed (at + n) (objects ++ os)
   IsListed-next at objects s e n here os found = record {
     before = s.before ++ e ∷ [];

@@ -132,7 +132,8 @@ module _ (d : MasterData) (core : IsCore d) where
 
   pub closed_rise : Rise (ids_in d.closed)
   closed_rise =
-      subst Rise (sym core.closed) (rise_all (survivors_of d.pass) start.others survivors_out survivors_rise others_rise)
+      subst Rise (sym core.closed) (rise_all (survivors_of d.pass) start.others survivors_out survivors_rise
+      others_rise)
 
   -- an id that is no other and no survivor is not of a closed segment
   pub not_closed : (s : ℕ) → has start.others s ≡ false → has (survivors_of d.pass) s ≡ false

@@ -1,4 +1,5 @@
--- A core keeps the invariant when its ledger changes, when it halts, when replicas of its head take more units, and when
+-- A core keeps the invariant when its ledger changes, when it halts, when replicas of its head take more units, and
+-- when
 -- it forgets records.
 use Rattle.std.proofs.Common.{◌≡◌, ℕ, ◌≤◌, Bool, true, List, length, refl, arith}
 use Rattle.std.specs.Prelude.{Option, Some, None, IfSome, not, nat_le}

@@ -1,6 +1,7 @@
 -- Which test refuses a step.
 use Rattle.std.proofs.Common.{◌≡◌, ◌+◌, ◌<◌, ◌≤◌, Bool, true, false, cond, List, length, refl, arith}
-use Rattle.std.specs.Prelude.{Option, Some, None, ◌-◌, ◌^◌, ◌*◌, ◌/◌, ◌%◌, not, nat_le, nat_lt, ◌==◌, ◌&&◌, ◌||◌, is_none}
+use Rattle.std.specs.Prelude.{Option, Some, None, ◌-◌, ◌^◌, ◌*◌, ◌/◌, ◌%◌, not, nat_le, nat_lt, ◌==◌, ◌&&◌, ◌||◌}
+use Rattle.std.specs.Prelude.{is_none}
 use Rattle.std.proofs.lemmas.Bool.{and_parts, not-false, leb-true, leb-false, ltb-false, eqb-true}
 use Rattle.std.proofs.lemmas.Bool.Decides.{nat_tests}
 use Rattle.std.proofs.Math.Bool.{and-false}

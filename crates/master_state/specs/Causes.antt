@@ -1,5 +1,6 @@
 -- Why a step is refused.
-use Rattle.std.specs.Prelude.{ℕ, ◌+◌, ◌-◌, ◌*◌, ◌/◌, ◌^◌, ◌==◌, ◌&&◌, length, Bool, nat_le, nat_lt, not, Option, Some, None}
+use Rattle.std.specs.Prelude.{ℕ, ◌+◌, ◌-◌, ◌*◌, ◌/◌, ◌^◌, ◌==◌, ◌&&◌, length, Bool, nat_le, nat_lt, not, Option, Some}
+use Rattle.std.specs.Prelude.{None}
 use Rattle.std.specs.Prelude.{List}
 use Rattle.std.specs.Prelude.{is_none, is_some, true, false, [], ◌∷◌, ◌||◌, if◌then◌else◌}
 use Rattle.std.specs.Option.{option_map_or}

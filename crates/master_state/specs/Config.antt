@@ -1,5 +1,6 @@
 -- The limits of a configuration, and the first limit that a configuration breaks.
-use Rattle.std.specs.Prelude.{◌*◌, ◌/◌, ◌%◌, ◌^◌, ◌==◌, ◌&&◌, ◌||◌, Bool, not, nat_le, Option, Some, None, if◌then◌else◌}
+use Rattle.std.specs.Prelude.{◌*◌, ◌/◌, ◌%◌, ◌^◌, ◌==◌, ◌&&◌, ◌||◌, Bool, not, nat_le, Option, Some, None}
+use Rattle.std.specs.Prelude.{if◌then◌else◌}
 use Rattle.entry.specs.Format.{is_within}
 use Rattle.entry.specs.Tablet.{are_tablets}
 use Rattle.packing.specs.declared.sizes.Sizes.{Sizes}

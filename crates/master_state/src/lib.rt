@@ -16,6 +16,7 @@ mod image;
 mod ledger;
 mod loaded;
 mod losing;
+mod posting;
 mod state;
 mod step;
 mod waiting;

@@ -1,6 +1,7 @@
-//! What a core becomes when a backup fails and a failover begins.
+//! What a core becomes when a take ends in a fault: it halts, or a failover begins.
 
-ghost use Rattle.std.specs.Prelude.{◌≡◌, ◌+◌, ◌<◌, ◌≤◌, length, map, filter, true, false, None, Some, IfSome};
+ghost use Rattle.std.specs.Prelude.{◌≡◌, ◌+◌, ◌<◌, ◌≤◌, length, map, filter, true, false, None, Some, IfSome, IsSome};
+ghost use Rattle.std.specs.Prelude.{ℕ};
 ghost use Rattle.std.specs.List.{AllByRecursion};
 ghost use Rattle.images.specs.Images.{ImagesValue};
 ghost use Rattle.log_head.specs.log_laws.Ids.{has};
@@ -8,16 +9,68 @@ ghost use Rattle.master_state.specs.Config.{config_fault};
 ghost use Rattle.master_state.specs.Invariant.{IsCore};
 ghost use Rattle.master_state.specs.Log.{working};
 ghost use Rattle.master_state.specs.Steps.{may_lose, lost_data, lost_image, lost_waiting, still_waits, less_by};
+ghost use Rattle.master_state.specs.Steps.{failed_data, refusal_of};
 ghost use Rattle.master_state.specs.Steps.{place_of};
 
 use crate::config::Config;
 use crate::failover::{Failed, Failover, Part};
 use crate::ledger::Abandoned;
 use crate::state::Core;
+use crate::step::Refusal;
 use crate::waiting::Waiting;
 use images::Images;
+use replica::TakeFault;
 
 impl Core {
+    /// Treats a fault of a take on this backup, and returns the refusal of the step. After NoMemory and Spent the core
+    /// is as it was. After Fault the backup counts as failed and a failover begins, if the format is 2, no failover was
+    /// open, and at least as many backups are left as a segment has replicas; otherwise the master halts. No op of a
+    /// master is Wrong.
+    pub fn fail(&mut self, backup: u64, fault: TakeFault) -> Refusal
+        requires right { fault ≡ TakeFault.Wrong → ⊥ }
+        requires there { backup < self.old.config.backups }
+        requires works { has self.old.failed backup ≡ false }
+        ensures answer { result ≡ refusal_of self.old backup fault }
+        ensures failed { self.new ≡ failed_data self.old backup fault }
+        ensures valid { IsCore self.new }
+    {
+        self.show_valid();
+        match fault {
+            TakeFault::NoMemory => Refusal::NoMemory,
+            TakeFault::Spent => Refusal::Spent,
+            TakeFault::Fault => {
+                if self.may_lose() {
+                    self.lose(backup);
+                    return Refusal::Lost(backup);
+                }
+                self.halt();
+                Refusal::Halted
+            }
+            TakeFault::Wrong => unreachable!(),
+        }
+    }
+
+    /// Treats a fault of the registry's raise in an open failover, and returns the refusal of the step. After NoMemory
+    /// and Spent the core is as it was. After Fault the master halts, because a failover is open.
+    pub fn refuse_raise(&mut self, fault: TakeFault) -> Refusal
+        requires right { fault ≡ TakeFault.Wrong → ⊥ }
+        requires failing { IsSome self.old.failover }
+        ensures answer { (b : ℕ) → result ≡ refusal_of self.old b fault }
+        ensures failed { (b : ℕ) → self.new ≡ failed_data self.old b fault }
+        ensures valid { IsCore self.new }
+    {
+        self.show_valid();
+        match fault {
+            TakeFault::NoMemory => Refusal::NoMemory,
+            TakeFault::Spent => Refusal::Spent,
+            TakeFault::Fault => {
+                self.halt();
+                Refusal::Halted
+            }
+            TakeFault::Wrong => unreachable!(),
+        }
+    }
+
     /// Returns true if a failure of a backup opens a failover: the format is 2, no failover is open, and at least as
     /// many backups are left after the failure as a segment has replicas.
     pub fn may_lose(&self) -> bool

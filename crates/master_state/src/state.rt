@@ -1,4 +1,4 @@
-//! What a master knows: how a core begins, what it shows, and what a fault of a take makes of it.
+//! What a master knows: how a core begins, what it shows, and whether it may take a step.
 
 ghost use Rattle.std.specs.Prelude.{◌≡◌, ◌<◌, [], None, IfOk, OnErr, IsSome};
 ghost use Rattle.std.specs.Option.{option_map};
@@ -13,17 +13,13 @@ ghost use Rattle.master_state.specs.Invariant.{IsCore};
 ghost use Rattle.log_memory.specs.log_laws.Steps.{restored};
 ghost use Rattle.master_state.specs.Loading.{restored_data, IsBare};
 ghost use Rattle.master_state.specs.Log.{fail_config, log_of, durable_now, image_of, home};
-ghost use Rattle.master_state.specs.Steps.{failed_data, refusal_of, halted, backup_of, ledger_after};
-ghost use Rattle.master_state.specs.Ledger.{posted, ended_with};
-ghost use Rattle.log_head.specs.Next.{replica_of, segment_of};
-ghost use Rattle.std.specs.Prelude.{ℕ, suc, ◌==◌, false};
-ghost use Rattle.log_head.specs.log_laws.Ids.{has};
+ghost use Rattle.master_state.specs.Steps.{halted};
 ghost use Rattle.tally.specs.Rows.{WithOne, of_nothing};
 
 use crate::config::Config;
 use crate::failover::{Failed, Failover};
 use crate::image::image_of;
-use crate::ledger::{Abandoned, Ledger, Posting};
+use crate::ledger::{Abandoned, Ledger};
 use crate::loaded::Loaded;
 use crate::step::Refusal;
 use crate::waiting::Waiting;
@@ -32,8 +28,7 @@ use entry::{NoMemory, Row, SafeVersion, Tablet};
 use hash_index::Index;
 use history::History;
 use images::Images;
-use log_head::{Head, Next};
-use replica::TakeFault;
+use log_head::Head;
 use std::alloc::Global;
 use std::marker::Model;
 use tally::Tallies;
@@ -299,111 +294,7 @@ impl Core {
         self.history.forget(most as usize);
     }
 
-    // ---- the ledger
-
-    /// Adds a posting to the ledger.
-    #[inline(always)]
-    pub fn post(&mut self, posting: &Posting)
-        ensures posted { self.new ≡ posted self.old posting.now }
-        ensures valid { IsCore self.new }
-    {
-        self.ledger = Ledger::with(&self.ledger, posting);
-    }
-
-    /// Adds to the ledger that this backup took the op of a push, which is on this segment.
-    #[inline(always)]
-    pub fn post_push(&mut self, next: Next, segment: u64, backup: u64)
-        requires few { replica_of next < 64 }
-        requires segment { segment ≡ segment_of self.old.head next }
-        requires backup { backup ≡ backup_of self.old next }
-        ensures posted { self.new ≡ record self.old { ledger = ledger_after self.old next } }
-        ensures valid { IsCore self.new }
-    {
-        match next {
-            Next::OpenFirst(replica) => {
-                self.post(&Posting::Took(segment, backup));
-                self.post_end(replica);
-            }
-            Next::Extend(_) => {
-                let units = self.head.count();
-                self.post(&Posting::Has(backup, units));
-            }
-            Next::OpenWhole(_) => {
-                let units = self.head.count();
-                self.post(&Posting::Took(segment, backup));
-                self.post(&Posting::Has(backup, units));
-            }
-            Next::OpenNew(_) => self.post(&Posting::Took(segment, backup)),
-            Next::CloseOld(replica) => {
-                self.post(&Posting::Shut(backup));
-                self.post_end(replica);
-            }
-        }
-    }
-
-    /// Adds the end of a roll to the ledger if this replica is the last one.
-    #[inline(always)]
-    fn post_end(&mut self, replica: usize)
-        requires { replica < 64 }
-        ensures posted { let is_last = suc replica == self.old.config.replicas in
-            self.new ≡ record self.old { ledger = ended_with is_last self.old.ledger } }
-        ensures valid { IsCore self.new }
-    {
-        if replica as u64 + 1 == self.config.replicas {
-            self.post(&Posting::Ended);
-        }
-    }
-
-    // ---- a fault
-
-    /// Treats a fault of a take on this backup, and returns the refusal of the step. After NoMemory and Spent the core
-    /// is as it was. After Fault the backup counts as failed and a failover begins, if the format is 2, no failover was
-    /// open, and at least as many backups are left as a segment has replicas; otherwise the master halts. No op of a
-    /// master is Wrong.
-    pub fn fail(&mut self, backup: u64, fault: TakeFault) -> Refusal
-        requires right { fault ≡ TakeFault.Wrong → ⊥ }
-        requires there { backup < self.old.config.backups }
-        requires works { has self.old.failed backup ≡ false }
-        ensures answer { result ≡ refusal_of self.old backup fault }
-        ensures failed { self.new ≡ failed_data self.old backup fault }
-        ensures valid { IsCore self.new }
-    {
-        self.show_valid();
-        match fault {
-            TakeFault::NoMemory => Refusal::NoMemory,
-            TakeFault::Spent => Refusal::Spent,
-            TakeFault::Fault => {
-                if self.may_lose() {
-                    self.lose(backup);
-                    return Refusal::Lost(backup);
-                }
-                self.halt();
-                Refusal::Halted
-            }
-            TakeFault::Wrong => unreachable!(),
-        }
-    }
-
-    /// Treats a fault of the registry's raise in an open failover, and returns the refusal of the step. After NoMemory
-    /// and Spent the core is as it was. After Fault the master halts, because a failover is open.
-    pub fn refuse_raise(&mut self, fault: TakeFault) -> Refusal
-        requires right { fault ≡ TakeFault.Wrong → ⊥ }
-        requires failing { IsSome self.old.failover }
-        ensures answer { (b : ℕ) → result ≡ refusal_of self.old b fault }
-        ensures failed { (b : ℕ) → self.new ≡ failed_data self.old b fault }
-        ensures valid { IsCore self.new }
-    {
-        self.show_valid();
-        match fault {
-            TakeFault::NoMemory => Refusal::NoMemory,
-            TakeFault::Spent => Refusal::Spent,
-            TakeFault::Fault => {
-                self.halt();
-                Refusal::Halted
-            }
-            TakeFault::Wrong => unreachable!(),
-        }
-    }
+    // ---- whether a step may be taken
 
     /// Makes the test that comes first for a compaction, a pass, a copy, a seal and a free. The test refuses them as
     /// Halted if the master is halted, and as Rolling while a failover is open.

@@ -20,7 +20,7 @@ use Rattle.cluster.proofs.of_master.master_state.Refusals.{sizes_of}
 use Rattle.next_master.specs.Configuration.{config_of, later_format, later_options, later_seglets, AreSizes}
 use Rattle.next_master.specs.Configuration.{MayBegin}
 use Rattle.next_master.specs.declared.later.Later.{Later}
-use Rattle.cluster.specs.Told.{IsNextConfig}
+use Rattle.cluster.specs.Found.{IsNextConfig}
 
 -- of the same format or of format 2, with any seglets, and otherwise of the same options
 pub next_config_is : (later : Later) (options : Options) (master : ℕ) (config : Config)

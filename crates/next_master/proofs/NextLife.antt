@@ -35,7 +35,8 @@ use Rattle.next_master.specs.Recoveries.{IsDownOn, IsFoundIn, RetiresOthers, aft
 use Rattle.cluster.specs.replay.driving.Served.{IsSpent}
 use Rattle.cluster.specs.Served.{AnswersLine, IsLeftOf, IsNodeAt, IsOf, Refuses, fleet_of, life_of, refusal_answer}
 use Rattle.next_master.specs.Succession.{EndsRecovery}
-use Rattle.cluster.specs.Told.{HoldsLeft, IsUnadopted, Tells}
+use Rattle.cluster.specs.Told.{Tells}
+use Rattle.cluster.specs.Found.{HoldsLeft, IsUnadopted}
 use Rattle.next_master.specs.declared.later.Later.{Later}
 use Rattle.next_master.proofs.NextConfig.{next_config_is}
 use Rattle.next_master.proofs.HowItEnds.{after_backups, after_least, after_picture, down_final, fleet_held}

@@ -41,7 +41,8 @@ use Rattle.cluster.specs.declared.node.Node.TheVariants.{Down}
 use Rattle.next_master.specs.Recoveries.{order_named}
 use Rattle.cluster.specs.Lives.{Left, is_left, IsHomeOf, Position}
 use Rattle.cluster.specs.Served.{IsLeftOf, IsNodeAt, life_of}
-use Rattle.cluster.specs.Told.{AsksTable, IsRecoveredAt, IsFoundAt, NamesLossOf, Tells}
+use Rattle.cluster.specs.Told.{Tells}
+use Rattle.cluster.specs.Found.{AsksTable, IsRecoveredAt, IsFoundAt, NamesLossOf}
 use Rattle.cluster.proofs.WhatIsLeft.{held_of_left, left_at}
 
 -- the inventory of what is left of a picture shows it
@@ -50,7 +51,8 @@ pub shows_left : (hs : List Holding) (d : MasterData) (l : Left) (f : FleetState
     → IsLeftOf d l f → AreHeld hs f.picture → Shows hs (survivors (is_left l.lost) l.shown) master
 shows_left hs d l f master number of shown h of_master =
     let at : d.config.master ≡ h.master = number ∙ sym of_master in
-    let eq : f.picture h.backup h.master h.segment ≡ left_on (is_left l.lost) l.shown.holds h.backup h.master h.segment =
+    let eq : f.picture h.backup h.master h.segment ≡ left_on (is_left l.lost) l.shown.holds h.backup h.master h.segment
+    =
     subst (λ (m : ℕ). f.picture h.backup m h.segment ≡ left_on (is_left l.lost) l.shown.holds h.backup m h.segment) at
     (of.held h.backup h.segment) in
     (λ among. sym eq ∙ (shown h).0 among, λ held. (shown h).1 (eq ∙ held))
@@ -126,7 +128,8 @@ module _ (node : Node) (fleet : MemoryFleet) (config : Config) (d : MasterData) 
     -- the newest head that counts, of what was left
     newest : IsNewestOpenedOrNone (IsOpenedHead (log_of d) master left.0.shown) left.0.shown.least opened
     newest =
-        subst (λ (n : ℕ). IsNewestOpenedOrNone (IsOpenedHead (log_of d) n left.0.shown) left.0.shown.least opened) of_master
+        subst (λ (n : ℕ). IsNewestOpenedOrNone (IsOpenedHead (log_of d) n left.0.shown) left.0.shown.least opened)
+        of_master
         (subst (λ (x : Shown). IsNewestOpenedOrNone (IsOpenedHead (log_of d) d.config.master x) x.least opened)
         (sym left.2.shown) left.2.valid.newest)
 

@@ -14,7 +14,8 @@ use Rattle.cluster.specs.replay.claims.declared.rebuilt.Rebuilt.{Rebuilt}
 use Rattle.cluster.specs.declared.node.Node.TheVariants.{Down}
 use Rattle.cluster.specs.Lives.{Position}
 use Rattle.cluster.specs.Served.{IsNodeAt, life_of}
-use Rattle.cluster.specs.Told.{NeedsFor, Tells}
+use Rattle.cluster.specs.Told.{Tells}
+use Rattle.cluster.specs.Found.{NeedsFor}
 use Rattle.next_master.specs.Configuration.{config_of}
 use Rattle.next_master.specs.declared.later.Later.{Later}
 use Rattle.next_master.specs.Recoveries.{Asked, FindsNothing, IsFoundIn, NeedsOn}

@@ -41,7 +41,8 @@ use Rattle.next_master.specs.Numbers.{IsNextNumber}
 use Rattle.cluster.specs.replay.driving.Served.{IsSpent}
 use Rattle.cluster.specs.Served.{AnswersLine, IsNodeAt, IsOf, fleet_of, is_up, life_of, refusal_answer, world_of}
 use Rattle.next_master.specs.Succession.{Standing, Succeeds}
-use Rattle.cluster.specs.Told.{AsksTable, IsFoundAt, NeedsFor, Tells}
+use Rattle.cluster.specs.Told.{Tells}
+use Rattle.cluster.specs.Found.{AsksTable, IsFoundAt, NeedsFor}
 
 -- ---- what is asked
 

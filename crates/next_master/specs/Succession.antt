@@ -12,7 +12,7 @@ use Rattle.cluster.specs.replay.claims.declared.rebuilt.Rebuilt.{Rebuilt}
 use Rattle.cluster.specs.answers.declared.answer.Answer.{Answer}
 use Rattle.cluster.specs.answers.declared.answer.Answer.TheVariants as answer
 use Rattle.cluster.specs.Lives.{Life, life_to, HasLived, Left, IsLeftBy, IsLeftBySpent, Position}
-use Rattle.cluster.specs.Told.{IsFoundAt, IsNextConfig, IsRecover}
+use Rattle.cluster.specs.Found.{IsFoundAt, IsNextConfig, IsRecover}
 
 -- where a script stands: its master's configuration, the life of that master, and where it stands in this life
 pub record Standing : Type 0 where

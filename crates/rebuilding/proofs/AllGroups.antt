@@ -78,7 +78,8 @@ module _ (qs : List Part) where
       → IsAmong es segments → IsDivideFault qs es f → IsPassedOn f r → IsGroupsFault qs segments r
   stray segments es f fault.NoMemory m h p = tt
   stray segments es (divide_fault.Stray k) (fault.Stray j) m h is =
-      let here = flat_among _ segments es h.0 m (filter_among is_data es h.0 h.1 (data_of_key (shown_key k) h.0 h.2.0)) in
+      let here = flat_among _ segments es h.0 m (filter_among is_data es h.0 h.1 (data_of_key (shown_key k) h.0 h.2.0))
+      in
       rw is (h.0, here, h.2)
   stray segments es f (fault.Double id) m h p = absurd p
   stray segments es f fault.Stranger m h p = absurd p

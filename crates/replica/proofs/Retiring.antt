@@ -17,7 +17,8 @@ use Rattle.replica.specs.Take.{effect, taken, with_effect, Takes, Refuses}
 use Rattle.replica.specs.Retire.{AreOthers, freeing, TakesEach, FreesEach, EndsAt, Retires}
 use Rattle.replica.proofs.Acks.{grows_not, grows_one, grows_twice, acked_apart}
 
--- What an op leaves as it is: the backups, the count but for one, the least heads, and other masters' replicas and acks.
+-- What an op leaves as it is: the backups, the count but for one, the least heads, and other masters' replicas and
+-- acks.
 pub record IsOneMore (f : FleetState) (master : ℕ) (g : FleetState) : Type 0 where
   pub backups : g.backups ≡ f.backups
   pub least : g.least ≡ f.least

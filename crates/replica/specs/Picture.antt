@@ -1,5 +1,6 @@
 -- What the backups of a fleet hold, and what they show.
-use Rattle.std.specs.Prelude.{◌≡◌, ◌↔◌, ℕ, ◌==◌, ◌&&◌, List, [], ◌∷◌, map, length, Bool, Option, Some, None, if◌then◌else◌}
+use Rattle.std.specs.Prelude.{◌≡◌, ◌↔◌, ℕ, ◌==◌, ◌&&◌, List, [], ◌∷◌, map, length, Bool, Option, Some, None}
+use Rattle.std.specs.Prelude.{if◌then◌else◌}
 use Rattle.entry.specs.Bag.{IsAmong}
 use Rattle.replica.specs.declared.holding.Holding.{Holding}
 use Rattle.replica.specs.declared.label.Label.{Label}

@@ -1,5 +1,6 @@
 -- Which lines have a command, and which lines a session doesn't take.
-use Rattle.std.proofs.Common.{◌≡◌, ◌≤◌, ℕ, List, ◌∷◌, ◌++◌, Bool, true, false, ap, inl, inr, length, length-append, refl}
+use Rattle.std.proofs.Common.{◌≡◌, ◌≤◌, ℕ, List, ◌∷◌, ◌++◌, Bool, true, false, ap, inl, inr, length, length-append}
+use Rattle.std.proofs.Common.{refl}
 use Rattle.std.proofs.Common.{subst, arith}
 use Rattle.std.specs.Prelude.{None, IfErr, Result, Ok, Err}
 use Rattle.std.specs.Fmt.{decimal}

@@ -16,7 +16,8 @@ use Rattle.cluster_lines.proofs.Lines.{line_unraised as node_unraised}
 use Rattle.next_master.specs.Configuration.{config_of, later_options}
 use Rattle.next_master.proofs.HowItEnds.{ends_unraised}
 use Rattle.script.specs.declared.session.Session.{Session}
-use Rattle.script.specs.Sessions.{BeginsSession, AreLaterUnraised, RunsLine, SessionRecovers, EndsFor, asked_of, new_world}
+use Rattle.script.specs.Sessions.{BeginsSession, AreLaterUnraised, RunsLine, SessionRecovers, EndsFor, asked_of}
+use Rattle.script.specs.Sessions.{new_world}
 
 -- ---- numbers
 

@@ -15,12 +15,16 @@ use Rattle.next_master.specs.recovery.Headline.{IsMapAfter}
 use Rattle.next_master.specs.cluster.Counted.{AreCounted}
 use Rattle.next_master.specs.cluster.Lives.{Life, life_to, Left, IsLeftBy, IsLeftBySpent, Position}
 use Rattle.next_master.specs.master.master_state.declared.step.Refusal.{Refusal}
-use Rattle.next_master.specs.cluster.Told.{IsRecordAt, IsIn, IsCause, IsImageAt, IsPushedAt, IsRecoveredAt, IsUnadopted}
+use Rattle.next_master.specs.cluster.Told.{IsRecordAt, IsIn, IsCause, IsPushedAt}
+use Rattle.next_master.specs.cluster.Looks.{IsImageAt}
+use Rattle.next_master.specs.cluster.Found.{IsRecoveredAt, IsUnadopted}
 use Rattle.next_master.specs.cluster.Told.{Tells}
-use Rattle.next_master.specs.cluster.Told.{IsStepOf, IsRunAt, RollRuns, CleanRuns, TendRuns, IsStepRefusal, IsDigestAt}
-use Rattle.next_master.specs.cluster.Told.{AreListedAt, AreSegmentsAt}
-use Rattle.next_master.specs.cluster.Told.{IsLiveAt, IsRoomAt}
-use Rattle.next_master.specs.cluster.Told.{IsNeededAt, IsWillAt, AreHeldAt}
+use Rattle.next_master.specs.cluster.Told.{IsStepOf, IsRunAt, RollRuns, CleanRuns, TendRuns, IsStepRefusal}
+use Rattle.next_master.specs.cluster.Looks.{IsDigestAt}
+use Rattle.next_master.specs.cluster.Looks.{AreListedAt, AreSegmentsAt}
+use Rattle.next_master.specs.cluster.Looks.{IsLiveAt, IsRoomAt}
+use Rattle.next_master.specs.cluster.Looks.{IsWillAt, AreHeldAt}
+use Rattle.next_master.specs.cluster.Found.{IsNeededAt}
 
 -- ---- a longer history tells the same
 

@@ -21,7 +21,8 @@ use Rattle.next_master.specs.cluster.Served.{DividesAnew, AnswersLine, IsOf, is_
 use Rattle.cluster_lines.specs.Lines.{MakesLine}
 use Rattle.script.specs.Sessions.{IsToldOf, KeepsWord, RenewsOptions, SessionAnswers, SessionShows, Stands}
 use Rattle.script.specs.Sessions.{BeginsSession, MakesWill as MakesWillOf, later_after}
-use Rattle.next_master.specs.cluster.Told.{AsksTable, command_of}
+use Rattle.next_master.specs.cluster.Told.{command_of}
+use Rattle.next_master.specs.cluster.Found.{AsksTable}
 use Rattle.backup.specs.declared.fleet.MemoryFleet.{MemoryFleet}
 use Rattle.next_master.specs.master.World.{MasterValue}
 use Rattle.next_master.specs.master.master_state.declared.step.Refusal.{Refusal}
@@ -130,7 +131,8 @@ of_checked Changing left d of = absurd of
 -- so are the session's options
 pub stands_checked : (s : Session) → Stands s → config_fault (config_of s.options 1) ≡ None
 stands_checked s (covers, (d, at, stands), later, begins) =
-    checked_as s.options s.master 1 (ap config_fault (sym stands.configured) ∙ of_checked s.node at.left d stands.node_of)
+    checked_as s.options s.master 1 (ap config_fault (sym stands.configured)
+    ∙ of_checked s.node at.left d stands.node_of)
 
 -- at the start later masters have these options
 pub begins_later : (options : Options) (s : Session) → BeginsSession options s → MayBegin s.later s.options

@@ -75,7 +75,8 @@ module _ (is_raw : Bool) where
       → TakesLine is_raw had left text was
       → TakesLine is_raw had left bytes is
   taken_as had left text bytes was is same whole there =
-      subst (λ (l : List ℕ). TakesLine is_raw had left l is) whole (subst (λ (t : Taken). TakesLine is_raw had left text t) same there)
+      subst (λ (l : List ℕ). TakesLine is_raw had left l is) whole
+      (subst (λ (t : Taken). TakesLine is_raw had left text t) same there)
 
   pub stopped_as : (had left : Option (List ℕ)) (text : List ℕ) (was is : ReadFault) → was ≡ is
       → StopsIn is_raw had left text was → StopsIn is_raw had left text is
@@ -92,7 +93,8 @@ module _ (is_raw : Bool) where
 
   pub flushed_first : (old new : Session) (text : List ℕ) (number : ℕ) (held wrote holds : Option (List ℕ))
       (r : Result Bool ScriptFault)
-      → Keeps held wrote → PrintsText is_raw old new text number wrote holds r → PrintsText is_raw old new text number held holds r
+      → Keeps held wrote → PrintsText is_raw old new text number wrote holds r
+      → PrintsText is_raw old new text number held holds r
   flushed_first old new text number held wrote holds (Ok has) kept p =
       (p.0, p.1, kept_first held wrote holds (told_text is_raw p.0) kept p.2, p.3)
   flushed_first old new text number held wrote holds (Err (fault.BadLine n why)) kept p =
@@ -361,7 +363,8 @@ module _ (is_raw : Bool) where
   texts-more : (told : List Told) (t : Told) → texts_of (told ++ t ∷ []) ≡ texts_of told ++ (t.text ++ 10 ∷ [])
   texts-more told t = flat_map-append _ told (t ∷ []) ∙ ap (λ l. texts_of told ++ l) (append-nil (t.text ++ 10 ∷ []))
 
-  answers-more : (told : List Told) (t : Told) → answers_of is_raw (told ++ t ∷ []) ≡ answers_of is_raw told ++ told_text is_raw t.answer
+  answers-more : (told : List Told) (t : Told) → answers_of is_raw (told ++ t ∷ [])
+      ≡ answers_of is_raw told ++ told_text is_raw t.answer
   answers-more told t = flat_map-append _ told (t ∷ []) ∙ ap (λ l. answers_of is_raw told ++ l)
       (append-nil (told_text is_raw t.answer))
 
@@ -560,16 +563,19 @@ module _ (is_raw : Bool) where
     runs_out consumed end kept same is_now = closes [] (Ok skipped) consumed
         (inl (append-nil (texts_of r.told)), end, is_now ∙ r.skips) (λ on. tt) (kept_answers kept) same
 
-    bad_here : (n : ℕ) (bad : List ℕ) → n ≡ number → IsBadLine is_raw old number bad left → IsBadLine is_raw old n bad left
+    bad_here : (n : ℕ) (bad : List ℕ) → n ≡ number → IsBadLine is_raw old number bad left
+        → IsBadLine is_raw old n bad left
     bad_here n bad is line = subst (λ (k : ℕ). IsBadLine is_raw old k bad left) (sym is) line
 
-    reason_here : (n : ℕ) (bad : List ℕ) (why : Reason) → n ≡ number → IsReasonFor is_raw old.options.backups number bad left why
+    reason_here : (n : ℕ) (bad : List ℕ) (why : Reason) → n ≡ number
+        → IsReasonFor is_raw old.options.backups number bad left why
         → IsReasonFor is_raw options.backups n bad left why
     reason_here n bad why is reason =
         subst (λ (k : ℕ). IsReasonFor is_raw k n bad left why) fleet
         (subst (λ (k : ℕ). IsReasonFor is_raw old.options.backups k bad left why) (sym is) reason)
 
-    fails_so : (new : Session) (f : ScriptFault) → FailsTurn is_raw old new number mid left wrote holds f → after ≡ during
+    fails_so : (new : Session) (f : ScriptFault) → FailsTurn is_raw old new number mid left wrote holds f → after
+        ≡ during
         → (keeps ≡ true → EndsRun f)
         → RunsScript keeps is_raw options had left held holds before after (Err f)
     fails_so new (fault.BadLine n why) t same ends =
@@ -625,7 +631,8 @@ module _ (is_raw : Bool) where
       (r : Running keeps options old had mid held wrote before after skipped number) where
     pub runs_dry : (done : Unit {0}) → IsNoMore is_raw mid left wrote holds (Ok done)
         → RunsScript keeps is_raw options had left held holds before after (Ok skipped)
-    runs_dry done n = runs_out keeps options old had mid left held wrote holds before after after skipped skipped number r
+    runs_dry done n = runs_out keeps options old had mid left held wrote holds before after after skipped skipped
+        number r
         n.0 n.1 n.2 refl refl
 
     pub dry_fails : (f : ScriptFault) → IsNoMore is_raw mid left wrote holds (Err f)
@@ -686,7 +693,8 @@ module _ (is_raw : Bool) where
           )
       flushed (Err fault.NoMemory) p = Appends-kept held wrote holds (answers_of is_raw r.told) p kept
 
-    pub fails_to_flush : (skipped : Bool) → RunsScript keeps is_raw options had left held wrote before after (Ok skipped)
+    pub fails_to_flush : (skipped : Bool) → RunsScript keeps is_raw options had left held wrote before after
+        (Ok skipped)
         → RunsScript keeps is_raw options had left held holds before after (Err fault.WriteFailed)
     fails_to_flush skipped r = record {
       told = r.told;

@@ -24,7 +24,8 @@ use Rattle.next_master.specs.declared.later.Later.{Later}
 use Rattle.next_master.specs.cluster.Lives.{Position, at_start}
 use Rattle.next_master.specs.recovery.Orders.{Covers}
 use Rattle.next_master.specs.driving.Rolls.{PushesUntil}
-use Rattle.next_master.specs.cluster.Told.{command_of, HasLimits}
+use Rattle.next_master.specs.cluster.Told.{command_of}
+use Rattle.next_master.specs.cluster.Looks.{HasLimits}
 use Rattle.next_master.specs.answers.declared.limits.Limits.{Limits}
 use Rattle.next_master.specs.cluster.Served.{AnswersLine, IsNodeAt, world_of, fleet_of, is_up, HandsOver}
 use Rattle.cluster_lines.specs.Lines.{MakesLine}

@@ -7,9 +7,12 @@
 //! `command_line`.
 #![tactic(auto)]
 
+mod line_commands;
 mod outcome;
+mod printing;
 mod program;
 mod running;
+mod serving;
 mod session;
 
 pub use backup::{MemoryBackup, MemoryFleet};

@@ -8,21 +8,19 @@ ghost use Rattle.raw_lines.specs.Raw.{SaysIn};
 ghost use Rattle.lines.specs.Reading.{IsLineText};
 ghost use Rattle.next_master.specs.cluster.Told.{command_of};
 ghost use Rattle.next_master.specs.Configuration.{config_of};
-ghost use Rattle.script.specs.Runs.{RunsScript, has_unsure, unsure_line};
-ghost use Rattle.next_master.specs.answers.Errors.{Reports, Writes};
+ghost use Rattle.script.specs.Runs.{RunsScript};
 ghost use Rattle.next_master.specs.answers.declared.answer.Answer.{Answer as AnswerValue};
 ghost use Rattle.script.specs.declared.session.Session.{Session as SessionValue};
-ghost use Rattle.script.specs.Sessions.{BeginsSession, Forgets, SessionAnswers, Stands, IsPrintedAs, IsTended, TriesCommand};
-ghost use Rattle.script.specs.Turns.{HasValue, IsNoMore, IsPrinted, IsPrintedPlain, PrintsText, ReportsBadLine};
+ghost use Rattle.script.specs.Sessions.{BeginsSession, Forgets, SessionAnswers, Stands, IsTended, TriesCommand};
+ghost use Rattle.script.specs.Turns.{HasValue, IsNoMore, IsPrinted, PrintsText};
 ghost use Rattle.script.specs.Turns.{TakesText, TakesTurn};
 
-use crate::outcome::Outcome;
+use crate::printing::{print, print_plain, report_bad_line, report_unsure};
 use crate::session::{LineFault, Session};
 use command_line::Options;
 use lines::{CommandLine, Line, LineReader, ReadFault, Reason, Taken};
-use next_master::answers::{Answer, ErrorOutput, ScriptFault, report};
+use next_master::answers::{ErrorOutput, ScriptFault};
 use next_master::cluster::Tried;
-use raw_answers::write_told;
 use raw_lines::{one_plain_line, parse_text};
 use std::alloc::Global;
 use std::io::{BufRead, Write};
@@ -232,53 +230,6 @@ fn run_or_skip<H: Threads + Wait + Sync, W: Write, E: Write + Drop>(
     }
 }
 
-/// Reports a fault that is a bad line, and does nothing for another. Answers whether it is one.
-#[inline(never)]
-fn report_bad_line<E: Write + Drop>(fault: &ScriptFault, errors: &mut ErrorOutput<E>) -> bool
-    ensures { ReportsBadLine fault.now errors.old errors.new result }
-{
-    match fault {
-        ScriptFault::BadLine(..) => {
-            report(fault, errors);
-            true
-        }
-        ScriptFault::ReadFailed => false,
-        ScriptFault::WriteFailed => false,
-        ScriptFault::NoMemory => false,
-    }
-}
-
-/// Reports that the command of the line with this number may have been made, if that is so and the error output
-/// explains. Before the line a master had made so many records.
-fn report_unsure<E: Write + Drop>(
-    session: &Session,
-    made: Option<u64>,
-    number: u64,
-    errors: &mut ErrorOutput<E>,
-)
-    ensures { Reports errors.old errors.new
-        (unsure_line (has_unsure made session.now.node) errors.old.explains number) }
-{
-    if !errors.explains() {
-        return;
-    }
-    if session.has_unsure(made) {
-        write_unsure(number, errors);
-    }
-}
-
-/// Writes the line that says that the command of the line with this number may have been made.
-#[inline(never)]
-fn write_unsure<E: Write + Drop>(number: u64, errors: &mut ErrorOutput<E>)
-    ensures { Writes errors.old errors.new (unsure_line true true number) }
-{
-    let mut digits = itoa::Buffer::new();
-    errors.write(b"ramlog: the command of line ");
-    errors.write(digits.format(number).as_bytes());
-    errors.write(b" may have been made\n");
-    errors.flush();
-}
-
 /// Runs the line of a text, and writes its answer. Behind that the master may forget. Ok says whether the line has a
 /// command.
 #[tactic(auto, using(crate::proofs::Commanding::line_in, crate::proofs::Commanding::value_in, crate::proofs::Commanding::has_no_command))]
@@ -413,46 +364,6 @@ fn run_other<H: Threads + Wait + Sync, W: Write>(
             Err(ScriptFault::BadLine(number, Reason::NoLaterMaster))
         }
         Err(LineFault::NoMemory) => Err(ScriptFault::NoMemory),
-    }
-}
-
-/// Writes the answer that a line came to.
-fn print<W: Write>(
-    writer: &mut W,
-    session: &Session,
-    outcome: &Outcome,
-    is_raw: bool,
-) -> Result<(), ScriptFault>
-    requires { (answer : AnswerValue) × IsPrintedAs session.now outcome.now answer }
-    ensures { (answer : AnswerValue) → IsPrintedAs session.now outcome.now answer →
-        IsPrinted is_raw (W.contents writer.old) (W.contents writer.new) answer result }
-{
-    match outcome {
-        Outcome::Answered(answer) => print_answer(writer, answer, is_raw),
-        Outcome::Replied(place) => match session.write_reply(*place, writer, is_raw) {
-            Ok(()) => Ok(()),
-            Err(_) => Err(ScriptFault::WriteFailed),
-        },
-    }
-}
-
-/// Writes the answer of a line without a command. So Ok comes with false.
-fn print_plain<W: Write>(writer: &mut W, answer: &Answer, is_raw: bool) -> Result<bool, ScriptFault>
-    ensures { IsPrintedPlain is_raw (W.contents writer.old) (W.contents writer.new) answer.now result }
-{
-    match write_told(writer, answer, is_raw) {
-        Ok(()) => Ok(false),
-        Err(_) => Err(ScriptFault::WriteFailed),
-    }
-}
-
-/// Writes an answer.
-fn print_answer<W: Write>(writer: &mut W, answer: &Answer, is_raw: bool) -> Result<(), ScriptFault>
-    ensures { IsPrinted is_raw (W.contents writer.old) (W.contents writer.new) answer.now result }
-{
-    match write_told(writer, answer, is_raw) {
-        Ok(()) => Ok(()),
-        Err(_) => Err(ScriptFault::WriteFailed),
     }
 }
 

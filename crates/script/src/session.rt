@@ -1,42 +1,32 @@
 //! What a script drives: a fleet, and the master over it if there is one.
 
-ghost use Rattle.std.specs.Prelude.{◌≡◌, ◌≤◌, ℕ, List, length, true, false, None, Some, IfOk, IfErr};
-ghost use Rattle.entry.specs.View.{shown_key};
-ghost use Rattle.history.specs.View.{shown_command as lent_command};
-ghost use Rattle.versioned_map.specs.declared.command.Command.{Command as CommandValue};
-ghost use Rattle.versioned_map.specs.declared.command.Command.TheVariants as asked;
+ghost use Rattle.std.specs.Prelude.{◌≡◌, ◌≤◌, List, true, false, None, IfOk, IfErr};
 ghost use Rattle.versioned_map.specs.declared.command.Reply.{Reply as ReplyValue};
-ghost use Rattle.next_master.specs.answers.declared.answer.Answer.{Answer as AnswerValue};
 ghost use Rattle.next_master.specs.answers.Errors.{IsHanded};
 ghost use Rattle.raw_answers.specs.Texts.{reply_in};
 ghost use Rattle.next_master.specs.cluster.Waits.{IsReplyAt};
-ghost use Rattle.lines.specs.Grammar.{Begin, Clean, Clients, Recover, IsLine, IsOrder, shown_command, shown_line};
+ghost use Rattle.lines.specs.Grammar.{Begin, Clean, Clients, Recover, IsLine, IsOrder, shown_line};
 ghost use Rattle.lines.specs.Grammar.{Format, Needs, Seglets, Will as WillLine};
-ghost use Rattle.lines.specs.Keys.{IsKey};
 ghost use Rattle.lines.specs.Numbers.{numbers_of};
 ghost use Rattle.next_master.specs.master.master_state.Config.{config_fault};
 ghost use Rattle.next_master.specs.Configuration.{config_of, MayBegin};
 ghost use Rattle.script.specs.declared.session.LineFault.TheVariants as line_fault;
-ghost use Rattle.script.specs.Runs.{IsOfFleet, has_unsure, made_by};
-ghost use Rattle.script.specs.declared.session.Session.{Session as SessionValue};
-ghost use Rattle.script.specs.Sessions.{RunsLine, SessionRecovers, IsPrintedAs, TriesCommand};
+ghost use Rattle.script.specs.Runs.{IsOfFleet};
+ghost use Rattle.script.specs.Sessions.{RunsLine, SessionRecovers};
 ghost use Rattle.script.specs.Sessions.{BeginsSession, SessionAnswers, Stands};
 ghost use Rattle.next_master.specs.cluster.Told.{command_of};
-ghost use Rattle.script.specs.Turns.{HasValue, RefusesLine};
-ghost use Rattle.script.specs.Sessions.{AnswersAfterRoll, Forgets, IsPlain, IsTended};
-ghost use Rattle.next_master.specs.cluster.Tended.{steps_behind};
+ghost use Rattle.script.specs.Turns.{RefusesLine};
 
-use crate::outcome::Outcome;
 use backup::MemoryFleet;
 use cluster_lines::store_clients::Workload;
 use cluster_lines::{Served, serve_clients};
 use command_line::Options;
-use entry::{KeyRef, MAX_VALUE_LEN, NoMemory, Row};
-use lines::{CommandLine, KeyWord, Line, Numbers, ReplayOrder};
+use entry::{NoMemory, Row};
+use lines::{Line, Numbers, ReplayOrder};
 use next_master::answers::{Answer, Limits, WriteFailed};
-use next_master::cluster::{Node, Notes, Tried};
+use next_master::cluster::{Node, Notes};
 use next_master::driving::push_all;
-use next_master::master::{CommandRef, If, Master, Refusal, Step, ValueRef};
+use next_master::master::{Master, Step};
 use next_master::recovery::{PlanFault, RecoveryFault};
 use next_master::{
     Later, Request, can_begin, configuration, later_options, node_needs, recover_node, whole_will,
@@ -93,23 +83,23 @@ pub(crate) const FIRST_MASTER: u64 = 1;
 /// ```
 #[derive(Drop)]
 pub struct Session {
-    alloc: Global,
+    pub(crate) alloc: Global,
     /// The options of the master that a recovery is for.
-    options: Options,
+    pub(crate) options: Options,
     /// What masters that start later have in place of these options.
-    later: Later,
+    pub(crate) later: Later,
     /// The number of the master that a recovery is for.
-    master: u64,
+    pub(crate) master: u64,
     /// The greatest number that a master had, or was to have.
-    used: u64,
+    pub(crate) used: u64,
     /// The coordinator's will: by which partitions a recovery divides the master's log.
-    will: Will,
+    pub(crate) will: Will,
     /// Whether each store of clients could tell whose its records were. If one couldn't, nothing is recovered any
     /// more. Only tests show that each store can.
-    is_known: bool,
-    node: Node,
+    pub(crate) is_known: bool,
+    pub(crate) node: Node,
     /// What the cleaner has noted of the node's master.
-    notes: Notes,
+    pub(crate) notes: Notes,
 }
 
 impl Session {
@@ -377,118 +367,6 @@ impl Session {
         let victims = row_of(self.alloc, segments)?;
         Ok(self.node.clean(victims))
     }
-
-    /// How many records the node's master has made. None without a master.
-    #[inline(always)]
-    pub(crate) fn made(&self) -> Option<u64>
-        ensures { result ≡ made_by self.now.node }
-    {
-        match &self.node {
-            Node::Up(up) => Some(up.history().len() as u64),
-            _ => None,
-        }
-    }
-
-    /// Whether a master that had made so many records has more now, not all of which are durable, or was dropped.
-    pub(crate) fn has_unsure(&self, made: Option<u64>) -> bool
-        ensures { result ≡ has_unsure made self.now.node }
-    {
-        let Some(made) = made else {
-            return false;
-        };
-        let Node::Up(up) = &self.node else {
-            return true;
-        };
-        let now = up.history().len() as u64;
-        made < now && up.durable() < now
-    }
-
-    /// How many steps the cleaner makes behind the command of a line: none behind a get.
-    #[inline(always)]
-    pub(crate) fn steps_behind(&self, line: CommandLine<'_>) -> u64
-        ensures { (command : CommandValue) → command_of (shown_command line.entry) ≡ Some command
-            → steps_behind self.now.options.tend command ≡ result }
-    {
-        match line {
-            CommandLine::Get { .. } => 0,
-            _ => self.options.tend,
-        }
-    }
-
-    /// Lets the node's master forget what is durable, if the options say so. It is called behind the answer of a line,
-    /// whose reply is read from the history.
-    #[inline(always)]
-    pub(crate) fn forget(&mut self)
-        ensures { Forgets self.old self.new }
-    {
-        if self.options.forget {
-            self.node.forget();
-        }
-    }
-
-    /// Runs the line of a command, and then up to so many steps of the cleaner. If the command finds no room, the
-    /// cleaner makes some first.
-    #[inline(never)]
-    pub(crate) fn serve_tended(&mut self, line: CommandLine<'_>, steps: u64) -> Outcome
-        requires value { HasValue (shown_command line) }
-        requires tended { IsTended self.old (shown_command line) steps }
-        ensures { (answer : AnswerValue) × IsPrintedAs self.new result answer
-            × SessionAnswers self.old (shown_command line.entry) self.new answer }
-    {
-        match self
-            .node
-            .serve_tended(&line_command(line), &mut self.notes, steps)
-        {
-            Ok(place) => Outcome::Replied(place),
-            Err(answer) => Outcome::Answered(answer),
-        }
-    }
-
-    /// Applies the command of a line, which stays where the line lies, and pushes until its record is durable.
-    #[inline(always)]
-    pub(crate) fn serve(&mut self, line: CommandLine<'_>) -> Tried
-        requires value { HasValue (shown_command line) }
-        requires plain { IsPlain self.old (shown_command line) }
-        ensures { TriesCommand self.old (shown_command line.entry) self.new result }
-    {
-        self.node.serve(&line_command(line))
-    }
-
-    /// Goes on with a command that was tried, up to its answer. It is not inlined, since most commands have their
-    /// reply at once, and need no room for an answer.
-    #[inline(never)]
-    pub(crate) fn finish(&mut self, line: CommandLine<'_>, tried: Tried) -> Outcome
-        requires value { HasValue (shown_command line) }
-        requires tried { (first : SessionValue) × TriesCommand first (shown_command line) self.old tried }
-        ensures { (first : SessionValue) → TriesCommand first (shown_command line.entry) self.old tried →
-            (answer : AnswerValue) × IsPrintedAs self.new result answer
-            × SessionAnswers first (shown_command line.entry) self.new answer }
-    {
-        match tried {
-            Tried::Replied(place) => Outcome::Replied(place),
-            Tried::Waits => self.run_after_roll(line),
-            Tried::Refused(refusal) => Outcome::Answered(self.node.refuse(refusal)),
-            Tried::Down => Outcome::Answered(Answer::Down),
-        }
-    }
-
-    /// Makes the roll that a command's line waits for, and runs the line again.
-    #[inline(never)]
-    fn run_after_roll(&mut self, line: CommandLine<'_>) -> Outcome
-        requires value { HasValue (shown_command line) }
-        ensures { (answer : AnswerValue) × IsPrintedAs self.new result answer
-            × AnswersAfterRoll self.old (shown_command line.entry) self.new answer }
-    {
-        if let Err(answer) = self.node.make_room() {
-            return Outcome::Answered(answer);
-        }
-        match self.node.serve(&line_command(line)) {
-            Tried::Replied(place) => Outcome::Replied(place),
-            Tried::Waits => Outcome::Answered(Answer::Refused(Refusal::Rolling)),
-            Tried::Refused(refusal) => Outcome::Answered(self.node.refuse(refusal)),
-            Tried::Down => Outcome::Answered(Answer::Down),
-        }
-    }
 }
 
 /// The numbers of a line, in memory of their own.
@@ -496,46 +374,4 @@ fn row_of(alloc: Global, numbers: Numbers<'_>) -> Result<Row<u64>, NoMemory>
     ensures { IfOk result (λ row. row ≡ numbers_of numbers.entry) }
 {
     Ok(Row::new(numbers.collect(alloc)?))
-}
-
-/// The command of a line. Its key and its value stay in the line.
-#[inline(always)]
-fn line_command<'a>(line: CommandLine<'a>) -> CommandRef<'a>
-    requires value { HasValue (shown_command line) }
-    ensures { command_of (shown_command line.entry) ≡ Some (lent_command result) }
-{
-    match line {
-        CommandLine::Put { table, key, value } => put_command(table, key, value, If::Any),
-        CommandLine::New { table, key, value } => put_command(table, key, value, If::Absent),
-        CommandLine::Cas {
-            table,
-            key,
-            version,
-            value,
-        } => put_command(table, key, value, If::Version(version)),
-        CommandLine::Get { table, key } => CommandRef::Get(key_of(table, key)),
-        CommandLine::Del { table, key } => CommandRef::Delete(key_of(table, key)),
-    }
-}
-
-fn key_of<'a>(table: u64, word: KeyWord<'a>) -> KeyRef<'a>
-    ensures { shown_key result ≡ record { table = table; bytes = word.entry.bytes.now } }
-{
-    key_ref(table, word.bytes)
-}
-
-/// The key of a table with these bytes.
-fn key_ref<'a>(table: u64, bytes: &'a [u8]) -> KeyRef<'a>
-    requires { IsKey bytes.now }
-    ensures { shown_key result ≡ record { table = table; bytes = bytes.entry.now } }
-{
-    KeyRef { table, bytes }
-}
-
-fn put_command<'a>(table: u64, word: KeyWord<'a>, value: &'a [u8], when: If) -> CommandRef<'a>
-    requires value { length value.now ≤ MAX_VALUE_LEN }
-    ensures { lent_command result ≡
-        asked.Put (record { table = table; bytes = word.entry.bytes.now }) value.entry.now when }
-{
-    CommandRef::Put(key_of(table, word), ValueRef { bytes: value }, when)
 }

@@ -14,7 +14,7 @@ use std::marker::Brand;
 use std::sync::Wait;
 use std::thread::Threads;
 use store_clients::locked_log::{Blank, Naming, Receipt, Row, Seat, Store};
-use store_clients::master::{Look, Master, Shown};
+use store_clients::master::Master;
 
 /// The size of a store: how many seats it has, 1 to 64, and how many cells; how many records the history of its master
 /// keeps; and how many gets the master served before, with a put behind them that is no longer pushed, or 0 for
@@ -71,10 +71,7 @@ fn told_at_close<F: Fleet, B: Naming>(
 }
 
 fn used<F: Fleet>(master: &Master<F>) -> u64 {
-    match &master.look(Look::Room) {
-        Ok(Shown::Room(used, _)) => *used,
-        _ => 0,
-    }
+    master.used_seglets()
 }
 
 fn used_at_close<F: Fleet, B: Naming>(closed: &Result<(Master<F>, Row<B>), Master<F>>) -> u64 {

@@ -128,7 +128,8 @@ module _ (ids : List ℕ) (held : Places) (segment : ℕ) (es : List Entry) (eac
           → live_from after segment (Front (before ++ e ∷ []))
           (kept_from ids held segment (at + length (spelling e)) later)
           ≡ live_from held segment (at + length (spelling e)) later
-          → live_from after segment (Front before) (cond b (e ∷ kept_from ids held segment (at + length (spelling e)) later)
+          → live_from after segment (Front before) (cond b (e ∷ kept_from ids held segment (at + length (spelling e))
+          later)
           (kept_from ids held segment (at + length (spelling e)) later))
           ≡ live_one held (At at) e + live_from held segment (at + length (spelling e)) later
       go true is rest =

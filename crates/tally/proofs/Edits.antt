@@ -1,6 +1,8 @@
 -- What an edit of the list makes of all tallies.
-use Rattle.std.proofs.Common.{◌≡◌, ℕ, ◌<◌, ◌≤◌, ◌⊎◌, inl, inr, Bool, true, false, not, List, [], ◌∷◌, ◌++◌, length, get_or}
-use Rattle.std.proofs.Common.{take, drop, arith, set, insert, remove, map, filter, refl, sym, ap, subst, ◌∙◌, ◌==◌, if◌then◌else◌}
+use Rattle.std.proofs.Common.{◌≡◌, ℕ, ◌<◌, ◌≤◌, ◌⊎◌, inl, inr, Bool, true, false, not, List, [], ◌∷◌, ◌++◌, length}
+use Rattle.std.proofs.Common.{get_or}
+use Rattle.std.proofs.Common.{take, drop, arith, set, insert, remove, map, filter, refl, sym, ap, subst, ◌∙◌, ◌==◌}
+use Rattle.std.proofs.Common.{if◌then◌else◌}
 use Rattle.std.proofs.lemmas.Bool.{not-true}
 use Rattle.std.specs.Prelude.{Option, Some, None, IfNone}
 use Rattle.entry.specs.Bag.{IsAmong}
@@ -110,7 +112,8 @@ pub inserted_rises : (b : Bool) (rows : List Tally) (s at : ℕ) (one : Tally) �
 inserted_rises false rows s at one rising place none same = rising
 inserted_rises true rows s at one rising place none same =
     insert_rising rows at one place.within rising
-    (λ (k : ℕ) (d : Tally) (lt : k < at). subst (λ (n : ℕ). (get_or rows k d).segment ≤ n) (sym same) (place.low k d lt))
+    (λ (k : ℕ) (d : Tally) (lt : k < at). subst (λ (n : ℕ). (get_or rows k d).segment ≤ n) (sym same)
+    (place.low k d lt))
     (λ (k : ℕ) (d : Tally) (le : at ≤ k) (lt : k < length rows).
     subst (λ (n : ℕ). n < (get_or rows k d).segment) (sym same) (place.high k d le lt))
     (λ row is here. none row is (here ∙ same))
@@ -133,7 +136,8 @@ committed victims rows row is =
     let old = filter_members (λ (y : Tally). not (has_id victims y.segment)) rows from.0 from.1 in
     (from.0, old.0, not-true (has_id victims from.0.segment) old.1, from.2)
 
-pub committed_kept : (victims : List ℕ) (rows : List Tally) → AreKeptBut victims rows (map staled (without victims rows))
+pub committed_kept : (victims : List ℕ) (rows : List Tally) → AreKeptBut victims rows
+    (map staled (without victims rows))
 committed_kept victims rows row is other =
     map_keeps staled (without victims rows) row
     (filter_keeps (λ (y : Tally). not (has_id victims y.segment)) rows row is (ap not other))

@@ -1,6 +1,8 @@
 -- Lists of tallies by rising segment: what stands at a place, and what an edit makes of the list.
-use Rattle.std.proofs.Common.{◌≡◌, ℕ, zero, suc, ◌+◌, ◌-◌, ◌<◌, ◌≤◌, ◌==◌, ◌⊎◌, inl, inr, Bool, true, false, List, [], ◌∷◌}
-use Rattle.std.proofs.Common.{◌++◌, length, get_or, set, insert, remove, map, filter, cond, refl, sym, ap, subst, ◌∙◌, arith}
+use Rattle.std.proofs.Common.{◌≡◌, ℕ, zero, suc, ◌+◌, ◌-◌, ◌<◌, ◌≤◌, ◌==◌, ◌⊎◌, inl, inr, Bool, true, false, List, []}
+use Rattle.std.proofs.Common.{◌∷◌}
+use Rattle.std.proofs.Common.{◌++◌, length, get_or, set, insert, remove, map, filter, cond, refl, sym, ap, subst, ◌∙◌}
+use Rattle.std.proofs.Common.{arith}
 use Rattle.std.specs.List.{AllByRecursion}
 use Rattle.entry.specs.Bag.{IsAmong}
 use Rattle.tally.specs.declared.tallies.Tally.{Tally}
@@ -8,7 +10,8 @@ use Rattle.tally.specs.Rows.{AreRising, HasNo}
 
 -- ---- what holds of each
 
-pub all_among : (P : Tally → Type 0) (rows : List Tally) (row : Tally) → AllByRecursion P rows → IsAmong row rows → P row
+pub all_among : (P : Tally → Type 0) (rows : List Tally) (row : Tally) → AllByRecursion P rows → IsAmong row rows
+    → P row
 all_among P [] row all is = absurd is
 all_among P (x ∷ xs) row all (inl same) = subst P same all.0
 all_among P (x ∷ xs) row all (inr later) = all_among P xs row all.1 later

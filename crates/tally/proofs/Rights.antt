@@ -1,5 +1,6 @@
 -- Tallies stay right as a log goes on.
-use Rattle.std.proofs.Common.{◌≡◌, ℕ, ◌+◌, ◌-◌, ◌≤◌, Bool, true, false, ◌==◌, List, [], ◌∷◌, ◌++◌, length, refl, sym, ap}
+use Rattle.std.proofs.Common.{◌≡◌, ℕ, ◌+◌, ◌-◌, ◌≤◌, Bool, true, false, ◌==◌, List, [], ◌∷◌, ◌++◌, length, refl, sym}
+use Rattle.std.proofs.Common.{ap}
 use Rattle.std.proofs.Common.{subst, ◌∙◌, arith, if◌then◌else◌, ◌⊎◌, inl, inr, filter}
 use Rattle.std.specs.Prelude.{Option, Some, None}
 use Rattle.std.proofs.lemmas.Bool.{eqb-true, eq-eqb}
@@ -125,7 +126,8 @@ begin_right ids held images s old new opening one right row is = go (one row is)
 
 -- ---- a segment grows
 
-stones_append : (ids : List ℕ) (xs ys : List Entry) → stone_bytes ids (xs ++ ys) ≡ stone_bytes ids xs + stone_bytes ids ys
+stones_append : (ids : List ℕ) (xs ys : List Entry) → stone_bytes ids (xs ++ ys)
+    ≡ stone_bytes ids xs + stone_bytes ids ys
 stones_append ids [] ys = omega arith
 stones_append ids (x ∷ xs) ys = let rest = stones_append ids xs ys in omega (arith, rest)
 

@@ -78,7 +78,8 @@ searched xs s (Err i) rising within found =
             omega (arith, less, is))
 
         over : i ≤ k → ⊥
-        over above = (let more = greater_ids (get_or xs k d).segment s (parts.1 k d above lt) in omega (arith, more, is))
+        over above = (let more = greater_ids (get_or xs k d).segment s (parts.1 k d above lt) in omega
+            (arith, more, is))
 
 -- the same, of the place alone
 pub placed : (xs : List Tally) (s : ℕ) (r : Result ℕ ℕ) (o : Option ℕ) → o ≡ result_ok r

@@ -45,7 +45,8 @@ both_from : (ids : List ℕ) (held : Places) (segment at : ℕ) (es : List Entry
 both_from ids held segment at [] = omega arith
 both_from ids held segment at (e ∷ es) =
     let p : Place = record { segment = segment; at = at } in
-    let one = kept_one (is_data e) (kept ids held p e) e (kept_from ids held segment (at + length (spelling e)) es) refl in
+    let one = kept_one (is_data e) (kept ids held p e) e (kept_from ids held segment (at + length (spelling e)) es)
+    refl in
     let both = one_is_both ids held p e in
     let rest = both_from ids held segment (at + length (spelling e)) es in
     omega (arith, one, both, rest)

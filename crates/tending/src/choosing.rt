@@ -34,8 +34,8 @@ fn best_of(policy: &Policy, weights: &[Weight]) -> Option<u64> {
     best
 }
 
-/// Whether a pass comes before a compaction: the log has many segments for its digest or for its memory, or tombstones
-/// fill much of the memory that objects leave.
+/// Returns true if a pass comes before a compaction. The log then has many segments for its digest or for its memory,
+/// or tombstones fill much of the memory that objects and the spared segments leave.
 fn wants_pass<F: Fleet>(master: &Master<F>, policy: &Policy, weights: &[Weight]) -> bool {
     let memory = master.config().seglets.saturating_mul(policy.seglet);
     let closed = weights.len() as u64;

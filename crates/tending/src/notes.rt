@@ -1,7 +1,6 @@
 //! What a cleaner has noted of the tombstones of closed segments.
 
-use crate::weighing::listed;
-use driving::master::{Look, Master, Shown};
+use driving::master::Master;
 use entry::{EntryRef, NoMemory, TOMBSTONE_LEN};
 use replica::Fleet;
 use segment::SegmentRef;
@@ -81,7 +80,7 @@ impl Notes {
         }
         // If memory runs out, they stay behind.
         self.head = 0;
-        let row = listed(master)?;
+        let row = master.digest()?;
         let ids = row.as_slice();
         let gone = self.gone(ids)?;
         self.forget(gone.as_slice());
@@ -148,10 +147,9 @@ fn note_of<F: Fleet>(
     ids: &[u64],
     id: u64,
 ) -> Result<Note, NoMemory> {
-    let mut named = match &master.look(Look::Image(id)) {
-        Ok(Shown::Image(Some(image))) => all_named(alloc, image.as_slice())?,
-        Ok(_) => Vec::new(alloc),
-        Err(fault) => return Err(*fault),
+    let mut named = match &master.image(id)? {
+        Some(image) => all_named(alloc, image.as_slice())?,
+        None => Vec::new(alloc),
     };
     named.sort_unstable_by_key(|one| one.segment);
     let named = summed(alloc, named.as_slice(), ids)?;

@@ -81,7 +81,8 @@ impl Policy {
         product(stored, 100) >= product(self.stored, memory)
     }
 
-    /// Whether tombstones of these segments fill much of the memory, of so many bytes, that their objects and the spared
+    /// Whether tombstones of these segments fill much of the memory, of so many bytes, that their objects and the
+    /// spared
     /// segments leave.
     pub(crate) fn is_buried(&self, weights: &[Weight], memory: u64) -> bool {
         let mut left = memory.saturating_sub(self.spare.saturating_mul(self.segment));

@@ -4,8 +4,8 @@ ghost use Rattle.std.specs.Prelude.{◌≡◌};
 ghost use Rattle.driving.specs.master.World.{world};
 
 use crate::notes::{Note, Notes};
-use driving::master::{Look, Master, Shown};
-use entry::{NoMemory, Row};
+use driving::master::Master;
+use entry::NoMemory;
 use replica::Fleet;
 
 /// What a closed segment keeps.
@@ -22,20 +22,11 @@ pub(crate) struct Weight {
     pub stones: u64,
 }
 
-/// The ids of the digest in force.
-pub(crate) fn listed<F: Fleet>(master: &Master<F>) -> Result<Row<u64>, NoMemory> {
-    match master.look(Look::Digest) {
-        Ok(Shown::Digest(ids)) => Ok(ids),
-        Ok(_) => unreachable!(),
-        Err(fault) => Err(fault),
-    }
-}
-
 /// Counts the live objects of the segments of the digest in force that weren't counted yet.
 pub(crate) fn count_all<F: Fleet>(master: &mut Master<F>) -> Result<(), NoMemory>
     ensures { world F.state master.new ≡ world F.state master.old }
 {
-    let ids = listed(master)?;
+    let ids = master.digest()?;
     for id in ids.as_slice() {
         if master.tally(*id).is_none() {
             master.recount(*id);

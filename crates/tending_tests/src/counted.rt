@@ -4,7 +4,7 @@ use crate::commands::{Ask, OVERWRITES, TURNS, serve};
 use crate::masters::{config_of, master_of};
 use backup::MemoryFleet;
 use std::alloc::Global;
-use tending::driving::master::{Look, Master, Shown};
+use tending::driving::master::Master;
 use tending::{Notes, Policy, tend};
 
 /// Whether a segment is counted, and a count anew gives the same.
@@ -27,7 +27,7 @@ fn is_counted(master: &mut Master<MemoryFleet>, id: u64) -> bool {
 /// Whether all closed segments of the log are counted so.
 fn are_counted(master: &mut Master<MemoryFleet>) -> bool {
     let head = master.head();
-    let Ok(Shown::Digest(ids)) = master.look(Look::Digest) else {
+    let Ok(ids) = master.digest() else {
         return false;
     };
     for id in ids.as_slice() {

@@ -3,7 +3,8 @@ use Rattle.std.specs.Prelude.{codes}
 use Rattle.std.specs.Fmt.{decimal}
 use Rattle.recovery.specs.master.master_state.declared.config.Config.{Config}
 use Rattle.recovery.specs.master.master_state.declared.config.ConfigFault.{ConfigFault}
-use Rattle.recovery.specs.master.master_state.declared.config.ConfigFault.TheVariants.{BadBackups, BadSegment, BadBudget}
+use Rattle.recovery.specs.master.master_state.declared.config.ConfigFault.TheVariants.{BadBackups, BadSegment}
+use Rattle.recovery.specs.master.master_state.declared.config.ConfigFault.TheVariants.{BadBudget}
 use Rattle.recovery.specs.master.master_state.declared.config.ConfigFault.TheVariants.{BadLive}
 use Rattle.answers.specs.Errors.{Errors, Writes}
 use Rattle.answers.specs.Texts.{config_why_line, error_line}

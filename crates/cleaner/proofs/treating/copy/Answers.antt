@@ -17,4 +17,5 @@ copy_to-requires-2-clause-whole c =
     subst (λ (v : ImagesValue). IsWhole v.images c.id-2.result) (sym c.in_default.ensures.same)
     (subst (IsWhole images) (sym c.id-2.ensures)
     (next_whole images c.args.place.segment c.args.place.at c.args.len c.args.images.now.segment c.args.survivors
-    c.args.filling.now c.requires.of_data c.requires.whole c.requires.room c.id.result c.id.ensures c.in_default.ensures.full))
+    c.args.filling.now c.requires.of_data c.requires.whole c.requires.room c.id.result c.id.ensures
+    c.in_default.ensures.full))

@@ -3,7 +3,8 @@ use Rattle.clap.specs.Words.{HasKind, Kinds}
 use Rattle.clap.proofs.KindLemmas.{fails_by_from}
 use Rattle.command_line.proofs.Ramlog.{bare_options, bare_refusal, faults_are, has_flag, has_number, is_free}
 use Rattle.command_line.proofs.Ramlog.{has_backups, has_replicas, has_step, has_segment, has_seglet, has_seglets}
-use Rattle.command_line.proofs.Ramlog.{has_tables, has_history, has_bytes, has_objects, has_format, has_largest, has_live}
+use Rattle.command_line.proofs.Ramlog.{has_tables, has_history, has_bytes, has_objects, has_format, has_largest}
+use Rattle.command_line.proofs.Ramlog.{has_live}
 use Rattle.command_line.proofs.Ramlog.{has_forget, has_tend}
 use Rattle.command_line.proofs.reading.options.Goals as goal
 

@@ -17,7 +17,8 @@ loop-member-preserved g c =
     let list = c.args.members.now.list.items in
     let old = c.loop-member.found.places.items in
     let noted = noted_by c.loop-member.found.registry in
-    let opened : IsOpened image noted c.member-item.result c.is_listed-is_kept.result old c.add_image.new.found.places.items =
+    let opened : IsOpened image noted c.member-item.result c.is_listed-is_kept.result old
+    c.add_image.new.found.places.items =
     c.add_image.ensures.opened c.if-not-add_image.false in
     let files = images_of image c.args.members.now in
     let listed = c.list-member-items.ensures in

@@ -27,7 +27,8 @@ returns g c =
     ap held_in (c.memory-2.ensures ∙ ap (λ b. memory_of b) c.backup-2.ensures) in (
       λ holds. sym held ∙ same_if one other c.show.ensures.ordered c.show-2.ensures.ordered
           (subst (λ (hs : List Holding). HaveSame hs (holdings_of 0 other)) ones
-          (subst (λ (hs : List Holding). HaveSame c.deref.result.now hs) others (c.have_same.ensures.0 holds))) ∙ held-2,
+          (subst (λ (hs : List Holding). HaveSame c.deref.result.now hs) others (c.have_same.ensures.0 holds)))
+          ∙ held-2,
       λ same. c.have_same.ensures.1 (subst (λ (hs : List Holding). HaveSame hs c.deref-2.result.now) (sym ones)
           (subst (λ (hs : List Holding). HaveSame (holdings_of 0 one) hs) (sym others)
           (same_then one other c.show.ensures.ordered c.show-2.ensures.ordered (held ∙ same ∙ sym held-2)))),

@@ -13,7 +13,8 @@ returns-in-Ok-write_bytes g c =
     let last = g.W.Write.contents c.write_bytes-in-Ok.new.writer in
     let all = subst (Appends mid last) c.as_bytes.ensures.value c.in-Ok-write_bytes.ensures in
     let end = c.write_bytes-in-Ok-write_bytes in
-    then_written held last (g.W.Write.contents end.new.writer) (c.args.first.now ++ c.args.second.now) (10 ∷ []) end.result
+    then_written held last (g.W.Write.contents end.new.writer) (c.args.first.now ++ c.args.second.now) (10 ∷ [])
+    end.result
     (Appends-trans held mid last c.args.first.now c.args.second.now c.in-Ok.ensures all) end.ensures
 
 pub returns-in-Err : goal.returns-in-Err

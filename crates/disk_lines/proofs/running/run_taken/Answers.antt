@@ -13,7 +13,8 @@ returns-in-Ok g c = λ had left line.
 pub returns-in-Err : goal.returns-in-Err
 returns-in-Err g c = λ had left line.
     ended_fails c.args.is_raw c.args.store.now.master.knows c.run_text.new.store.master.knows c.args.number had left
-    (g.W.Write.contents c.args.writer.now) (g.W.Write.contents c.run_text.new.writer) c.args.text.now c.in-Err.fault c.requires
+    (g.W.Write.contents c.args.writer.now) (g.W.Write.contents c.run_text.new.writer) c.args.text.now c.in-Err.fault
+    c.requires
     (subst (λ (t : Taken). TakesLine c.args.is_raw had left c.args.text.now t) c.in-Ended.is line) c.in-Err.ensures
 
 pub returns-in-Ok-run_text : goal.returns-in-Ok-run_text

@@ -1,4 +1,5 @@
-use Rattle.std.proofs.Common.{[], ◌≡◌, ◌∙◌, ℕ, suc, ◌+◌, ◌≤◌, Bool, List, ◌∷◌, ◌++◌, length, arith, ap, refl, subst, sym}
+use Rattle.std.proofs.Common.{[], ◌≡◌, ◌∙◌, ℕ, suc, ◌+◌, ◌≤◌, Bool, List, ◌∷◌, ◌++◌, length, arith, ap, refl, subst}
+use Rattle.std.proofs.Common.{sym}
 use Rattle.std.proofs.lemmas.List.{length-append}
 use Rattle.std.proofs.KnownBytes.{Appends-kept, Appends-nil, Consumes-nil}
 use Rattle.std.specs.Io.KnownBytes.{Consumes, Keeps}
@@ -161,7 +162,8 @@ returns-in-Ok-Some g c =
     c.gather-count.new.lines c.in-Ok-Some.taken c.run_taken.result
     (gathered_as c.args.is_raw c.gather-count.result.0 c.args.store.now.master.knows
     c.gather-count.new.store.master.knows (g.R.Read.remaining c.args.reader.now)
-    (g.R.Read.remaining c.gather-count.new.reader) c.gather-count.new.lines c.gather-count.result.1 (Ok (Some c.in-Ok-Some.taken))
+    (g.R.Read.remaining c.gather-count.new.reader) c.gather-count.new.lines c.gather-count.result.1
+    (Ok (Some c.in-Ok-Some.taken))
     (c.in-Ok-Some.is ∙ ap Ok (rw c.in-Ok-Some.is at c.in-Ok-Some.field-0-is))
     c.gather-count.ensures.gathered)
     c.in_default.ensures
@@ -196,7 +198,8 @@ returns-in-Err-ReadFailed g c =
     (g.R.Read.remaining c.gather-count.new.reader) c.gather-count.new.lines
     (gathered_as c.args.is_raw c.gather-count.result.0 c.args.store.now.master.knows
     c.gather-count.new.store.master.knows (g.R.Read.remaining c.args.reader.now)
-    (g.R.Read.remaining c.gather-count.new.reader) c.gather-count.new.lines c.gather-count.result.1 (Err read.ReadFailed)
+    (g.R.Read.remaining c.gather-count.new.reader) c.gather-count.new.lines c.gather-count.result.1
+    (Err read.ReadFailed)
     (c.in-Err-ReadFailed.is ∙ ap Err (rw c.in-Err-ReadFailed.is at c.in-Err-ReadFailed.field-0-is))
     c.gather-count.ensures.gathered)
     c.in_default.ensures
@@ -212,7 +215,8 @@ returns-in-Err-WriteFailed g c =
     (g.R.Read.remaining c.gather-count.new.reader) c.gather-count.new.lines
     (gathered_as c.args.is_raw c.gather-count.result.0 c.args.store.now.master.knows
     c.gather-count.new.store.master.knows (g.R.Read.remaining c.args.reader.now)
-    (g.R.Read.remaining c.gather-count.new.reader) c.gather-count.new.lines c.gather-count.result.1 (Err read.WriteFailed)
+    (g.R.Read.remaining c.gather-count.new.reader) c.gather-count.new.lines c.gather-count.result.1
+    (Err read.WriteFailed)
     (c.in-Err-WriteFailed.is ∙ ap Err (rw c.in-Err-WriteFailed.is at c.in-Err-WriteFailed.field-0-is))
     c.gather-count.ensures.gathered)
     c.in_default.ensures

@@ -24,7 +24,8 @@ pub returns-in-Some-clause-unused : goal.returns-in-Some-clause-unused
 returns-in-Some-clause-unused g c =
     let end = c.loop-backup-test.false in
     let bound : c.backups-backup-end.result ≡ length c.args.fleet.now.members.list.items =
-    c.backups-backup-end.ensures ∙ ap (λ (m : Members g.row.D.Denot g.row.R.Denot). length m.list.items) c.members.ensures in
+    c.backups-backup-end.ensures ∙ ap (λ (m : Members g.row.D.Denot g.row.R.Denot). length m.list.items)
+    c.members.ensures in
     let number = c.in-Some.ensures in
     none_above c.args.fleet.now.members.list.items c.loop-backup.backup c.loop-backup.greatest c.in-Some.number
     (omega (arith, end, bound)) (omega (arith, number)) c.loop-backup.invariant.1

@@ -9,7 +9,8 @@ use Rattle.log_head.proofs.rolling.next_image.Goals as goal
 pub begin_head-requires-clause-last : goal.begin_head-requires-clause-last
 begin_head-requires-clause-last c =
     subst (λ (ids : List ℕ). ends_with c.args.id ids ≡ true)
-    (sym (ap listed_ids c.in_ok-digest.ensures ∙ ids_digest _ _ c.args.id)) (ends_with_push (others_after c.args.image.now c.args.leaving) c.args.id)
+    (sym (ap listed_ids c.in_ok-digest.ensures ∙ ids_digest _ _ c.args.id))
+    (ends_with_push (others_after c.args.image.now c.args.leaving) c.args.id)
 
 pub begin_head-requires-clause-count : goal.begin_head-requires-clause-count
 begin_head-requires-clause-count c =

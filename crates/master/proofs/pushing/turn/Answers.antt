@@ -14,7 +14,8 @@ use Rattle.log_head.specs.declared.head.Roll.{Roll}
 use Rattle.log_head.specs.Head.{IsHeadValue}
 use Rattle.master_core.specs.master_failover.declared.push.Push.TheVariants as push
 use Rattle.master_core.specs.master_failover.declared.turning.NewHead.{NewHead}
-use Rattle.master_core.specs.master_failover.Mending.{IsNextMend, IsNextOpen, IsNewHead, MayPut, put_data, turned_data, mended_data}
+use Rattle.master_core.specs.master_failover.Mending.{IsNextMend, IsNextOpen, IsNewHead, MayPut, put_data, turned_data}
+use Rattle.master_core.specs.master_failover.Mending.{mended_data}
 use Rattle.master_core.specs.master_failover.Mending.{backup_for, opened_more}
 use Rattle.master_core.proofs.master_failover.Changed.{own}
 use Rattle.master_core.proofs.master_failover.PushKinds.{mend_fails}

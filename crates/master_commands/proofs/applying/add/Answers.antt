@@ -24,7 +24,8 @@ use Rattle.master_commands.proofs.Changes.{put_is_some}
 use Rattle.history.specs.Packing.{IsReplyTo}
 use Rattle.history.specs.View.{shown_command, shown_reply, shown_record}
 use Rattle.master_state.specs.Log.{state_now}
-use Rattle.master_commands.proofs.Adding.{same_appended, image_appended, found_then, added, fits, may, added_core, added_applies}
+use Rattle.master_commands.proofs.Adding.{same_appended, image_appended, found_then, added, fits, may, added_core}
+use Rattle.master_commands.proofs.Adding.{added_applies}
 use Rattle.master_commands.proofs.Tallied.{change_tallied}
 use Rattle.master_commands.proofs.applying.add.Goals as goal
 use Rattle.master_commands.proofs.applying.add.Goals.{After-push, After-from_residual}
@@ -142,7 +143,8 @@ module _ (c : goal.After-push) where
   counted : IsCounted command change dead c.args.judged.now.had d.head.id c.core.inside.tallies c.count.new.tallies
   counted =
       let unit = unit_of_change dead command change in
-      subst (λ (id : ℕ). IsCounted command change dead c.args.judged.now.had id c.core.inside.tallies c.count.new.tallies)
+      subst (λ (id : ℕ). IsCounted command change dead c.args.judged.now.had id c.core.inside.tallies
+      c.count.new.tallies)
       (c.id-head.ensures.id ∙ ap (λ (h : HeadValue). h.id) head_is
       ∙ (same_appended d.head (length d.history) unit).0)
       c.count.ensures

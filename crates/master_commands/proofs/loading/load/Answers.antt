@@ -110,7 +110,8 @@ module _ (c : goal.After-with-core-inside) where
   tallied : AreTallied left c.grow.new.self
   tallied =
       subst (λ (m : MasterData). AreTallied m c.grow.new.self) knows
-      (object_tallied d c.core.invariant.2 (with_unit_end d.head 0 (loaded_unit o)) (loaded_unit o) refl refl refl head o
+      (object_tallied d c.core.invariant.2 (with_unit_end d.head 0 (loaded_unit o)) (loaded_unit o) refl refl refl head
+      o
       c.append_object.new.index.held c.core.inside.tallies c.grow.new.self refl moved
       (absent_then d c.core.invariant.2 bare o is_new head) counted c.core.invariant.4)
 

@@ -26,7 +26,8 @@ use Rattle.std.proofs.lemmas.Result.{err_from_is_err_and}
 use Rattle.master_state.proofs.Refusals.{may_begin, sizes_of}
 use Rattle.master_rolls.proofs.RollLaws.{roll_begins, may_roll_now}
 use Rattle.master_rolls.proofs.NextIds.{next_rise, start_parts, start_others}
-use Rattle.master_rolls.proofs.RollStarts.{new_ids, new_count, pass_now, pass_marked, room_marked, unposted, rolled_core}
+use Rattle.master_rolls.proofs.RollStarts.{new_ids, new_count, pass_now, pass_marked, room_marked, unposted}
+use Rattle.master_rolls.proofs.RollStarts.{rolled_core}
 use Rattle.master_rolls.proofs.RollStarts.{rolled_tallied}
 use Rattle.master_state.proofs.SurvivorLens.{entering_listed}
 use Rattle.master_rolls.proofs.rolling.begin_roll.Goals as goal

@@ -26,7 +26,8 @@ returns-in-Some-tallied c =
     let there = sym c.get.ensures ∙ c.in-Some.is in
     let image = image_is d c.core.invariant.2 c.args.id none c.get.result es c.get.ensures c.in-Some.is
     ∙ ap (λ (m : MasterData). images_of m c.args.id) c.core.view_is in
-    let valid = closed_each (λ (fs : List Entry). IsSegment fs) d.closed c.args.id es c.core.invariant.2.segments there in
+    let valid = closed_each (λ (fs : List Entry). IsSegment fs) d.closed c.args.id es c.core.invariant.2.segments there
+    in
     (λ i. c.in-Some-tallied.ensures.kept i + c.opening_len.ensures.sum i)
     ∙ sym (kept_with_opening (log_set_ids now) now.index c.args.id es valid)
     ∙ ap (λ (fs : List Entry). length (text_of (kept_of (log_set_ids now) now.index c.args.id fs))) image

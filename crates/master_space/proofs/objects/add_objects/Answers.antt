@@ -48,7 +48,8 @@ loop-at-preserved c =
     }) [
       | in-Some+in_ok-reserve w ↦ rw w.objects-is (record {
         listed = subst (λ (l : List Object). IsListed held c.args.table id es old (at + n) l)
-            (ap (λ (x : Option ObjectRef). map shown_object objects ++ option_to_list (option_map shown_object x)) w.in-Some.is
+            (ap (λ (x : Option ObjectRef). map shown_object objects ++ option_to_list (option_map shown_object x))
+            w.in-Some.is
             ∙ sym (map-append shown_object objects (w.in-Some.object ∷ []))
             ∙ ap (λ (rs : List ObjectRef). map shown_object (rs ++ w.in-Some.object ∷ [])) (sym w.reserve.ensures.items)
             ∙ ap (map shown_object) (sym w.push_reserved.ensures.items)) next;

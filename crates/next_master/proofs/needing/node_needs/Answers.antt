@@ -9,7 +9,7 @@ use Rattle.cluster.specs.answers.declared.answer.Answer.TheVariants as answer
 use Rattle.cluster.specs.declared.node.Node.{Node}
 use Rattle.cluster.specs.declared.node.Node.TheVariants.{Down}
 use Rattle.cluster.specs.Served.{AnswersLine, fleet_of}
-use Rattle.cluster.specs.Told.{NeedsFor}
+use Rattle.cluster.specs.Found.{NeedsFor}
 use Rattle.cluster.proofs.Standing.{stays_told, up_told}
 use Rattle.next_master.specs.Configuration.{config_of, later_options}
 use Rattle.next_master.specs.Recoveries.{asked_for}

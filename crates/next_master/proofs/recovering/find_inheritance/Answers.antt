@@ -24,10 +24,12 @@ returns-in-Err-clause-none g c = λ line d at asks s.
 pub returns-in-Err-recover_by-clause-none : goal.returns-in-Err-recover_by-clause-none
 returns-in-Err-recover_by-clause-none g c = λ line d at asks s.
     let e = c.in-Err-recover_by in
-    loss_told (Down c.args.fleet.now) c.args.fleet.now (config_of c.args.request.options c.args.request.master) d at refl s
+    loss_told (Down c.args.fleet.now) c.args.fleet.now (config_of c.args.request.options c.args.request.master) d at
+    refl s
     c.in-Ok.inventory c.least.result c.args.request.master c.least.ensures refl
     c.in-Ok.ensures.shown e.fault c.args.will.now (order_named c.args.order) e.ensures.refused e.ensures.fault
-    c.requires.covers (names_groups c.args.order c.in-Ok.inventory c.least.result c.args.request.master c.args.will.now) line asks
+    c.requires.covers (names_groups c.args.order c.in-Ok.inventory c.least.result c.args.request.master
+    c.args.will.now) line asks
 
 pub returns-in_default-clause-none : goal.returns-in_default-clause-none
 returns-in_default-clause-none g c = λ line d at asks s. (asks, (s.node_of.0, s.node_of.1), refl)
@@ -86,7 +88,8 @@ returns-in-Ok-configuration-clause-least g c =
 pub returns-in-Err-clause-nothing : goal.returns-in-Err-clause-nothing
 returns-in-Err-clause-nothing g c =
     subst (λ (a : Answer). FindsNothing (fleet_state c.args.fleet.now)
-    (ask c.args.request.master c.args.request.used c.args.will.now (order_named c.args.order)) a) (sym c.want.ensures) (inl tt)
+    (ask c.args.request.master c.args.request.used c.args.will.now (order_named c.args.order)) a) (sym c.want.ensures)
+    (inl tt)
 
 pub returns-in-Err-recover_by-clause-nothing : goal.returns-in-Err-recover_by-clause-nothing
 returns-in-Err-recover_by-clause-nothing g c = inr (

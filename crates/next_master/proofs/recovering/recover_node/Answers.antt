@@ -40,7 +40,8 @@ returns-in-Err-clause-recovers g c =
     inl (
       refl,
       subst (λ (n : Node). AnswersLine n old (Recover order) (Down c.in-Down.fleet) c.in-Err.answer) (sym c.in-Down.is)
-          (stays_told (Down c.in-Down.fleet) old (Recover order) c.in-Err.answer (λ d at s. c.in-Err.ensures.none (Recover order) d at (inl (order, refl)) s)),
+          (stays_told (Down c.in-Down.fleet) old (Recover order) c.in-Err.answer
+          (λ d at s. c.in-Err.ensures.none (Recover order) d at (inl (order, refl)) s)),
     )
 
 pub find_inheritance-requires-clause-later : goal.find_inheritance-requires-clause-later
@@ -58,7 +59,8 @@ adopt-requires-clause-fleet g c =
     let found = c.in-Ok.ensures.found in (
       c.in-Down.fleet,
       refl,
-      has_backups c.in-Down.fleet c.args.request.options c.args.request.later c.args.request.master c.in-Ok.found.rebuilt c.in-Ok.found.config
+      has_backups c.in-Down.fleet c.args.request.options c.args.request.later c.args.request.master
+          c.in-Ok.found.rebuilt c.in-Ok.found.config
           found c.args.node.now
           c.in-Down.is Forward s.0 s.1 s.2,
       found.unused,
@@ -70,16 +72,19 @@ returns-in-Err-adopt-clause-recovers g c =
     let order = c.args.order in
     inl (
       refl,
-      declined_told c.in-Down.fleet c.args.request.options c.args.request.later c.args.request.master c.in-Ok.found.rebuilt c.in-Ok.found.config
+      declined_told c.in-Down.fleet c.args.request.options c.args.request.later c.args.request.master
+          c.in-Ok.found.rebuilt c.in-Ok.found.config
           c.in-Ok.ensures.found
-          c.args.node.now c.in-Down.is order c.adopt.new.node c.in-Err-adopt.answer (c.in-Err-adopt.ensures c.in-Down.fleet refl),
+          c.args.node.now c.in-Down.is order c.adopt.new.node c.in-Err-adopt.answer
+          (c.in-Err-adopt.ensures c.in-Down.fleet refl),
     )
 
 pub returns-in-Ok-retire-clause-recovers : goal.returns-in-Ok-retire-clause-recovers
 returns-in-Ok-retire-clause-recovers g c =
     let order = c.args.order in
     let a = c.in_default-adopt.ensures c.in-Down.fleet refl in
-    inr (recovered_told c.in-Down.fleet c.args.request.options c.args.request.later c.args.request.master c.in-Ok.found.rebuilt c.in-Ok.found.config
+    inr (recovered_told c.in-Down.fleet c.args.request.options c.args.request.later c.args.request.master
+    c.in-Ok.found.rebuilt c.in-Ok.found.config
     c.in-Ok.ensures.found
     c.args.node.now c.in-Down.is order a.0.knows a.2 c.retire.new.node
     (c.in-Ok-retire.ensures.others a.0.knows (subst (λ (n : Node). IsOf n None a.0.knows) (sym a.1) (refl, refl, a.3))))
@@ -88,7 +93,8 @@ pub returns-in-Err-retire-clause-recovers : goal.returns-in-Err-retire-clause-re
 returns-in-Err-retire-clause-recovers g c =
     let order = c.args.order in
     let a = c.in_default-adopt.ensures c.in-Down.fleet refl in
-    inr (cut_told c.in-Down.fleet c.args.request.options c.args.request.later c.args.request.master c.in-Ok.found.rebuilt c.in-Ok.found.config
+    inr (cut_told c.in-Down.fleet c.args.request.options c.args.request.later c.args.request.master
+    c.in-Ok.found.rebuilt c.in-Ok.found.config
     c.in-Ok.ensures.found
     c.args.node.now c.in-Down.is order a.0.knows a.2 c.retire.new.node c.in-Err-retire.answer
     (c.in-Err-retire.ensures.others a.0.knows (subst (λ (n : Node). IsOf n None a.0.knows) (sym a.1)
@@ -111,7 +117,8 @@ returns-in-Err-retire-clause-numbers g c = let above = c.in-Ok.ensures.fresh in
 
 pub returns-in-Err-clause-spent : goal.returns-in-Err-clause-spent
 returns-in-Err-clause-spent g c = λ is.
-    subst (λ (n : Node). IfSome (fleet_of n) (λ (f : FleetState). AreSpent (max c.args.request.master c.args.request.used) f.picture))
+    subst (λ (n : Node). IfSome (fleet_of n) (λ (f : FleetState). AreSpent
+    (max c.args.request.master c.args.request.used) f.picture))
     (sym c.in-Down.is)
     (c.in-Err.ensures.spent is)
 
@@ -170,7 +177,8 @@ returns-in-Err-adopt-clause-ends g c =
         c.in-Ok.ensures.rebuilt,
         c.in-Ok.ensures.least,
         inl (
-          subst (λ (k : Config). IsDeclined f r k c.adopt.new.node c.in-Err-adopt.answer) c.in-Ok.ensures.found.configured
+          subst (λ (k : Config). IsDeclined f r k c.adopt.new.node c.in-Err-adopt.answer)
+              c.in-Ok.ensures.found.configured
               (c.in-Err-adopt.ensures c.in-Down.fleet refl),
           refl,
         ),

@@ -19,7 +19,8 @@ returns-in-Some c =
     let i = c.args.place in
     let at : get_or (shown_ids c.args.digest.now) i 0 ≡ c.id.result = get-at _ i c.id.result c.id.ensures in (
       ap (get nat_cmp c.args.best.now) at ∙ sym c.in-Some.ensures.value,
-      usable-by d _ c.len.result c.in-Some.holding.now.now (told-len d i c.id.result c.len.result c.id.ensures c.len.ensures)
+      usable-by d _ c.len.result c.in-Some.holding.now.now (told-len d i c.id.result c.len.result c.id.ensures
+          c.len.ensures)
           (c.if-is_usable.ensures.0 refl),
     )
 

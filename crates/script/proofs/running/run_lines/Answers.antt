@@ -30,7 +30,8 @@ returns-in-Ok g c = λ options begins.
       c.loop-number.auto.number-end,
     ) in
     runs_dry c.args.is_raw c.args.keeps_going options c.loop-number.session _ _
-    (g.R.Read.remaining c.no_more.new.reader) _ _ (g.W.Write.contents c.no_more.new.writer) _ _ _ c.loop-number.number last
+    (g.R.Read.remaining c.no_more.new.reader) _ _ (g.W.Write.contents c.no_more.new.writer) _ _ _ c.loop-number.number
+    last
     (c.loop-number.invariant options begins) c.in-Ok.field-0 c.in-Ok.ensures
 
 pub returns : goal.returns
@@ -41,7 +42,8 @@ returns g c = λ options begins.
       c.loop-number.auto.number-end,
     ) in
     dry_fails c.args.is_raw c.args.keeps_going options c.loop-number.session _ _
-    (g.R.Read.remaining c.no_more.new.reader) _ _ (g.W.Write.contents c.no_more.new.writer) _ _ _ c.loop-number.number last
+    (g.R.Read.remaining c.no_more.new.reader) _ _ (g.W.Write.contents c.no_more.new.writer) _ _ _ c.loop-number.number
+    last
     (c.loop-number.invariant options begins) c.in-Err-no_more.fault c.in-Err-no_more.ensures
 
 pub run_next-requires-clause-stands : goal.run_next-requires-clause-stands

@@ -6,7 +6,8 @@ use Rattle.script.proofs.running.run_next.Goals as goal
 
 pub returns-in-Ok : goal.returns-in-Ok
 returns-in-Ok g c =
-    let taken = taken_as c.args.is_raw _ _ _ _ _ Ended c.in-Ok-Ended.field-0-is (sym c.text.ensures) c.in-Ok-Ended.ensures.taken in
+    let taken = taken_as c.args.is_raw _ _ _ _ _ Ended c.in-Ok-Ended.field-0-is (sym c.text.ensures)
+    c.in-Ok-Ended.ensures.taken in
     turn_more c.args.is_raw c.args.keeps_going c.args.session.now c.run_or_skip.new.session c.args.number
     (g.R.Read.remaining c.args.reader.now) (g.R.Read.remaining c.next_line.new.reader)
     (g.W.Write.contents c.args.writer.now) (g.W.Write.contents c.next_line.new.writer)
@@ -15,7 +16,8 @@ returns-in-Ok g c =
 
 pub returns-in-Err : goal.returns-in-Err
 returns-in-Err g c =
-    let taken = taken_as c.args.is_raw _ _ _ _ _ Ended c.in-Ok-Ended.field-0-is (sym c.text.ensures) c.in-Ok-Ended.ensures.taken in
+    let taken = taken_as c.args.is_raw _ _ _ _ _ Ended c.in-Ok-Ended.field-0-is (sym c.text.ensures)
+    c.in-Ok-Ended.ensures.taken in
     turn_fails c.args.is_raw c.args.keeps_going c.args.session.now c.run_or_skip.new.session c.args.number
     (g.R.Read.remaining c.args.reader.now) (g.R.Read.remaining c.next_line.new.reader)
     (g.W.Write.contents c.args.writer.now) (g.W.Write.contents c.next_line.new.writer)
@@ -47,12 +49,14 @@ returns-in-Err-run_or_skip g c =
 
 pub returns-in-Ok-Nothing : goal.returns-in-Ok-Nothing
 returns-in-Ok-Nothing g c =
-    let there = taken_as c.args.is_raw _ _ _ _ _ Nothing c.in-Ok-Nothing.field-0-is refl c.in-Ok-Nothing.ensures.taken in
+    let there = taken_as c.args.is_raw _ _ _ _ _ Nothing c.in-Ok-Nothing.field-0-is refl c.in-Ok-Nothing.ensures.taken
+    in
     inr (there.0, there.1, c.next_line.ensures.flushed, refl, refl)
 
 pub returns-in-Ok-TooLong : goal.returns-in-Ok-TooLong
 returns-in-Ok-TooLong g c =
-    let there = taken_as c.args.is_raw _ _ _ _ _ TooLong c.in-Ok-TooLong.field-0-is refl c.in-Ok-TooLong.ensures.taken in (
+    let there = taken_as c.args.is_raw _ _ _ _ _ TooLong c.in-Ok-TooLong.field-0-is refl c.in-Ok-TooLong.ensures.taken
+    in (
       (
         refl,
         c.next_line.new.self,
@@ -67,15 +71,18 @@ returns-in-Ok-TooLong g c =
 
 pub returns-in-Err-ReadFailed : goal.returns-in-Err-ReadFailed
 returns-in-Err-ReadFailed g c =
-    let there = stopped_as c.args.is_raw _ _ _ _ ReadFailed c.in-Err-ReadFailed.field-0-is c.in-Err-ReadFailed.ensures.fault in
+    let there = stopped_as c.args.is_raw _ _ _ _ ReadFailed c.in-Err-ReadFailed.field-0-is
+    c.in-Err-ReadFailed.ensures.fault in
     ((c.next_line.new.self, there.0, there.1, c.next_line.ensures.flushed), refl, λ on. tt)
 
 pub returns-in-Err-WriteFailed : goal.returns-in-Err-WriteFailed
 returns-in-Err-WriteFailed g c =
-    let there = stopped_as c.args.is_raw _ _ _ _ WriteFailed c.in-Err-WriteFailed.field-0-is c.in-Err-WriteFailed.ensures.fault in
+    let there = stopped_as c.args.is_raw _ _ _ _ WriteFailed c.in-Err-WriteFailed.field-0-is
+    c.in-Err-WriteFailed.ensures.fault in
     (inr (c.next_line.new.self, there.0, there.1, c.next_line.ensures.flushed), refl, λ on. tt)
 
 pub returns-in-Err-NoMemory : goal.returns-in-Err-NoMemory
 returns-in-Err-NoMemory g c =
-    let there = stopped_as c.args.is_raw _ _ _ _ NoMemory c.in-Err-NoMemory.field-0-is c.in-Err-NoMemory.ensures.fault in
+    let there = stopped_as c.args.is_raw _ _ _ _ NoMemory c.in-Err-NoMemory.field-0-is c.in-Err-NoMemory.ensures.fault
+    in
     (([], there.0, omega arith, c.next_line.ensures.flushed), refl, λ on. tt)

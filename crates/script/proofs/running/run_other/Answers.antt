@@ -29,7 +29,8 @@ returns-in-Err-NoBackup g c = λ last forgets.
     let line = shown_line c.args.line in
     let refused = subst (RefusesLine s line) c.in-Err-NoBackup.field-0-is c.in-Err-NoBackup.ensures.refused in (
       refl,
-      λ other says allows. says_none s other line (c.one_plain_line.ensures c.args.is_raw c.args._text.now line other (no_key_of line c.requires.other)
+      λ other says allows. says_none s other line (c.one_plain_line.ensures c.args.is_raw c.args._text.now line other
+          (no_key_of line c.requires.other)
           c.requires.says says)
           (no_backup s line refused) allows,
       Keeps-refl _,

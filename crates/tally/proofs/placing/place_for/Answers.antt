@@ -10,7 +10,8 @@ returns c =
     let s = c.args.segment in
     let at = c.partition_point.result in
     let parted = IsPartitionedBy-leb (λ (x : Tally). x.segment) xs s (rise xs c.requires) in
-    let point = IsPartitionPoint-from_clause (λ (x : Tally). leb x.segment s) xs at c.partition_point.ensures.partitioned
+    let point = IsPartitionPoint-from_clause (λ (x : Tally). leb x.segment s) xs at
+    c.partition_point.ensures.partitioned
     parted (λ a r q k. search rules) in
     record {
       within = c.partition_point.ensures.bound;

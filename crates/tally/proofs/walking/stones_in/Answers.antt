@@ -38,7 +38,14 @@ next c =
 
 pub overflow_add-len : goal.overflow_add-len
 overflow_add-len c =
-    let walked = next c in omega (arith, walked.low, walked.within, c.bytes-text.ensures.limit, ap length c.bytes-text.ensures.text)
+    let walked = next c in omega (
+      arith,
+      walked.low,
+      walked.within,
+      c.bytes-text.ensures.limit,
+      ap length
+          c.bytes-text.ensures.text,
+    )
 
 pub loop-at-preserved : goal.loop-at-preserved
 loop-at-preserved c =
@@ -49,4 +56,5 @@ returns-clause-sum c =
     let ids = ids_of_log c.args.log.now in
     let es = c.args.segment.now in
     let past = ap length c.bytes-text.ensures.text in
-    counted_all ids es c.loop-at.at c.loop-at.len c.loop-at.invariant.counted (omega (arith, past, c.loop-at-test.false))
+    counted_all ids es c.loop-at.at c.loop-at.len c.loop-at.invariant.counted
+    (omega (arith, past, c.loop-at-test.false))

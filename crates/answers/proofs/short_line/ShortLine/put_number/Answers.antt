@@ -8,8 +8,11 @@ use Rattle.answers.proofs.short_line.ShortLine.put_number.Goals as goal
 pub write_digits-self-inside-requires : goal.write_digits-self-inside-requires
 write_digits-self-inside-requires c =
     let digits : length (decimal c.args.number) ≤ 20 = search (rules, arith, length-decimal-le 20) in
-    let len = sym (length-drop c.self.inside.start c.self.inside.bytes) ∙ ap length c.self.view_is in
-    (omega (arith, digits, len, c.requires, c.self.told, c.self.invariant), omega (arith, c.self.told, c.self.invariant))
+    let len = sym (length-drop c.self.inside.start c.self.inside.bytes) ∙ ap length c.self.view_is in (
+      omega (arith, digits, len, c.requires, c.self.told, c.self.invariant),
+      omega
+          (arith, c.self.told, c.self.invariant),
+    )
 
 pub returns-clause-len : goal.returns-clause-len
 returns-clause-len c =

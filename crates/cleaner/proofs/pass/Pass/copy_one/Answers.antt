@@ -58,16 +58,20 @@ go_on-requires-clause-there c =
     let images = c.args.images.now.images in
     let held = c.args.index.now.held in
     rw c.as_slice-victims.ensures (after_there held.seed c.args.self.now images c.requires.pass c.requires.more
-    c.args.images.now.segment (ids_in images c.args.head c.args.new) held refl c.treat-copied.result (seen_len c.in-Some.seen)
-    c.treat-copied.new.filling c.treat-copied.new.images.images c.treat-copied.new.index.held (treated (goal.at.go_on-requires-clause-there c).After-treat-copied))
+    c.args.images.now.segment (ids_in images c.args.head c.args.new) held refl c.treat-copied.result
+    (seen_len c.in-Some.seen)
+    c.treat-copied.new.filling c.treat-copied.new.images.images c.treat-copied.new.index.held
+    (treated (goal.at.go_on-requires-clause-there c).After-treat-copied))
 
 pub go_on-requires-clause-cursor : goal.go_on-requires-clause-cursor
 go_on-requires-clause-cursor c =
     let images = c.args.images.now.images in
     let held = c.args.index.now.held in
     rw c.as_slice-victims.ensures (after_cursor held.seed c.args.self.now images c.requires.pass c.requires.more
-    c.args.images.now.segment (ids_in images c.args.head c.args.new) held refl c.treat-copied.result (seen_len c.in-Some.seen)
-    c.treat-copied.new.filling c.treat-copied.new.images.images c.treat-copied.new.index.held (treated (goal.at.go_on-requires-clause-cursor c).After-treat-copied))
+    c.args.images.now.segment (ids_in images c.args.head c.args.new) held refl c.treat-copied.result
+    (seen_len c.in-Some.seen)
+    c.treat-copied.new.filling c.treat-copied.new.images.images c.treat-copied.new.index.held
+    (treated (goal.at.go_on-requires-clause-cursor c).After-treat-copied))
 
 pub returns-clause-copied : goal.returns-clause-copied
 returns-clause-copied c =
@@ -76,7 +80,8 @@ returns-clause-copied c =
     copies held.seed c.args.self.now images c.requires.pass c.requires.more c.args.images.now.segment
     (ids_in images c.args.head c.args.new) held refl c.treat-copied.result (seen_len c.in-Some.seen)
     c.treat-copied.new.filling c.treat-copied.new.images.images c.treat-copied.new.index.held
-    (treated (goal.at.returns-clause-copied c).After-treat-copied) (within (goal.at.returns-clause-copied c).After-treat-copied)
+    (treated (goal.at.returns-clause-copied c).After-treat-copied)
+    (within (goal.at.returns-clause-copied c).After-treat-copied)
     c.go_on.new.cursor
     (gone (goal.at.returns-clause-copied c).After-go_on)
 
@@ -87,6 +92,7 @@ returns-clause-pass c =
     stays_pass held.seed c.args.self.now images c.requires.pass c.requires.more c.args.images.now.segment
     (ids_in images c.args.head c.args.new) held refl c.treat-copied.result (seen_len c.in-Some.seen)
     c.treat-copied.new.filling c.treat-copied.new.images.images c.treat-copied.new.index.held
-    (treated (goal.at.returns-clause-pass c).After-treat-copied) (within (goal.at.returns-clause-pass c).After-treat-copied)
+    (treated (goal.at.returns-clause-pass c).After-treat-copied)
+    (within (goal.at.returns-clause-pass c).After-treat-copied)
     c.go_on.new.cursor
     (gone (goal.at.returns-clause-pass c).After-go_on)

@@ -9,7 +9,8 @@ use Rattle.cluster.proofs.node.Node.clean.Goals as goal
 
 pub returns-in-Ok-clause-told : goal.returns-in-Ok-clause-told
 returns-in-Ok-clause-told c =
-    run_told (Survivors × ℕ) (CleanRuns c.args.victims) cleaned c.args.self.now c.in-Up.up c.clean_all-outcome.new.master
+    run_told (Survivors × ℕ) (CleanRuns c.args.victims) cleaned c.args.self.now c.in-Up.up
+    c.clean_all-outcome.new.master
     c.in-Up.is (Clean c.args.victims) (of_clean c.args.victims) c.show_valid-2.ensures c.in-Ok.ensures.goes_on
     (c.in-Ok.survivors, c.in-Ok.head) c.in-Ok.ensures.cleaned
 

@@ -22,7 +22,8 @@ Over = MasterValue MemoryFleet
 
 pub returns-clause-told : goal.returns-clause-told
 returns-clause-told c = λ config.
-    elim c.match-self.branch as (λ _. AnswersLine c.args.self.now config (Fault c.args.takes c.args.taken) c.match-self.self
+    elim c.match-self.branch as (λ _. AnswersLine c.args.self.now config (Fault c.args.takes c.args.taken)
+    c.match-self.self
     (answer.Fault c.args.takes c.args.taken)) [
       | in-Up w ↦ rw w.self-is (same_told c.args.self.now
           (Up (record { knows = w.up.inside.core; fleet = w.fault_at.new.self })) config
@@ -35,7 +36,8 @@ returns-clause-told c = λ config.
             subst (λ (x : MasterData). IsValid x (fleet_state w.fault_at.new.self)) same w.show_valid.ensures,
           ))
           (λ d at s. (refl, refl)))
-      | in-Down w ↦ rw w.self-is (same_told c.args.self.now (Down w.fault_at-in-Down.new.self) config (Fault c.args.takes c.args.taken)
+      | in-Down w ↦ rw w.self-is (same_told c.args.self.now (Down w.fault_at-in-Down.new.self) config
+          (Fault c.args.takes c.args.taken)
           (answer.Fault c.args.takes c.args.taken)
           (λ d left of.
           let was : IsOf (Down w.in-Down.fleet) left d = subst (λ (n : Node). IsOf n left d) w.in-Down.is of in (
@@ -62,8 +64,10 @@ returns-clause-same c =
             ap Some state,
             ap Some w.fault_at.ensures.asked,
           ))
-      | in-Down w ↦ rw w.self-is (subst (λ (n : Node). AsksFault n c.args.takes c.args.taken (Down w.fault_at-in-Down.new.self))
+      | in-Down w ↦ rw w.self-is (subst (λ (n : Node). AsksFault n c.args.takes c.args.taken
+          (Down w.fault_at-in-Down.new.self))
           (sym w.in-Down.is) (refl, ap Some w.fault_at-in-Down.ensures.same, ap Some w.fault_at-in-Down.ensures.asked))
-      | in-Changing w ↦ rw w.self-is (subst (λ (n : Node). AsksFault n c.args.takes c.args.taken n) (sym w.in-Changing.is)
+      | in-Changing w ↦ rw w.self-is (subst (λ (n : Node). AsksFault n c.args.takes c.args.taken n)
+          (sym w.in-Changing.is)
           (refl, refl, refl))
     ]

@@ -27,7 +27,8 @@ returns-in-Ok c =
     let m = c.serve-outcome.new.master in
     let at = c.in-Ok.ensures.served in (
       at.reply,
-      replied_at m c.in-Up.up.knows command c.in-Ok.place at.reply c.show_valid.ensures.history.within at.served at.place,
+      replied_at m c.in-Up.up.knows command c.in-Ok.place at.reply c.show_valid.ensures.history.within at.served
+          at.place,
       (λ config line asks d pos s.
           let was : IsOf (Up c.in-Up.up) pos.left d = subst (λ (n : Node). IsOf n pos.left d) c.in-Up.is s.node_of in
           let served : IsServed d m.knows command at.reply =

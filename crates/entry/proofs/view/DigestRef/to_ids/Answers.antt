@@ -22,7 +22,8 @@ loop-i-preserved c =
     rw (c.in_ok-push.ensures.items, append_assoc, c.u64_at.ensures, ← step) c.loop-i.invariant
 
 pub new-requires-clause-rise : goal.new-requires-clause-rise
-new-requires-clause-rise c = rw (all-there _ _ _ _ _ _ c.loop-i-test.false c.loop-i.invariant) (c.args.self.now.ids c.requires).rise
+new-requires-clause-rise c = rw (all-there _ _ _ _ _ _ c.loop-i-test.false c.loop-i.invariant)
+    (c.args.self.now.ids c.requires).rise
 
 pub new-requires-clause-count : goal.new-requires-clause-count
 new-requires-clause-count c =

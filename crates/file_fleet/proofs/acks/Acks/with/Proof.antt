@@ -45,36 +45,44 @@ module _ {M : Type 1} {𝓤 : Ura M} (𝓛 : Logic 𝓤) (mem : Memory → SProp
   open 𝓛 use {H}
 
   module _ (κs : Lfts 3) (qs : Shares 3)
-      (bounds : AllOutlive (f.ended).signature.lifetimes (f.ended).signature.outlives κs) (a : Args f.signature κs) where
-    abbrev before : Val
-    before = vptr a.0.ref_ptr.0 a.0.ref_ptr.1
+      (bounds : AllOutlive (f.ended).signature.lifetimes (f.ended).signature.outlives κs) (a : Args f.signature κs)
+    where
+      abbrev before : Val
+      before = vptr a.0.ref_ptr.0 a.0.ref_ptr.1
 
-    abbrev named_by : Val
-    named_by = vptr a.1.0.ref_ptr.0 a.1.0.ref_ptr.1
+      abbrev named_by : Val
+      named_by = vptr a.1.0.ref_ptr.0 a.1.0.ref_ptr.1
 
-    abbrev bound : (walk_of 𝓛 f.ended stayed (f.clauses 𝓛 mem run)).Ghost
-    bound = ((κs, qs, bounds, a, (before ∷ [], (named_by ∷ [], tt))), tt)
+      abbrev bound : (walk_of 𝓛 f.ended stayed (f.clauses 𝓛 mem run)).Ghost
+      bound = ((κs, qs, bounds, a, (before ∷ [], (named_by ∷ [], tt))), tt)
 
-    abbrev passed : Fml
-    passed = owns (types_at f.signature.params κs) a (before ∷ [], (named_by ∷ [], tt))
+      abbrev passed : Fml
+      passed = owns (types_at f.signature.params κs) a (before ∷ [], (named_by ∷ [], tt))
 
-    walk : ent 𝓤 (on_entry 𝓛 f.signature κs qs a (before ∷ [], (named_by ∷ [], tt)))
-        (WpFn 𝓤 H C Λ code.function (before ∷ named_by ∷ [])
-        ((walk_of 𝓛 f.ended stayed (f.clauses 𝓛 mem run)).post bound))
-    walk =
-        qed 𝓛 (raw (alive 𝓛 f.signature κs qs) ∷ ‵ passed ∷ []) ∵ enter ! C Λ code.function (before ∷ named_by ∷ []) _ $
-        alloc_all ! (λ l. pass_all ! refl ((tt, tt), ((tt, tt), tt)) $ sets ! (agg ! (no_more !)) refl (tt, tt) $
-        returns ! (look_at ! 0 refl) $ free_all ! refl $
-        suffices ! _ (ends_at 𝓛 f.ended stayed (f.clauses 𝓛 mem run) bound (vstruct vnil)
-        (record { list = ack_of a.1.0.now ∷ a.0.now.list }) (tt, (tt, tt)) (tt, (tt, tt))) $
-        says ! refl $ pure_i ! (trail.the_row.own_val (record { list = ack_of a.1.0.now ∷ a.0.now.list })
-        (vstruct vnil ∷ [])) ((λ vss. (tt, tt)), tt) ((tt, (refl, tt)), tt) $
-        move ! (1 ∷ 2 ∷ 0 ∷ []) $ done !)
+      walk : ent 𝓤 (on_entry 𝓛 f.signature κs qs a (before ∷ [], (named_by ∷ [], tt)))
+          (WpFn 𝓤 H C Λ code.function (before ∷ named_by ∷ [])
+          ((walk_of 𝓛 f.ended stayed (f.clauses 𝓛 mem run)).post bound))
+      walk =
+          qed 𝓛 (raw (alive 𝓛 f.signature κs qs) ∷ ‵ passed ∷ []) ∵ enter ! C Λ code.function (before ∷ named_by ∷ []) _ $
+          alloc_all ! (λ l. pass_all ! refl ((tt, tt), ((tt, tt), tt)) $ sets ! (agg ! (no_more !)) refl (tt, tt) $
+          returns ! (look_at ! 0 refl) $ free_all ! refl $
+          suffices ! _ (ends_at 𝓛 f.ended stayed (f.clauses 𝓛 mem run) bound (vstruct vnil)
+          (record { list = ack_of a.1.0.now ∷ a.0.now.list }) (tt, (tt, tt)) (tt, (tt, tt))) $
+          says ! refl $ pure_i ! (trail.the_row.own_val (record { list = ack_of a.1.0.now ∷ a.0.now.list })
+          (vstruct vnil ∷ [])) ((λ vss. (tt, tt)), tt) ((tt, (refl, tt)), tt) $
+          move ! (1 ∷ 2 ∷ 0 ∷ []) $ done !)
 
   walks : Walks 𝓛 f.ended stayed (WpFn 𝓤 H C Λ code.function) (f.clauses 𝓛 mem run)
   walks =
       walked 𝓛 f.ended stayed (f.clauses 𝓛 mem run) (WpFn 𝓤 H C Λ code.function) (λ κs. (shr_vals, (shr_vals, tt)))
-      (λ κs. (shr_Tells (named 0) κs.0 trail.the_row, (shr_Tells (named 1) κs.1.0 (handed.the_row (named_lft 3 2 tt κs)), tt)))
+      (λ κs. (
+        shr_Tells (named 0) κs.0 trail.the_row,
+        (
+          shr_Tells (named 1) κs.1.0
+              (handed.the_row (named_lft 3 2 tt κs)),
+          tt,
+        ),
+      ))
       (λ κs qs bounds a g are. via 𝓤 _ (fst∗ 𝓤 _ (emp 𝓤)) (walk κs qs bounds a))
 
 meets : {M : Type 1} {𝓤 : Ura M} (𝓛 : Logic 𝓤) (mem : Memory → SProp 𝓤) (run : Routine → Fun 𝓤) (𝓣 : Tables 𝓤 𝓛.H)

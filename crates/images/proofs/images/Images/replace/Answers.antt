@@ -31,7 +31,8 @@ returns-clause-ok c =
     let place = rw c.as_slice.ensures.value at c.in-Some.ensures.found in
     let images = changed_is (the_view c.self.inside) c.self.invariant.1 c.args.id c.in-Some.at place
     c.index_mut-image.result.now c.index_mut-image.ensures.value (replaced_by c.args.segment) in
-    rw (← c.self.view_is, c.replace.ensures) (ap (λ (xs : List Image). record (the_view c.self.inside) { images = xs }) images)
+    rw (← c.self.view_is, c.replace.ensures) (ap (λ (xs : List Image). record (the_view c.self.inside) { images = xs })
+    images)
 
 pub returns-then-count-self-clause-no_room : goal.returns-then-count-self-clause-no_room
 returns-then-count-self-clause-no_room c =

@@ -16,7 +16,8 @@ loop-replica-preserved c =
     let test = c.loop-replica-test.true in
     let elsewhere = c.if-home-backup.false in
     let here = c.home.ensures in
-    let other : (home c.args.self.now c.args.failed.now c.args.segment c.loop-replica.replica == c.args.backup) ≡ false =
+    let other : (home c.args.self.now c.args.failed.now c.args.segment c.loop-replica.replica == c.args.backup)
+    ≡ false =
     grind (arith, nat_tests) in
     let more : suc c.loop-replica.replica ≡ c.loop-replica.replica + 1 = omega arith in (
       omega (arith, test),

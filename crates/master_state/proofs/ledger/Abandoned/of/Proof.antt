@@ -42,28 +42,29 @@ module _ {M : Type 1} {𝓤 : Ura M} (𝓛 : Logic 𝓤) (mem : Memory → SProp
   open 𝓛 use {H}
 
   module _ (κs : Lfts 1) (qs : Shares 1)
-      (bounds : AllOutlive (f.ended).signature.lifetimes (f.ended).signature.outlives κs) (a : Args f.signature κs) where
-    abbrev before : Val
-    before = vptr a.0.ref_ptr.0 a.0.ref_ptr.1
+      (bounds : AllOutlive (f.ended).signature.lifetimes (f.ended).signature.outlives κs) (a : Args f.signature κs)
+    where
+      abbrev before : Val
+      before = vptr a.0.ref_ptr.0 a.0.ref_ptr.1
 
-    abbrev bound : (walk_of 𝓛 f.ended stayed (f.clauses 𝓛 mem run)).Ghost
-    bound = ((κs, qs, bounds, a, (before ∷ [], tt)), tt)
+      abbrev bound : (walk_of 𝓛 f.ended stayed (f.clauses 𝓛 mem run)).Ghost
+      bound = ((κs, qs, bounds, a, (before ∷ [], tt)), tt)
 
-    abbrev passed : Fml
-    passed = owns (types_at f.signature.params κs) a (before ∷ [], tt)
+      abbrev passed : Fml
+      passed = owns (types_at f.signature.params κs) a (before ∷ [], tt)
 
-    walk : ent 𝓤 (on_entry 𝓛 f.signature κs qs a (before ∷ [], tt))
-        (WpFn 𝓤 H C Λ code.function (before ∷ [])
-        ((walk_of 𝓛 f.ended stayed (f.clauses 𝓛 mem run)).post bound))
-    walk =
-        qed 𝓛 (raw (alive 𝓛 f.signature κs qs) ∷ ‵ passed ∷ []) ∵ enter ! C Λ code.function (before ∷ []) _ $
-        alloc_all ! (λ l. pass_all ! refl ((tt, tt), tt) $ sets ! (agg ! (no_more !)) refl (tt, tt) $
-        returns ! (look_at ! 0 refl) $ free_all ! refl $
-        suffices ! _ (ends_at 𝓛 f.ended stayed (f.clauses 𝓛 mem run) bound (vstruct vnil)
-        (record { heads = new_heads_in a.0.now }) (tt, tt) (tt, tt)) $
-        says ! refl $ pure_i ! (made.the_row.own_val (record { heads = new_heads_in a.0.now })
-        (vstruct vnil ∷ [])) ((λ vss. (tt, tt)), tt) ((tt, (refl, tt)), tt) $
-        move ! (1 ∷ 2 ∷ 0 ∷ []) $ done !)
+      walk : ent 𝓤 (on_entry 𝓛 f.signature κs qs a (before ∷ [], tt))
+          (WpFn 𝓤 H C Λ code.function (before ∷ [])
+          ((walk_of 𝓛 f.ended stayed (f.clauses 𝓛 mem run)).post bound))
+      walk =
+          qed 𝓛 (raw (alive 𝓛 f.signature κs qs) ∷ ‵ passed ∷ []) ∵ enter ! C Λ code.function (before ∷ []) _ $
+          alloc_all ! (λ l. pass_all ! refl ((tt, tt), tt) $ sets ! (agg ! (no_more !)) refl (tt, tt) $
+          returns ! (look_at ! 0 refl) $ free_all ! refl $
+          suffices ! _ (ends_at 𝓛 f.ended stayed (f.clauses 𝓛 mem run) bound (vstruct vnil)
+          (record { heads = new_heads_in a.0.now }) (tt, tt) (tt, tt)) $
+          says ! refl $ pure_i ! (made.the_row.own_val (record { heads = new_heads_in a.0.now })
+          (vstruct vnil ∷ [])) ((λ vss. (tt, tt)), tt) ((tt, (refl, tt)), tt) $
+          move ! (1 ∷ 2 ∷ 0 ∷ []) $ done !)
 
   walks : Walks 𝓛 f.ended stayed (WpFn 𝓤 H C Λ code.function) (f.clauses 𝓛 mem run)
   walks =

@@ -13,7 +13,8 @@ invariant_of-self c =
       c.self.invariant.1,
       forgot_core d room c.min-most.result c.forget.new.self c.forget.ensures c.self.invariant.2,
       c.self.invariant.3,
-      forgot_tallied d room c.min-most.result c.forget.new.self c.forget.ensures c.self.inside.tallies c.self.invariant.4,
+      forgot_tallied d room c.min-most.result c.forget.new.self c.forget.ensures c.self.inside.tallies
+          c.self.invariant.4,
     )
 
 pub returns-clause-forgets : goal.returns-clause-forgets

@@ -38,7 +38,8 @@ returns-in-Waits c = λ first t.
 pub refuse-requires : goal.refuse-requires
 refuse-requires c =
     let t = c.requires.tried.1 in
-    (subst (λ (r : Tried). TriesLine c.requires.tried.0.node t.command c.args.self.now.node r) c.in-Refused.is t.tries).0
+    (subst (λ (r : Tried). TriesLine c.requires.tried.0.node t.command c.args.self.now.node r) c.in-Refused.is
+    t.tries).0
 
 pub returns-in-Refused : goal.returns-in-Refused
 returns-in-Refused c = λ first t.

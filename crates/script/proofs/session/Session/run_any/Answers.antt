@@ -18,15 +18,18 @@ returns-in-Idle-clause-ran g c =
     (λ config number. stays_told s.node config Idle Silent (λ d at x. (refl, refl))) refl refl refl refl tt))
 
 pub returns-in-Hex-clause-ran : goal.returns-in-Hex-clause-ran
-returns-in-Hex-clause-ran g c = rw c.in-Hex.is (inl (node_answers c.args.self.now (Hex c.in-Hex.segment) c.args.self.now.node
+returns-in-Hex-clause-ran g c = rw c.in-Hex.is (inl (node_answers c.args.self.now (Hex c.in-Hex.segment)
+    c.args.self.now.node
     c.hex.result (λ config number. c.hex.ensures.told config) (refl, c.hex.ensures.shown) refl refl refl tt))
 
 pub returns-in-Stop-clause-ran : goal.returns-in-Stop-clause-ran
-returns-in-Stop-clause-ran g c = rw c.in-Stop.is (inl (node_answers c.args.self.now (Stop c.in-Stop.takes) c.stop.new.self
+returns-in-Stop-clause-ran g c = rw c.in-Stop.is (inl (node_answers c.args.self.now (Stop c.in-Stop.takes)
+    c.stop.new.self
     c.stop.result (λ config number. c.stop.ensures.told config) c.stop.ensures.limited refl refl refl tt))
 
 pub returns-in-Fault-clause-ran : goal.returns-in-Fault-clause-ran
-returns-in-Fault-clause-ran g c = rw c.in-Fault.is (inl (node_answers c.args.self.now (Fault c.in-Fault.takes c.in-Fault.taken) c.fault.new.self
+returns-in-Fault-clause-ran g c = rw c.in-Fault.is (inl (node_answers c.args.self.now
+    (Fault c.in-Fault.takes c.in-Fault.taken) c.fault.new.self
     c.fault.result (λ config number. c.fault.ensures.told config) c.fault.ensures.same refl refl refl tt))
 
 pub returns-in-Crash-clause-ran : goal.returns-in-Crash-clause-ran
@@ -34,7 +37,8 @@ returns-in-Crash-clause-ran g c = rw c.in-Crash.is (inl (node_answers c.args.sel
     c.crash.result (λ config number. c.crash.ensures.told config) c.crash.ensures.dropped refl refl refl tt))
 
 pub returns-in-Lose-2-clause-ran : goal.returns-in-Lose-2-clause-ran
-returns-in-Lose-2-clause-ran g c = rw c.in-Lose-2.is (inl (node_answers c.args.self.now (Lose c.in-Lose-2.backup) c.lose.new.self
+returns-in-Lose-2-clause-ran g c = rw c.in-Lose-2.is (inl (node_answers c.args.self.now (Lose c.in-Lose-2.backup)
+    c.lose.new.self
     c.lose.result (λ config number. c.lose.ensures.told config) c.lose.ensures.lost refl refl refl tt))
 
 pub returns-in-Roll-clause-ran : goal.returns-in-Roll-clause-ran
@@ -46,20 +50,25 @@ returns-in-BeginRoll-clause-ran g c = rw c.in-BeginRoll.is (inl (node_answers c.
     c.step.result (λ config number. c.step.ensures.told config) c.step.ensures.stepped refl refl refl tt))
 
 pub returns-in-Compact-clause-ran : goal.returns-in-Compact-clause-ran
-returns-in-Compact-clause-ran g c = rw c.in-Compact.is (inl (node_answers c.args.self.now (Compact c.in-Compact.segment) c.step-in-Compact.new.self
-    c.step-in-Compact.result (λ config number. c.step-in-Compact.ensures.told config) c.step-in-Compact.ensures.stepped refl refl refl tt))
+returns-in-Compact-clause-ran g c = rw c.in-Compact.is (inl (node_answers c.args.self.now
+    (Compact c.in-Compact.segment) c.step-in-Compact.new.self
+    c.step-in-Compact.result (λ config number. c.step-in-Compact.ensures.told config) c.step-in-Compact.ensures.stepped
+    refl refl refl tt))
 
 pub returns-in-Push-clause-ran : goal.returns-in-Push-clause-ran
 returns-in-Push-clause-ran g c = rw c.in-Push.is (inl (node_answers c.args.self.now Push c.step-in-Push.new.self
-    c.step-in-Push.result (λ config number. c.step-in-Push.ensures.told config) c.step-in-Push.ensures.stepped refl refl refl tt))
+    c.step-in-Push.result (λ config number. c.step-in-Push.ensures.told config) c.step-in-Push.ensures.stepped refl
+    refl refl tt))
 
 pub returns-in-Log-clause-ran : goal.returns-in-Log-clause-ran
 returns-in-Log-clause-ran g c = rw c.in-Log.is (inl (node_answers c.args.self.now Log c.args.self.now.node
     c.log.result (λ config number. c.log.ensures.told config) (refl, c.log.ensures.shown) refl refl refl tt))
 
 pub returns-in-Segments-clause-ran : goal.returns-in-Segments-clause-ran
-returns-in-Segments-clause-ran g c = rw c.in-Segments.is (inl (node_answers c.args.self.now Segments c.args.self.now.node
-    c.segments.result (λ config number. c.segments.ensures.told config) (refl, c.segments.ensures.shown) refl refl refl tt))
+returns-in-Segments-clause-ran g c = rw c.in-Segments.is (inl
+    (node_answers c.args.self.now Segments c.args.self.now.node
+    c.segments.result (λ config number. c.segments.ensures.told config) (refl, c.segments.ensures.shown) refl refl refl
+    tt))
 
 pub returns-in-Room-clause-ran : goal.returns-in-Room-clause-ran
 returns-in-Room-clause-ran g c = rw c.in-Room.is (inl (node_answers c.args.self.now Room c.args.self.now.node
@@ -75,23 +84,29 @@ returns-in-Live-clause-ran g c = rw c.in-Live.is (inl (node_answers c.args.self.
     c.live.result (λ config number. c.live.ensures.told config) (refl, c.live.ensures.shown) refl refl refl tt))
 
 pub returns-in-Holdings-clause-ran : goal.returns-in-Holdings-clause-ran
-returns-in-Holdings-clause-ran g c = rw c.in-Holdings.is (inl (node_answers c.args.self.now Holdings c.args.self.now.node
-    c.holdings.result (λ config number. c.holdings.ensures.told config) (refl, c.holdings.ensures.shown) refl refl refl tt))
+returns-in-Holdings-clause-ran g c = rw c.in-Holdings.is (inl
+    (node_answers c.args.self.now Holdings c.args.self.now.node
+    c.holdings.result (λ config number. c.holdings.ensures.told config) (refl, c.holdings.ensures.shown) refl refl refl
+    tt))
 
 pub returns-in-Copy-clause-ran : goal.returns-in-Copy-clause-ran
 returns-in-Copy-clause-ran g c = rw c.in-Copy.is (inl (node_answers c.args.self.now Copy c.step-in-Copy.new.self
-    c.step-in-Copy.result (λ config number. c.step-in-Copy.ensures.told config) c.step-in-Copy.ensures.stepped refl refl refl tt))
+    c.step-in-Copy.result (λ config number. c.step-in-Copy.ensures.told config) c.step-in-Copy.ensures.stepped refl
+    refl refl tt))
 
 pub returns-in-Seal-clause-ran : goal.returns-in-Seal-clause-ran
 returns-in-Seal-clause-ran g c = rw c.in-Seal.is (inl (node_answers c.args.self.now Seal c.step-in-Seal.new.self
-    c.step-in-Seal.result (λ config number. c.step-in-Seal.ensures.told config) c.step-in-Seal.ensures.stepped refl refl refl tt))
+    c.step-in-Seal.result (λ config number. c.step-in-Seal.ensures.told config) c.step-in-Seal.ensures.stepped refl
+    refl refl tt))
 
 pub returns-in-Free-clause-ran : goal.returns-in-Free-clause-ran
 returns-in-Free-clause-ran g c = rw c.in-Free.is (inl (node_answers c.args.self.now Free c.step-in-Free.new.self
-    c.step-in-Free.result (λ config number. c.step-in-Free.ensures.told config) c.step-in-Free.ensures.stepped refl refl refl tt))
+    c.step-in-Free.result (λ config number. c.step-in-Free.ensures.told config) c.step-in-Free.ensures.stepped refl
+    refl refl tt))
 
 pub returns-in-Tend-clause-ran : goal.returns-in-Tend-clause-ran
-returns-in-Tend-clause-ran g c = rw c.in-Tend.is (inl (node_answers c.args.self.now (Tend c.in-Tend.steps) c.tend.new.self
+returns-in-Tend-clause-ran g c = rw c.in-Tend.is (inl (node_answers c.args.self.now (Tend c.in-Tend.steps)
+    c.tend.new.self
     c.tend.result (λ config number. c.tend.ensures.told config) c.tend.ensures.tended refl refl refl tt))
 
 pub returns-in-Recover-clause-ran : goal.returns-in-Recover-clause-ran

@@ -17,7 +17,8 @@ returns-clause-ran c =
     c.set_later.ensures.set yes ∙ ap (λ (l : Later). record s { later = l }) later in
     let may : MayBegin (later_after (Seglets c.args.seglets) s.later) s.options =
     subst (λ (l : Later). MayBegin l s.options) later (c.set_later.ensures.begins yes) in
-    subst (λ (x : Session). SessionAnswers s (Seglets c.args.seglets) x (answer.Seglets c.args.seglets)) (sym is) (seglets_answers s c.args.seglets may)
+    subst (λ (x : Session). SessionAnswers s (Seglets c.args.seglets) x (answer.Seglets c.args.seglets)) (sym is)
+    (seglets_answers s c.args.seglets may)
 
 pub returns-then-not-set_later-clause-refused : goal.returns-then-not-set_later-clause-refused
 returns-then-not-set_later-clause-refused c =

@@ -31,7 +31,8 @@ pub returns-in-Some-more-clause-grown : goal.returns-in-Some-more-clause-grown
 returns-in-Some-more-clause-grown c = rw (← c.self.view_is) (
     let place = subst (λ (xs : List Tally). IsPlaceOf xs c.args.segment c.in-Some.at) c.as_slice.ensures.value
     c.in-Some.ensures.found in
-    changed c.self.inside.rows.items c.args.segment c.in-Some.at c.index.result.now c.self.invariant place c.index.ensures
+    changed c.self.inside.rows.items c.args.segment c.in-Some.at c.index.result.now c.self.invariant place
+    c.index.ensures
     (more c.args.live c.args.stones) c.in-Some-more.row c.in-Some-more.ensures.some)
 
 pub returns-in-Some-more-clause-kept : goal.returns-in-Some-more-clause-kept

@@ -39,7 +39,8 @@ invariant_of-self-in-None c =
     c.as_slice-in-None.ensures.value c.place_for-at.ensures in
     let none = subst (λ (xs : List Tally). HasNo c.args.segment xs) c.as_slice.ensures.value c.in-None.ensures.absent in
     subst (λ (xs : List Tally). AreRising xs) (sym c.insert.ensures.items)
-    (inserted_rises (is_ok c.insert.result) rows c.args.segment c.place_for-at.result one c.self.invariant place none refl)
+    (inserted_rises (is_ok c.insert.result) rows c.args.segment c.place_for-at.result one c.self.invariant place none
+    refl)
 
 pub returns-in-None-clause-put : goal.returns-in-None-clause-put
 returns-in-None-clause-put c = rw (← c.self.view_is) (

@@ -15,7 +15,8 @@ pub returns-in-Some-clause-shrunk : goal.returns-in-Some-clause-shrunk
 returns-in-Some-clause-shrunk c = rw (← c.self.view_is) (
     let place = subst (λ (xs : List Tally). IsPlaceOf xs c.args.segment c.in-Some.at) c.as_slice.ensures.value
     c.in-Some.ensures.found in
-    changed c.self.inside.rows.items c.args.segment c.in-Some.at c.index.result.now c.self.invariant place c.index.ensures
+    changed c.self.inside.rows.items c.args.segment c.in-Some.at c.index.result.now c.self.invariant place
+    c.index.ensures
     (less c.args.live) c.less.result c.less.ensures)
 
 pub returns-in-Some-clause-kept : goal.returns-in-Some-clause-kept

@@ -1,5 +1,0 @@
-use Rattle.std.proofs.Common.{length}
-use Rattle.log_head.proofs.rolling.+list_before.Given as goal
-
-abbrev pub decreases-list_before : goal.decreases-list_before
-decreases-list_before l = length l.waits.now

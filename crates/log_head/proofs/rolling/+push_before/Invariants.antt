@@ -1,5 +1,0 @@
-use Rattle.std.proofs.Common.{length}
-use Rattle.log_head.proofs.rolling.+push_before.Given as goal
-
-abbrev pub decreases-push_before : goal.decreases-push_before
-decreases-push_before l = length l.waits.now
