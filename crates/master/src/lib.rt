@@ -28,6 +28,7 @@ mod showing;
 mod tallying;
 
 pub use history::{CommandRef, History, RecordRef, ReplyRef, ValueRef};
+pub use images::Image;
 pub use laws::stuck_push_halts;
 pub use loading::Loading;
 pub use master::Master;

@@ -6,13 +6,17 @@ ghost use Rattle.entry.specs.declared.entry.Entry.{Entry};
 ghost use Rattle.entry.specs.Text.{text_of};
 ghost use Rattle.images.specs.Sorted.{segment_of};
 ghost use Rattle.master_core.specs.master_space.Choosing.{kept_bytes};
+ghost use Rattle.master_core.specs.master_state.Invariant.{AreTallied};
 ghost use Rattle.master_core.specs.master_state.Log.{images_of, log_set_ids};
 ghost use Rattle.tally.specs.Opening.{front_of};
 ghost use Rattle.tally.specs.Rows.{IsRight};
 ghost use Rattle.master.specs.World.{world};
 
 use crate::master::Master;
-use master_core::{Tally, image_len_of, kept_bytes_of, opening_len_of, recount, tally_of};
+use images::Image;
+use master_core::{
+    Tally, image_len_of, kept_bytes_of, opening_len_of, recount, tallies_of, tally_of,
+};
 use replica::Fleet;
 
 impl<F: Fleet> Master<F> {
@@ -47,6 +51,20 @@ impl<F: Fleet> Master<F> {
         ensures same { world F.state self.new ≡ world F.state self.old }
     {
         recount(&mut self.core, id);
+    }
+
+    /// The images of the closed segments, by rising id.
+    pub fn closed(&self) -> &[Image]
+        ensures { result.now ≡ self.entry.now.knows.closed }
+    {
+        self.core.closed.as_slice()
+    }
+
+    /// What is counted of segments, by rising id. A segment may have no tally.
+    pub fn tallies(&self) -> &[Tally]
+        ensures { AreTallied self.entry.now.knows result.now }
+    {
+        tallies_of(&self.core)
     }
 
     /// What is counted of a segment, or `None` if it isn't counted. The number of tombstones is exact only if it is

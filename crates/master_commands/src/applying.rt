@@ -92,8 +92,10 @@ pub fn accept(core: &mut Core, seat: u64, command: &CommandRef<'_>) -> Result<u6
         ⊎ ((command_refusal core.old (shown_command command.now) ≡ None) × (r ≡ Refusal.NoMemory))) }
     ensures err { OnErr result (core.new ≡ core.old) }
 {
-    let judged = weigh(core, command)?;
-    Ok(add_judged(core, seat, command, &judged)?)
+    match weigh(core, command) {
+        Ok(judged) => Ok(add_judged(core, seat, command, &judged)?),
+        Err(refusal) => Err(refusal),
+    }
 }
 
 /// Makes all tests of a command. Returns what they found, and the reply.

@@ -7,7 +7,7 @@ ghost use Rattle.entry.specs.declared.entry.Entry.{Entry};
 ghost use Rattle.entry.specs.Text.{text_of};
 ghost use Rattle.images.specs.Sorted.{segment_of};
 ghost use Rattle.master_space.specs.Choosing.{kept_bytes};
-ghost use Rattle.master_state.specs.Invariant.{IsCore};
+ghost use Rattle.master_state.specs.Invariant.{AreTallied, IsCore};
 ghost use Rattle.master_state.specs.Log.{images_of, log_set_ids};
 ghost use Rattle.tally.specs.Live.{live_bytes, stone_bytes};
 ghost use Rattle.tally.specs.Opening.{front_of};
@@ -77,6 +77,13 @@ pub fn tally_of(core: &Core, id: u64) -> Option<Tally>
         × IsRight (log_set_ids core.now) core.now.index (images_of core.now) row) }
 {
     core.tallies.get(id)
+}
+
+/// Returns what is counted of segments, by rising id.
+pub fn tallies_of(core: &Core) -> &[Tally]
+    ensures { AreTallied core.entry.now result.now }
+{
+    core.tallies.as_slice()
 }
 
 /// Returns how many bytes a closed segment's live objects and its kept tombstones have, or `None` if no closed segment

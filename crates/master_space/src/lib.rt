@@ -22,7 +22,7 @@ mod victims;
 pub use choosing::{choose, next_step};
 pub use cleaning::{begin_clean, copy, freed, seal_op, sealed, to_free, to_seal};
 pub use compacting::compact_segment;
-pub use counts::{image_len_of, kept_bytes_of, opening_len_of, recount, tally_of};
+pub use counts::{image_len_of, kept_bytes_of, opening_len_of, recount, tallies_of, tally_of};
 pub use object_list::ObjectList;
 pub use objects::sorted_objects;
 pub use pending::pending_step;

@@ -100,6 +100,13 @@ impl Tallies {
         }
     }
 
+    /// Returns all tallies, by rising id of their segments.
+    pub fn as_slice(&self) -> &[Tally]
+        ensures { result.now ≡ self.entry.now }
+    {
+        self.rows.as_slice()
+    }
+
     /// Reserves memory for so many more, if there is some.
     pub fn reserve(&mut self, more: usize)
         ensures { self.new ≡ self.old }

@@ -18,16 +18,15 @@ use std::alloc::Global;
 const MOST_VICTIMS: usize = 32;
 
 /// The segment whose compaction gives back most seglets for what it keeps, if one gives back any.
-fn best_of(policy: &Policy, weights: &[Weight]) -> Option<u64> {
+fn best_of(weights: &[Weight]) -> Option<u64> {
     let mut best = None;
     let mut best_gain: u64 = 0;
     let mut best_cost: u64 = 1;
     for weight in weights {
-        let gain = policy.gain(weight);
         let cost = weight.kept.saturating_add(1);
-        if product(gain, best_cost) > product(best_gain, cost) {
+        if product(weight.gain, best_cost) > product(best_gain, cost) {
             best = Some(weight.id);
-            best_gain = gain;
+            best_gain = weight.gain;
             best_cost = cost;
         }
     }
@@ -53,17 +52,16 @@ struct Choice {
 }
 
 /// The segment that keeps least for what it gives back, of those that keep so many bytes at most and aren't taken yet.
-fn cheapest(policy: &Policy, weights: &[Weight], most: u64, taken: &[u64]) -> Option<Weight> {
+fn cheapest(weights: &[Weight], most: u64, taken: &[u64]) -> Option<Weight> {
     let mut best: Option<Weight> = None;
     let mut best_kept: u64 = 1;
     let mut best_gives: u64 = 0;
     for weight in weights {
-        let gives = policy.gives(weight);
-        let is_better = product(weight.kept, best_gives) < product(best_kept, gives);
+        let is_better = product(weight.kept, best_gives) < product(best_kept, weight.gives);
         if is_better && weight.kept <= most && !taken.contains(&weight.id) {
             best = Some(*weight);
             best_kept = weight.kept;
-            best_gives = gives;
+            best_gives = weight.gives;
         }
     }
     best
@@ -85,11 +83,11 @@ fn choose(
     let space = policy.space_of(policy.survivors_in(free));
     for _ in 0..MOST_VICTIMS {
         let left = space.saturating_sub(choice.kept);
-        match cheapest(policy, weights, left, choice.victims.as_slice()) {
+        match cheapest(weights, left, choice.victims.as_slice()) {
             Some(weight) => {
                 choice.victims.push(weight.id)?;
                 choice.kept = choice.kept.saturating_add(weight.kept);
-                choice.seglets = choice.seglets.saturating_add(policy.seglets(weight.len));
+                choice.seglets = choice.seglets.saturating_add(weight.seglets);
             }
             None => return Ok(choice),
         }
@@ -169,8 +167,8 @@ fn begin_by<F: Fleet>(
     ensures some { IfOk result (λ step. IfSome step IsBegin) }
     ensures none { IfOk result (λ step. step ≡ None → MayRest policy.now master.now.knows) }
 {
-    let weights = weigh_all(master, notes)?;
-    let best = best_of(policy, weights.as_slice());
+    let weights = weigh_all(master, policy, notes)?;
+    let best = best_of(weights.as_slice());
     if let Some(id) = best {
         if !wants_pass(master, policy, weights.as_slice()) {
             return Ok(Some(Step::Compact(id)));

@@ -11,6 +11,7 @@
 mod behind;
 mod choosing;
 mod notes;
+mod places;
 mod policy;
 mod rounds;
 mod steps;

@@ -1,5 +1,6 @@
 //! What a cleaner has noted of the tombstones of closed segments.
 
+use crate::places::{id_place, image_place};
 use driving::master::Master;
 use entry::{EntryRef, NoMemory, TOMBSTONE_LEN};
 use replica::Fleet;
@@ -84,11 +85,7 @@ impl Notes {
         let ids = row.as_slice();
         let gone = self.gone(ids)?;
         self.forget(gone.as_slice());
-        for id in ids {
-            if *id != master.head() {
-                self.add(master, ids, *id)?;
-            }
-        }
+        self.add_all(master, ids)?;
         self.head = master.head();
         Ok(())
     }
@@ -96,9 +93,11 @@ impl Notes {
     /// The noted segments that aren't among these.
     fn gone(&self, ids: &[u64]) -> Result<Vec<u64>, NoMemory> {
         let mut gone = Vec::new(self.alloc());
+        let mut next = 0;
         for note in self.notes.iter() {
-            if ids.binary_search(&note.id).is_err() {
-                gone.push(note.id)?;
+            match id_place(ids, next, note.id) {
+                Some(at) => next = at.saturating_add(1),
+                None => gone.push(note.id)?,
             }
         }
         Ok(gone)
@@ -115,14 +114,37 @@ impl Notes {
         }
     }
 
-    /// Notes a closed segment, if it isn't noted yet.
-    fn add<F: Fleet>(&mut self, master: &Master<F>, ids: &[u64], id: u64) -> Result<(), NoMemory> {
+    /// Notes the segments of a digest that lists these, but for the head and those that are noted.
+    fn add_all<F: Fleet>(&mut self, master: &Master<F>, ids: &[u64]) -> Result<(), NoMemory> {
+        let mut next = 0;
+        for id in ids {
+            if self.is_noted_at(next, *id) {
+                next = next.saturating_add(1);
+            } else if *id != master.head() {
+                next = self.add(master, ids, *id)?.saturating_add(1);
+            }
+        }
+        Ok(())
+    }
+
+    /// Whether the note at this place is that of the segment.
+    fn is_noted_at(&self, at: usize, id: u64) -> bool {
+        at < self.notes.len() && self.notes[at].id == id
+    }
+
+    /// Notes a segment, if it isn't noted yet, and returns the place of its note.
+    fn add<F: Fleet>(
+        &mut self,
+        master: &Master<F>,
+        ids: &[u64],
+        id: u64,
+    ) -> Result<usize, NoMemory> {
         match self.notes.binary_search_by_key(&id, |note| note.id) {
-            Ok(_) => Ok(()),
+            Ok(at) => Ok(at),
             Err(at) => {
                 let note = note_of(self.alloc(), master, ids, id)?;
                 self.notes.insert(at, note)?;
-                Ok(())
+                Ok(at)
             }
         }
     }
@@ -140,15 +162,16 @@ impl Note {
     }
 }
 
-/// Reads a closed segment of a digest that lists these.
+/// Reads a segment of a digest that lists these. The note of one that isn't closed is empty.
 fn note_of<F: Fleet>(
     alloc: Global,
     master: &Master<F>,
     ids: &[u64],
     id: u64,
 ) -> Result<Note, NoMemory> {
-    let mut named = match &master.image(id)? {
-        Some(image) => all_named(alloc, image.as_slice())?,
+    let images = master.closed();
+    let mut named = match image_place(images, images.len(), id) {
+        Some(at) => all_named(alloc, &images[at].segment())?,
         None => Vec::new(alloc),
     };
     named.sort_unstable_by_key(|one| one.segment);
@@ -161,12 +184,9 @@ fn note_of<F: Fleet>(
     })
 }
 
-/// The tombstones of a segment's bytes, each by itself.
-fn all_named(alloc: Global, bytes: &[u8]) -> Result<Vec<Named>, NoMemory> {
+/// The tombstones of a segment, each by itself.
+fn all_named(alloc: Global, segment: &SegmentRef<'_>) -> Result<Vec<Named>, NoMemory> {
     let mut named = Vec::new(alloc);
-    let Ok(segment) = SegmentRef::read(bytes) else {
-        return Ok(named);
-    };
     for entry in segment.entries() {
         let entry: EntryRef<'_> = entry;
         if let EntryRef::Tombstone(tombstone) = &entry {

@@ -99,21 +99,6 @@ impl Policy {
         bytes.div_ceil(self.seglet.max(1))
     }
 
-    /// How many seglets a compaction of the segment gives back.
-    pub(crate) fn gain(&self, weight: &Weight) -> u64 {
-        let before = self.seglets(weight.len);
-        let after = self.seglets(weight.kept.saturating_add(weight.opening));
-        before.saturating_sub(after)
-    }
-
-    /// How many bytes of memory a pass over the segment gives back, but for what is kept of it.
-    pub(crate) fn gives(&self, weight: &Weight) -> u64 {
-        self.seglets(weight.len)
-            .saturating_mul(self.seglet)
-            .saturating_sub(weight.kept)
-            .saturating_add(1)
-    }
-
     /// Whether there is memory for so many survivors and the head of the commit.
     pub(crate) fn has_memory_for(&self, free: u64, survivors: u64) -> bool {
         product(free, self.seglet) >= product(survivors.saturating_add(1), self.segment)

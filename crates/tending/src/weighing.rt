@@ -4,22 +4,26 @@ ghost use Rattle.std.specs.Prelude.{◌≡◌};
 ghost use Rattle.driving.specs.master.World.{world};
 
 use crate::notes::{Note, Notes};
+use crate::places::{image_place, tally_place};
+use crate::policy::Policy;
 use driving::master::Master;
 use entry::NoMemory;
 use replica::Fleet;
 
-/// What a closed segment keeps.
+/// What a closed segment keeps, and what cleaning it gives back.
 #[derive(Clone, Copy)]
 pub(crate) struct Weight {
     pub id: u64,
-    /// The bytes of its image.
-    pub len: u64,
-    /// The bytes of its opening, which a compaction keeps too.
-    pub opening: u64,
+    /// The seglets of its image.
+    pub seglets: u64,
     /// The bytes of its kept objects and tombstones.
     pub kept: u64,
     /// The bytes of its kept tombstones.
     pub stones: u64,
+    /// How many seglets a compaction of the segment gives back.
+    pub gain: u64,
+    /// How many bytes of memory a pass over the segment gives back, but for what is kept of it.
+    pub gives: u64,
 }
 
 /// Counts the live objects of the segments of the digest in force that weren't counted yet.
@@ -27,40 +31,55 @@ pub(crate) fn count_all<F: Fleet>(master: &mut Master<F>) -> Result<(), NoMemory
     ensures { world F.state master.new ≡ world F.state master.old }
 {
     let ids = master.digest()?;
+    let mut next = 0;
     for id in ids.as_slice() {
-        if master.tally(*id).is_none() {
-            master.recount(*id);
+        match tally_place(master.tallies(), next, *id) {
+            Some(at) => next = at.saturating_add(1),
+            None => master.recount(*id),
         }
     }
     Ok(())
 }
 
-/// The weight of a noted segment, if it is closed.
-fn weigh<F: Fleet>(master: &Master<F>, note: &Note) -> Option<Weight> {
-    let len = master.image_len(note.id)? as u64;
-    let kept = match master.tally(note.id) {
-        Some(tally) => u64::from(tally.live).saturating_add(note.stones),
-        None => master.kept_bytes(note.id)? as u64,
-    };
-    let stones = note.stones.min(kept);
-    Some(Weight {
+/// The weight of a segment with this note, whose image has `len` bytes and of which `kept` are kept.
+fn weight(policy: &Policy, note: &Note, len: u64, kept: u64) -> Weight {
+    let seglets = policy.seglets(len);
+    let after = policy.seglets(kept.saturating_add(note.opening));
+    Weight {
         id: note.id,
-        len,
-        opening: note.opening,
+        seglets,
         kept,
-        stones,
-    })
+        stones: note.stones.min(kept),
+        gain: seglets.saturating_sub(after),
+        gives: seglets
+            .saturating_mul(policy.seglet)
+            .saturating_sub(kept)
+            .saturating_add(1),
+    }
 }
 
-/// The weights of the noted segments. It reads no segment that was counted.
+/// The weights of the noted segments that are closed. The call goes once through the notes, the images and the tallies,
+/// which are all by rising id, and reads no segment that was counted.
 pub(crate) fn weigh_all<F: Fleet>(
     master: &Master<F>,
+    policy: &Policy,
     notes: &Notes,
 ) -> Result<Vec<Weight>, NoMemory> {
+    let (images, tallies) = (master.closed(), master.tallies());
+    let (mut image, mut tally) = (0, 0);
     let mut weights = Vec::with_capacity(notes.alloc(), notes.as_slice().len())?;
     for note in notes.as_slice() {
-        if let Some(weight) = weigh(master, note) {
-            weights.push(weight)?;
+        if let Some(at) = image_place(images, image, note.id) {
+            image = at.saturating_add(1);
+            let kept = match tally_place(tallies, tally, note.id) {
+                Some(at) => {
+                    tally = at.saturating_add(1);
+                    u64::from(tallies[at].live).saturating_add(note.stones)
+                }
+                None => master.kept_bytes(note.id).unwrap_or(0) as u64,
+            };
+            let len = images[at].bytes_len() as u64;
+            weights.push(weight(policy, note, len, kept))?;
         }
     }
     Ok(weights)
