@@ -926,9 +926,15 @@ impl Master {
             let image = self.images[id as usize].take().unwrap();
             self.closed -= self.count(image.len());
         }
+        for &id in victims {
+            self.named[id as usize] = None;
+        }
         for (row, named) in self.rows.iter_mut().zip(&mut self.named) {
-            for (_, bytes) in named.iter_mut().flatten().filter(|(id, _)| victims.contains(id)) {
-                row.stones -= std::mem::take(bytes);
+            let Some(named) = named else { continue };
+            for victim in victims {
+                if let Ok(at) = named.binary_search_by_key(victim, |&(id, _)| id) {
+                    row.stones -= std::mem::take(&mut named[at].1);
+                }
             }
         }
         let mut waiting = victims.to_vec();

@@ -80,8 +80,7 @@ impl Node {
     }
 
     /// Makes up to so many steps of the cleaner by the usual policy, and none behind a compaction unless memory is
-    /// tight.
-    /// If a step is refused, what was done stays done, and the node stays as the refusal left it.
+    /// tight. If a step is refused, what was done stays done, and the node stays as the refusal left it.
     fn tend_on(&mut self, notes: &mut Notes, steps: u64)
         ensures stays { StaysOn self.old self.new }
         ensures tends { TendsOn self.old steps self.new }

@@ -63,9 +63,8 @@ IsAnsweredBy is_raw place records pushed printed =
     × (printed ≡ told_short is_raw (durable_of (log_of pushed)) (word_of (number_of why)) place records))
 
 -- A group: the commands of the lines were applied, one after another and nothing else, with the replies of the
--- versioned
--- map. Then they were pushed, and the outcome decides what is printed: each reply is that of a durable record. What
--- followed made no record.
+-- versioned map. Then they were pushed, and the outcome decides what is printed: each reply is that of a durable
+-- record. What followed made no record.
 pub record RunsGroup (is_raw : Bool) (old : MasterData) (lines : List LineValue) (new : MasterData)
     (printed : List ℕ) : Type 0 where
   pub records : List Record

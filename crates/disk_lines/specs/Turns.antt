@@ -34,8 +34,7 @@ IsWritten held holds bytes (Ok done) = Appends held holds bytes
 IsWritten held holds bytes (Err f) = (f ≡ fault.WriteFailed) × AppendsFront held holds bytes
 
 -- The line of a text was run, and what is printed of it was written. Or the writer failed. Or the text says no line,
--- and
--- the reason says why.
+-- and the reason says why.
 abbrev pub PrintsText : Bool → MasterData → MasterData → List ℕ → ℕ → Known → Known → Result (Unit {0}) ScriptFault
     → Type 0
 PrintsText is_raw old new text number held holds (Err (fault.BadLine n why)) = (n ≡ number)

@@ -39,8 +39,7 @@ pub fn run_lines<
     keeps_going: bool,
 ) -> Result<bool, ScriptFault>
     // Each line was run, in order, over the store's own master, by itself or in a group. Exactly what is printed of
-    // them
-    // was written. Each bad line is named.
+    // them was written. Each bad line is named.
     ensures { RunsLines keeps_going is_raw store.old.master.knows store.new.master.knows
         (R.remaining reader.old) (R.remaining reader.new) (W.contents writer.old) (W.contents writer.new)
         errors.old errors.new result }

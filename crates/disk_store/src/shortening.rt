@@ -67,8 +67,7 @@ fn shorten_one(
 }
 
 /// Writes each file of a store anew that is long: `DiskStore::shorten` says when. It is for those who have lent the
-/// store
-/// and its folders apart.
+/// store and its folders apart.
 pub fn shorten(
     rt: &HostRuntime,
     folders: &Folders,

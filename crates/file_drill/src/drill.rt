@@ -35,8 +35,7 @@ pub enum FileDrillFault {
 
 /// Lets a master over files take any steps, and cuts the power, maybe amid one of them. Then a start opens the files of
 /// the backups in `kept`, as the crash left them, and recovers the master from these, and from nothing else, by any
-/// will
-/// and in any order.
+/// will and in any order.
 ///
 /// Each device may fail at any call. A power cut is the call from which on all of them fail; without one the drill ends
 /// behind the last step. The master goes with the drill.

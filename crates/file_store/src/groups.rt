@@ -55,8 +55,8 @@ impl<D: Device, R: FleetRegistry> FileStore<D, R> {
     }
 
     /// What follows so many commands that were applied and pushed: the master forgets records by blocks, and the
-    /// cleaner
-    /// makes up to 32 steps for each command, and none behind a compaction unless memory is tight. No record is made.
+    /// cleaner makes up to 32 steps for each command, and none behind a compaction unless memory is tight. No record is
+    /// made.
     pub fn tidy(&mut self, commands: u64)
         ensures goes_on { GoesOn self.old.master.knows self.new.master.knows [] }
         ensures valid { IsValid self.new.master.knows (fleet_state R.noted self.new.master.fleet) }

@@ -32,8 +32,7 @@ TakesByte old new (Some byte) = Consumes old new (byte ∷ [])
 TakesByte old new None = Consumes old new [] × IsAtEnd new
 
 -- What was taken of the reader: a line with its line feed, a last line of one byte or more without one, the bytes at
--- the
--- front of a line that is too long, one more than a line may have, or nothing at the end.
+-- the front of a line that is too long, one more than a line may have, or nothing at the end.
 abbrev pub TakesLine : Bool → Option (List ℕ) → Option (List ℕ) → List ℕ → Taken → Type 0
 TakesLine is_raw old new line Ended =
     Consumes old new (line ++ 10 ∷ []) × IsLineText is_raw line × EndsLine is_raw line

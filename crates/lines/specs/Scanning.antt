@@ -1,6 +1,5 @@
 -- Which bytes of a line are raw ones. A raw part of a line is its length in decimal digits, a colon, and so many bytes
--- of
--- any kind; it begins where a word begins. A line that begins with `#` has none.
+-- of any kind; it begins where a word begins. A line that begins with `#` has none.
 use Rattle.std.specs.Prelude.{◌≡◌, ◌==◌, ◌*◌, ◌+◌, ◌-◌, ℕ, nat_le, if◌then◌else◌, ◌&&◌, Bool, true, false, List, []}
 use Rattle.std.specs.Prelude.{◌∷◌}
 use Rattle.lines.specs.declared.scan.Scan.{Scan}

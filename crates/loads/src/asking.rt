@@ -110,8 +110,7 @@ fn is_put(command: &Command) -> bool {
 
 /// Makes one call, and answers its reply once its record is durable. If it is refused for want of room in the log or in
 /// the history, the thread cleans or forgets, and calls again. A refusal as Full or as HistoryFull is for good. Behind
-/// a
-/// put it cleans a little while memory is short.
+/// a put it cleans a little while memory is short.
 pub(crate) fn ask<F: Fleet, B: Naming, R: Wait>(
     rt: &R,
     store: &Store<F, B>,

@@ -51,8 +51,7 @@ fn came_of(made: u64, refusal: Option<Refusal>) -> Cleaned {
 }
 
 /// Makes a few steps of the cleaner, of which one at most compacts a segment: that step is as long as many others. A
-/// step
-/// in which a backup is lost counts as made.
+/// step in which a backup is lost counts as made.
 pub(crate) fn clean_a_little<F: Fleet, B: Naming, R: Wait>(
     rt: &R,
     store: &Store<F, B>,
@@ -104,8 +103,7 @@ impl Cleaner {
 }
 
 /// What is noted, once no other thread cleans; None if another one cleans whenever this one looks. Between two looks
-/// other
-/// threads run. Nobody sleeps, so nobody has to be woken.
+/// other threads run. Nobody sleeps, so nobody has to be woken.
 fn free_notes(cleaner: &Cleaner) -> Option<MutexGuard<'_, Notes>> {
     for _ in 0..LOOKS {
         match cleaner.notes.try_lock() {

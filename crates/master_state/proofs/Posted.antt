@@ -1,6 +1,5 @@
 -- A core keeps the invariant when its ledger changes, when it halts, when replicas of its head take more units, and
--- when
--- it forgets records.
+-- when it forgets records.
 use Rattle.std.proofs.Common.{◌≡◌, ℕ, ◌≤◌, Bool, true, List, length, refl, arith}
 use Rattle.std.specs.Prelude.{Option, Some, None, IfSome, not, nat_le}
 use Rattle.std.specs.Option.{option_map_or}

@@ -18,8 +18,7 @@ const NOT_OPENED: u8 = 3;
 
 /// What a new store on the disk has where no word says otherwise: four tables, each segment on all of three backups,
 /// segments of 256 kilobytes, 64 megabytes for the log, and a format under which a failed backup doesn't stop the
-/// store.
-/// A roll makes the backups sync a few times more, so that large groups of commands gain by long segments.
+/// store. A roll makes the backups sync a few times more, so that large groups of commands gain by long segments.
 fn usual() -> Options {
     let mut options = Options::usual();
     options.tables = 4;

@@ -22,8 +22,7 @@ impl<D: Device> Journal<D> {
     ///
     /// What a crash left torn behind the last frame is cut off, and a closed gate is put there. A crash amid that
     /// leaves the same texts. A file that no crash can have left is refused, and nothing is done to it. A cut, a write
-    /// and two
-    /// syncs.
+    /// and two syncs.
     pub fn open(&mut self, alloc: Global, bytes: &[u8]) -> Result<Vec<Vec<u8>>, OpenFault>
         requires closed { self.old.is_open ≡ false }
         requires bytes { bytes.now ≡ D.contents self.old.device }

@@ -13,10 +13,9 @@ use driving::master::{Master, Refusal};
 use replica::Fleet;
 
 /// Makes up to so many steps of the cleaner behind a command, as `tend` does, but none behind one that compacts a
-/// segment
-/// unless memory is tight then: fewer whole segments are free than the policy spares, less one. A compaction takes as
-/// long as many other steps, and whoever waits for the next command would wait for each. It makes room for many
-/// commands, so the cleaner mostly keeps up.
+/// segment unless memory is tight then: fewer whole segments are free than the policy spares, less one. A compaction
+/// takes as long as many other steps, and whoever waits for the next command would wait for each. It makes room for
+/// many commands, so the cleaner mostly keeps up.
 pub fn tend_behind<F: Fleet>(
     master: &mut Master<F>,
     policy: &Policy,

@@ -1,6 +1,6 @@
 //! What a cleaner has noted of the tombstones of closed segments.
 
-use crate::places::{id_place, image_place};
+use crate::finding::{id_place, image_place};
 use driving::master::Master;
 use entry::{EntryRef, NoMemory, TOMBSTONE_LEN};
 use replica::Fleet;

@@ -82,8 +82,7 @@ impl Policy {
     }
 
     /// Whether tombstones of these segments fill much of the memory, of so many bytes, that their objects and the
-    /// spared
-    /// segments leave.
+    /// spared segments leave.
     pub(crate) fn is_buried(&self, weights: &[Weight], memory: u64) -> bool {
         let mut left = memory.saturating_sub(self.spare.saturating_mul(self.segment));
         let mut stones: u64 = 0;

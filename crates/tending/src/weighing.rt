@@ -3,8 +3,8 @@
 ghost use Rattle.std.specs.Prelude.{◌≡◌};
 ghost use Rattle.driving.specs.master.World.{world};
 
+use crate::finding::{image_place, tally_place};
 use crate::notes::{Note, Notes};
-use crate::places::{image_place, tally_place};
 use crate::policy::Policy;
 use driving::master::Master;
 use entry::NoMemory;

@@ -72,8 +72,7 @@ impl Fault {
 }
 
 /// When the cleaner of a load begins. It spares up to twice as many segments as usual, if memory has enough of them:
-/// then
-/// it ends a pass before several threads have filled the head.
+/// then it ends a pass before several threads have filled the head.
 fn policy_of(config: &Config) -> Policy {
     let memory = config.seglets.saturating_mul(config.seglet);
     let segments = memory.checked_div(config.segment).unwrap_or(0);
