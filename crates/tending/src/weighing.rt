@@ -42,7 +42,7 @@ pub(crate) fn count_all<F: Fleet>(master: &mut Master<F>) -> Result<(), NoMemory
 }
 
 /// The weight of a segment with this note, whose image has `len` bytes and of which `kept` are kept.
-fn weight(policy: &Policy, note: &Note, len: u64, kept: u64) -> Weight {
+fn weigh(policy: &Policy, note: &Note, len: u64, kept: u64) -> Weight {
     let seglets = policy.seglets(len);
     let after = policy.seglets(kept.saturating_add(note.opening));
     Weight {
@@ -79,7 +79,7 @@ pub(crate) fn weigh_all<F: Fleet>(
                 None => master.kept_bytes(note.id).unwrap_or(0) as u64,
             };
             let len = images[at].bytes_len() as u64;
-            weights.push(weight(policy, note, len, kept))?;
+            weights.push(weigh(policy, note, len, kept))?;
         }
     }
     Ok(weights)
