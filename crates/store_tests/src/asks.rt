@@ -3,16 +3,15 @@
 use crate::guests::come_in;
 use crate::marks::is_free;
 use crate::slow::Watch;
+use crate::turns::{faults, is_tended, limits, looks, meets, rolls, runs_short, turns};
 use entry::{Key, MAX_VALUE_LEN, Value};
 use replica::{Bench, Fleet};
 use std::alloc::Global;
 use std::sync::Wait;
 use std::thread;
 use std::thread::Threads;
-use store_clients::locked_log::{
-    CallFault, CleanTurn, Naming, Notes, Policy, Receipt, Seat, Store,
-};
-use store_clients::master::{Command, If, Look, Refusal, Reply, Shown, StepAnswer};
+use store_clients::locked_log::{CallFault, Naming, Receipt, Seat, Store};
+use store_clients::master::{Command, If, Refusal, Reply};
 
 /// A command of the tests. A put has a key and a value.
 pub enum Do {
@@ -73,7 +72,7 @@ pub enum Act {
     Counts(u64, u64),
 }
 
-fn command_of(alloc: Global, what: &Do) -> Option<Command> {
+pub fn command_of(alloc: Global, what: &Do) -> Option<Command> {
     match what {
         Do::Get(key) => Some(Command::Get(Key::new(alloc, 1, key).ok()?)),
         Do::Put(key, value, when) => put(alloc, key, value, *when),
@@ -96,22 +95,6 @@ fn told(reply: &Reply) -> Told {
         Reply::Ok(version) => ("ok", version.get()),
         Reply::Mismatch(Some(version)) => ("mismatch", version.get()),
         Reply::Mismatch(None) => ("mismatch", 0),
-    }
-}
-
-fn kind(answer: &Result<StepAnswer, Refusal>) -> (&'static str, u64, u64) {
-    match answer {
-        Ok(StepAnswer::Begun(survivors)) => ("begun", survivors.first, survivors.count as u64),
-        Ok(StepAnswer::Moved) => ("moved", 0, 0),
-        Ok(StepAnswer::Carried) => ("carried", 0, 0),
-        Ok(StepAnswer::Dropped) => ("dropped", 0, 0),
-        Ok(StepAnswer::Sealed(backup)) => ("sealed", *backup, 0),
-        Ok(StepAnswer::Rolling(id)) => ("rolling", *id, 0),
-        Ok(StepAnswer::Opened(backup, id)) => ("opened", *backup, *id),
-        Ok(StepAnswer::Closed(backup, id)) => ("closed", *backup, *id),
-        Ok(StepAnswer::Freed(id, backup)) => ("freed", *id, *backup),
-        Ok(_) => ("other", 0, 0),
-        Err(_) => ("refused", 0, 0),
     }
 }
 
@@ -231,7 +214,7 @@ fn repeats<F: Fleet, B: Naming, R: Wait>(
     true
 }
 
-fn is_made<F: Fleet, B: Naming, R: Wait>(
+pub fn is_made<F: Fleet, B: Naming, R: Wait>(
     rt: &R,
     store: &Store<F, B>,
     seat: &mut Seat<B>,
@@ -284,127 +267,6 @@ fn stays<F: Fleet, B: Naming, R: Wait>(
 ) -> bool {
     let answer = store.settle(rt, seat, place);
     is_left(&answer, Some(place), why)
-}
-
-fn turns<F: Fleet, B: Naming, R: Wait>(
-    rt: &R,
-    store: &Store<F, B>,
-    want: (&'static str, u64, u64),
-) -> bool {
-    let kind = kind(&store.turn(rt, CleanTurn::Next));
-    kind == want
-}
-
-/// The policy of a cleaner for a small master.
-const POLICY: Policy = Policy {
-    segment: 512,
-    seglet: 64,
-    spare: 4,
-    stored: 130,
-    stones: 25,
-};
-
-/// Has a cleaner tend the log until it rests, or has made 16 steps. How many it made, or `None` after a refusal.
-fn tend<F: Fleet, B: Naming, R: Wait>(
-    rt: &R,
-    store: &Store<F, B>,
-    notes: &mut Notes,
-) -> Option<u64> {
-    for made in 0..16 {
-        match store.tend(rt, &POLICY, notes) {
-            Ok(Some(_)) => {}
-            Ok(None) => return Some(made),
-            Err(_) => return None,
-        }
-    }
-    Some(16)
-}
-
-/// Makes the call so many times, and has a cleaner tend the log behind each. Whether each was answered, and the cleaner
-/// made a step, or none, as wanted.
-fn is_tended<F: Fleet, B: Naming, R: Wait>(
-    rt: &R,
-    alloc: Global,
-    store: &Store<F, B>,
-    seat: &mut Seat<B>,
-    what: &Do,
-    times: u64,
-    want: bool,
-) -> bool {
-    let mut notes = Notes::new(alloc);
-    let mut steps: u64 = 0;
-    for _ in 0..times {
-        if !is_made(rt, store, seat, command_of(alloc, what)) {
-            return false;
-        }
-        match tend(rt, store, &mut notes) {
-            Some(made) => steps = steps.saturating_add(made),
-            None => return false,
-        }
-    }
-    (steps > 0) == want
-}
-
-fn limits<F: Bench, B: Naming, R: Wait>(rt: &R, store: &Store<F, B>, takes: u64) -> bool {
-    store.limit(rt, takes);
-    true
-}
-
-fn runs_short(watch: &Watch) -> bool {
-    watch.run_short();
-    true
-}
-
-fn faults<F: Bench, B: Naming, R: Wait>(rt: &R, store: &Store<F, B>, number: u64) -> bool {
-    store.fault_at(rt, number, false);
-    true
-}
-
-/// Whether so many rolls were made, of four pushes each.
-fn rolls<F: Fleet, B: Naming, R: Wait>(rt: &R, store: &Store<F, B>, times: u64) -> bool {
-    for _ in 0..times {
-        if !makes(rt, store, CleanTurn::BeginRoll) {
-            return false;
-        }
-        for _ in 0..4 {
-            if !makes(rt, store, CleanTurn::Push) {
-                return false;
-            }
-        }
-    }
-    true
-}
-
-fn makes<F: Fleet, B: Naming, R: Wait>(rt: &R, store: &Store<F, B>, turn: CleanTurn) -> bool {
-    store.turn(rt, turn).is_ok()
-}
-
-/// Whether so many seglets are used, and no take was asked for.
-fn looks<F: Fleet, B: Naming, R: Wait>(
-    rt: &R,
-    store: &Store<F, B>,
-    watch: &Watch,
-    used: u64,
-) -> bool {
-    let before = watch.takes();
-    let is_wanted = match &store.look(rt, Look::Room) {
-        Ok(Shown::Room(in_use, _)) => *in_use == used,
-        _ => false,
-    };
-    is_wanted && watch.takes() == before
-}
-
-fn meets<F: Fleet, B: Naming, R: Wait>(
-    rt: &R,
-    store: &Store<F, B>,
-    seat: &mut Seat<B>,
-    receipts: &[Receipt<B>],
-    at: usize,
-) -> bool {
-    match receipts.get(at) {
-        Some(receipt) => store.meet(rt, seat, receipt),
-        None => false,
-    }
 }
 
 fn agrees<B: Naming>(receipts: &mut Vec<Receipt<B>>, at: usize) -> bool {

@@ -26,3 +26,5 @@ mod renewals;
 mod slow;
 #[cfg(test)]
 mod stores;
+#[cfg(test)]
+mod turns;
