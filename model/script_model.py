@@ -737,22 +737,23 @@ class Weight:
 class Policy:
     """When a cleaner begins something, and what."""
 
-    SPARE, STORED, STONES = 4, 130, 25
+    STORED, STONES = 130, 25
 
     def __init__(self, master, options):
         self.master, self.options, self.segment = master, options, options.segment
         self.used = master.used(options)
         self.free = options.seglets - self.used
         self.ids = len(master.log())
+        self.spare = 4 + min(4, options.seglets // whole_seglets(options) // 256)
 
     def is_low(self):
-        return self.free * self.options.seglet < self.SPARE * self.segment or self.is_crowded(self.ids)
+        return self.free * self.options.seglet < self.spare * self.segment or self.is_crowded(self.ids)
 
     def is_tight(self):
-        return self.free * self.options.seglet < (self.SPARE - 1) * self.segment
+        return self.free * self.options.seglet < (self.spare - 1) * self.segment
 
     def is_crowded(self, listed):
-        return self.segment // 32 < listed + self.SPARE
+        return self.segment // 32 < listed + self.spare
 
     def gain(self, weight):
         after = weight.kept() + weight.opening
@@ -770,7 +771,7 @@ class Policy:
     def wants_pass(self, weights):
         memory = self.options.seglets * self.options.seglet
         stones = sum(it.stones for it in weights)
-        left = max(0, memory - self.SPARE * self.segment - sum(it.live for it in weights))
+        left = max(0, memory - self.spare * self.segment - sum(it.live for it in weights))
         return (self.is_crowded(len(weights) + 1) or len(weights) * self.segment * 100 >= self.STORED * memory
                 or stones * 100 >= self.STONES * left)
 

@@ -950,18 +950,22 @@ impl Master {
 
 // ---- a cleaner of its own
 
-/// A cleaner begins something while fewer whole segments are free, or the digest has room for fewer.
-const SPARE: usize = 4;
 /// A pass comes first if the closed segments, each counted whole, are so many percent of memory, or if their tombstones are so many
 /// percent of the memory that objects and the spared segments leave.
 const STORED: usize = 130;
 const STONES: usize = 25;
 
 impl Master {
+    /// A cleaner begins something while fewer whole segments are free, or the digest has room for fewer.
+    fn spare(&self) -> usize {
+        4 + (self.sizes.seglets / self.sizes.whole() / 256).min(4)
+    }
+
     /// Compacts a segment or makes a whole pass if memory is short. The answer is whether it did.
     fn tend(&mut self, fleet: &mut Fleet) -> Result<bool, Refusal> {
         let (bytes, most) = (self.free() * self.sizes.seglet, self.sizes.segment / 32);
-        if bytes >= SPARE * self.sizes.segment && self.listed + SPARE <= most {
+        let spare = self.spare();
+        if bytes >= spare * self.sizes.segment && self.listed + spare <= most {
             return Ok(false);
         }
         let closed: Vec<u64> = (1..self.next).filter(|&id| id != self.head && self.is_listed(id)).collect();
@@ -970,7 +974,7 @@ impl Master {
         }
         let best = self.best(&closed);
         let memory = self.sizes.seglets * self.sizes.seglet;
-        let wants_pass = closed.len() + 1 + SPARE > most || self.is_long(&closed, memory);
+        let wants_pass = closed.len() + 1 + spare > most || self.is_long(&closed, memory);
         let victims = if best.is_some() && !wants_pass { None } else { self.victims(&closed, best.is_some()) };
         match (victims, best) {
             (Some(victims), _) => self.clean(fleet, &victims).map(|_| true),
@@ -996,7 +1000,7 @@ impl Master {
             objects += row.kept() - row.stones;
             stones += row.stones;
         }
-        closed.len() * self.sizes.segment * 100 >= STORED * memory || stones * 100 >= STONES * memory.saturating_sub(objects + SPARE * self.sizes.segment)
+        closed.len() * self.sizes.segment * 100 >= STORED * memory || stones * 100 >= STONES * memory.saturating_sub(objects + self.spare() * self.sizes.segment)
     }
 
     /// Reads which segments the tombstones of a closed segment name, once.

@@ -69,8 +69,9 @@ Limits:
   always load so many bytes, the options don't fit each other. --live=0 sets the most that fit; a smaller --largest
   lets more fit.
   With --tend, the cleaner makes up to so many steps behind each put, new, cas and del, as 'tend' does, but none behind
-  a compaction unless fewer than three whole segments are free. If one of these finds no room, the cleaner first makes
-  room: it is refused as Full only once the cleaner gains nothing more. What the cleaner is refused isn't printed.
+  a compaction unless memory is tight: fewer than three whole segments are free, and one more for each 256 segments of
+  memory, up to seven. If one of these finds no room, the cleaner first makes room: it is refused as Full only once the
+  cleaner gains nothing more. What the cleaner is refused isn't printed.
   A master accepts as many commands as --history says, gets too. The next master counts from 0 again.
   With --forget, a master frees the memory of its durable records, 1024 at a time, once their lines have been answered.
   Then --history counts only those that it still has. Above 1024 a script goes on for ever, in constant memory.

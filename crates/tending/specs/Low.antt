@@ -1,5 +1,5 @@
 -- When a cleaner has to begin something, and when it may rest.
-use Rattle.std.specs.Prelude.{◌≡◌, ◌+◌, ◌-◌, ◌*◌, ◌/◌, ◌||◌, Bool, true, None, length, nat_lt}
+use Rattle.std.specs.Prelude.{◌≡◌, ℕ, ◌+◌, ◌-◌, ◌*◌, ◌/◌, ◌||◌, min, max, Bool, true, None, length, nat_lt}
 use Rattle.driving.specs.master.log_head.Head.{digest_of}
 use Rattle.driving.specs.master.master_space.Choosing.{next_step, pending_step}
 use Rattle.driving.specs.master.master_state.Budget.{free_seglets}
@@ -24,9 +24,17 @@ is_low policy d = is_short policy d || is_crowded policy d
 abbrev pub is_tight : Policy → MasterData → Bool
 is_tight policy d = nat_lt (free_seglets d * policy.seglet) ((policy.spare - 1) * policy.segment)
 
--- the usual policy for a configuration: four segments are spared
+-- how many whole segments the memory has
+abbrev pub segments_of : Config → ℕ
+segments_of c = c.seglets / max (c.segment / max c.seglet 1) 1
+
+-- How many segments are spared: four, and one more for each 256 segments of memory, up to eight.
+abbrev pub spare_for : Config → ℕ
+spare_for c = 4 + min (segments_of c / 256) 4
+
+-- the usual policy for a configuration
 abbrev pub usual_for : Config → Policy
-usual_for c = record { segment = c.segment; seglet = c.seglet; spare = 4; stored = 130; stones = 25 }
+usual_for c = record { segment = c.segment; seglet = c.seglet; spare = spare_for c; stored = 130; stones = 25 }
 
 -- A cleaner may rest: nothing is under way, and it has to begin nothing or no pass may begin.
 pub record MayRest (policy : Policy) (d : MasterData) : Type 0 where

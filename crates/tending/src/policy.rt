@@ -37,10 +37,12 @@ impl Policy {
     pub fn of(config: &Config) -> Policy
         ensures { result ≡ usual_for config.now }
     {
+        let whole = config.segment / config.seglet.max(1);
+        let segments = config.seglets / whole.max(1);
         Policy {
             segment: config.segment,
             seglet: config.seglet,
-            spare: 4,
+            spare: 4 + (segments / 256).min(4),
             stored: 130,
             stones: 25,
         }
