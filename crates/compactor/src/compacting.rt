@@ -14,6 +14,9 @@ use hash_index::{Index, Place};
 use segment::{Segment, SegmentRef};
 use std::alloc::Global;
 
+/// The objects among so many entries are prefetched at once.
+const AHEAD: usize = 16;
+
 /// Appends the bytes of a text from one offset to another. The caller has taken memory for them.
 fn append_piece(text: &[u8], from: usize, to: usize, out: &mut Vec<u8>)
     requires order { from ≤ to }
@@ -24,6 +27,27 @@ fn append_piece(text: &[u8], from: usize, to: usize, out: &mut Vec<u8>)
     ensures capacity { vec_capacity out.old ≤ vec_capacity out.new }
 {
     out.extend_from_slice(&text[from..to]).unwrap()
+}
+
+/// Reads some entries ahead of an offset, and prefetches what the index has for their objects. Returns the offset
+/// behind them. No contract speaks of it.
+fn touch_ahead(text: &[u8], from: usize, index: &Index) -> usize {
+    let mut at = from;
+    let mut touched = 0;
+    for _ in 0..AHEAD {
+        if at >= text.len() {
+            break;
+        }
+        let Ok((entry, taken)) = EntryRef::read(&text[at..]) else {
+            break;
+        };
+        if let EntryRef::Object(object) = entry {
+            touched |= index.touch(index.hash(&object.key));
+        }
+        at += taken;
+    }
+    // What was loaded has no meaning. Since the result depends on it, the compiler keeps the loads.
+    if touched == u64::MAX { from } else { at }
 }
 
 /// Copies the kept entries of a segment to `out`. Kept entries that lie together are copied as one piece. The index
@@ -46,7 +70,11 @@ fn copy_kept(
     let text = segment.bytes();
     let mut from = 0;
     let mut at = 0;
+    let mut touched = 0;
     while at < text.len() {
+        if at >= touched {
+            touched = touch_ahead(text, at, index);
+        }
         let Ok((entry, taken)) = EntryRef::read(&text[at..]) else {
             unreachable!()
         };
