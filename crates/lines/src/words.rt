@@ -150,7 +150,10 @@ fn visible_len(bytes: &[u8]) -> usize
     ensures { IsVisibleFront bytes.now result }
 {
     let mut len = 0;
-    // Eight bytes at a time, as long as all eight are visible.
+    // Many bytes at a time, and then eight, as long as all of them are visible.
+    while bytes.len() - len >= 32 && are_visible(&bytes[len..len + 32]) {
+        len += 32;
+    }
     while bytes.len() - len >= 8 && are_visible(&bytes[len..len + 8]) {
         len += 8;
     }

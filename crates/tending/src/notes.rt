@@ -7,10 +7,11 @@ use replica::Fleet;
 use segment::SegmentRef;
 use std::alloc::Global;
 use std::marker::Model;
+use std::mem::replace;
 
-/// The bytes of the tombstones that name this segment.
+/// The bytes of some tombstones of a segment.
 #[derive(Clone, Copy)]
-struct Named {
+struct Stones {
     segment: u64,
     bytes: u64,
 }
@@ -23,8 +24,9 @@ pub(crate) struct Note {
     pub opening: u64,
     /// The bytes of its tombstones that name a segment of the digest in force.
     pub stones: u64,
-    /// These tombstones, by the rising id of the segment that they name.
-    named: Vec<Named>,
+    /// The tombstones that name this segment, by the rising id of the segment in which they are. Some of these segments
+    /// may have left the digest.
+    namers: Vec<Stones>,
 }
 
 /// What a cleaner has noted of a master's closed segments: how long their openings are, and which segments their
@@ -103,15 +105,42 @@ impl Notes {
         Ok(gone)
     }
 
-    /// Takes out the notes of these segments. The tombstones that name one of them are kept no more.
+    /// Takes out the notes of these segments, which are by rising id. The tombstones that name one of them are kept no
+    /// more.
     fn forget(&mut self, gone: &[u64]) {
         if gone.is_empty() {
             return;
         }
-        self.notes.retain(|note| !gone.contains(&note.id));
-        for note in self.notes.iter_mut() {
-            note.forget(gone);
+        for id in gone {
+            self.lower(*id);
         }
+        self.notes
+            .retain(|note| gone.binary_search(&note.id).is_err());
+    }
+
+    /// The tombstones that name this segment don't count any more. The call goes once through the notes.
+    fn lower(&mut self, id: u64) {
+        let Ok(at) = self.notes.binary_search_by_key(&id, |note| note.id) else {
+            return;
+        };
+        let namers = replace(&mut self.notes[at].namers, Vec::new(self.alloc()));
+        let mut next = 0;
+        for namer in namers.iter() {
+            next = self.place_from(next, namer.segment);
+            if self.is_noted_at(next, namer.segment) {
+                let note = &mut self.notes[next];
+                note.stones = note.stones.saturating_sub(namer.bytes);
+            }
+        }
+    }
+
+    /// The place of the first note from a place on whose segment has this id or a greater one.
+    fn place_from(&self, from: usize, id: u64) -> usize {
+        let mut place = from;
+        while place < self.notes.len() && self.notes[place].id < id {
+            place += 1;
+        }
+        place
     }
 
     /// Notes the segments of a digest that lists these, but for the head and those that are noted.
@@ -142,55 +171,76 @@ impl Notes {
         match self.notes.binary_search_by_key(&id, |note| note.id) {
             Ok(at) => Ok(at),
             Err(at) => {
-                let note = note_of(self.alloc(), master, ids, id)?;
+                let note = self.read(master, ids, id)?;
                 self.notes.insert(at, note)?;
                 Ok(at)
             }
         }
     }
-}
 
-impl Note {
-    /// The tombstones that name one of these segments are kept no more.
-    fn forget(&mut self, gone: &[u64]) {
-        for id in gone {
-            if let Ok(at) = self.named.binary_search_by_key(id, |named| named.segment) {
-                self.stones = self.stones.saturating_sub(self.named[at].bytes);
-                self.named[at].bytes = 0;
+    /// Reads a segment of a digest that lists these, and notes its tombstones with the segments that they name. The
+    /// note of one that isn't closed is empty.
+    fn read<F: Fleet>(
+        &mut self,
+        master: &Master<F>,
+        ids: &[u64],
+        id: u64,
+    ) -> Result<Note, NoMemory> {
+        let alloc = self.alloc();
+        let images = master.closed();
+        let mut named = match image_place(images, images.len(), id) {
+            Some(at) => all_named(alloc, &images[at].segment())?,
+            None => Vec::new(alloc),
+        };
+        named.sort_unstable_by_key(|one| one.segment);
+        let named = summed(alloc, named.as_slice(), ids)?;
+        self.add_namers(id, named.as_slice(), ids)?;
+        Ok(Note {
+            id,
+            opening: master.opening_len(id).unwrap_or(0) as u64,
+            stones: bytes_of(named.as_slice()),
+            namers: Vec::new(alloc),
+        })
+    }
+
+    /// Notes with each segment that tombstones of this one name how many bytes these have. `named` is by rising id.
+    fn add_namers(&mut self, id: u64, named: &[Stones], ids: &[u64]) -> Result<(), NoMemory> {
+        let mut next = 0;
+        for one in named {
+            next = self.place_from(next, one.segment);
+            if self.is_noted_at(next, one.segment) {
+                self.notes[next].add_namer(id, one.bytes, ids)?;
             }
         }
+        Ok(())
     }
 }
 
-/// Reads a segment of a digest that lists these. The note of one that isn't closed is empty.
-fn note_of<F: Fleet>(
-    alloc: Global,
-    master: &Master<F>,
-    ids: &[u64],
-    id: u64,
-) -> Result<Note, NoMemory> {
-    let images = master.closed();
-    let mut named = match image_place(images, images.len(), id) {
-        Some(at) => all_named(alloc, &images[at].segment())?,
-        None => Vec::new(alloc),
-    };
-    named.sort_unstable_by_key(|one| one.segment);
-    let named = summed(alloc, named.as_slice(), ids)?;
-    Ok(Note {
-        id,
-        opening: master.opening_len(id).unwrap_or(0) as u64,
-        stones: bytes_of(named.as_slice()),
-        named,
-    })
+impl Note {
+    /// Notes that tombstones of a segment of so many bytes name this one. What left the digest, which lists these, is
+    /// dropped once it may be half of what is noted.
+    fn add_namer(&mut self, id: u64, bytes: u64, ids: &[u64]) -> Result<(), NoMemory> {
+        if self.namers.len() / 2 > ids.len() {
+            self.namers
+                .retain(|one| ids.binary_search(&one.segment).is_ok());
+        }
+        match self.namers.binary_search_by_key(&id, |one| one.segment) {
+            Ok(at) => self.namers[at].bytes = bytes,
+            Err(at) => {
+                self.namers.insert(at, Stones { segment: id, bytes })?;
+            }
+        }
+        Ok(())
+    }
 }
 
 /// The tombstones of a segment, each by itself.
-fn all_named(alloc: Global, segment: &SegmentRef<'_>) -> Result<Vec<Named>, NoMemory> {
+fn all_named(alloc: Global, segment: &SegmentRef<'_>) -> Result<Vec<Stones>, NoMemory> {
     let mut named = Vec::new(alloc);
     for entry in segment.entries() {
         let entry: EntryRef<'_> = entry;
         if let EntryRef::Tombstone(tombstone) = &entry {
-            named.push(Named {
+            named.push(Stones {
                 segment: tombstone.segment,
                 bytes: (TOMBSTONE_LEN + tombstone.key.bytes.len()) as u64,
             })?;
@@ -200,7 +250,7 @@ fn all_named(alloc: Global, segment: &SegmentRef<'_>) -> Result<Vec<Named>, NoMe
 }
 
 /// One sum for each of these segments that is named.
-fn summed(alloc: Global, named: &[Named], ids: &[u64]) -> Result<Vec<Named>, NoMemory> {
+fn summed(alloc: Global, named: &[Stones], ids: &[u64]) -> Result<Vec<Stones>, NoMemory> {
     let mut sums = Vec::new(alloc);
     for one in named {
         if !add_to_last(&mut sums, *one) && ids.binary_search(&one.segment).is_ok() {
@@ -211,7 +261,7 @@ fn summed(alloc: Global, named: &[Named], ids: &[u64]) -> Result<Vec<Named>, NoM
 }
 
 /// Adds to the last sum if that is of the same segment. False if it isn't.
-fn add_to_last(sums: &mut Vec<Named>, one: Named) -> bool {
+fn add_to_last(sums: &mut Vec<Stones>, one: Stones) -> bool {
     let count = sums.len();
     if count == 0 || sums[count - 1].segment != one.segment {
         return false;
@@ -221,7 +271,7 @@ fn add_to_last(sums: &mut Vec<Named>, one: Named) -> bool {
 }
 
 /// The bytes of all of them.
-fn bytes_of(named: &[Named]) -> u64 {
+fn bytes_of(named: &[Stones]) -> u64 {
     let mut bytes: u64 = 0;
     for one in named {
         bytes = bytes.saturating_add(one.bytes);

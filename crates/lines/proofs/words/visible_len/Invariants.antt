@@ -20,3 +20,12 @@ invariant-loop-len-2 l = record {
 
 abbrev pub decreases-loop-len-2 : goal.decreases-loop-len-2
 decreases-loop-len-2 l = length l.bytes - l.len
+
+abbrev pub invariant-loop-len-3 : goal.invariant-loop-len-3
+invariant-loop-len-3 l = record {
+  within : l.len ≤ length l.bytes;
+  visible : All IsVisible (take l.len l.bytes);
+}
+
+abbrev pub decreases-loop-len-3 : goal.decreases-loop-len-3
+decreases-loop-len-3 l = length l.bytes - l.len
