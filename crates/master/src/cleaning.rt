@@ -1,6 +1,6 @@
 //! A pass of a master: it begins, copies entry by entry, and its survivor is sealed. What it leaves is freed.
 
-ghost use Rattle.std.specs.Prelude.{◌≡◌, None, true, IfOk, IfErr, OnErr};
+ghost use Rattle.std.specs.Prelude.{◌≡◌, ◌≢◌, None, Some, true, IfOk, IfErr, OnErr, MatchBool};
 ghost use Rattle.std.specs.Option.{is_some};
 ghost use Rattle.tablet_will.specs.Sizes.{are_sizes};
 ghost use Rattle.master_core.specs.master_space.Choosing.{chosen, next_step, pending_step, NeedsChoice};
@@ -12,8 +12,8 @@ ghost use Rattle.master.specs.World.{world};
 use crate::master::Master;
 use entry::{NoMemory, Row, Size};
 use master_core::{
-    Posting, Refusal, Step, StepAnswer, begin_clean, choose, copy, freed, next_step, pending_step,
-    seal_op, sealed, sorted_sizes, to_free, to_seal,
+    Posting, Refusal, Step, StepAnswer, begin_clean, choose, copy, freed, is_copying, next_step,
+    pending_step, seal_op, sealed, sorted_sizes, to_free, to_seal,
 };
 use replica::{Act, Fleet, Op};
 
@@ -50,6 +50,15 @@ impl<F: Fleet> Master<F> {
         ensures { result ≡ pending_step self.now.knows }
     {
         pending_step(&self.core)
+    }
+
+    /// Whether the step that is under way treats an entry of the open pass. Nothing changes, and it takes no memory.
+    #[inline(always)]
+    pub fn is_copying(&self) -> bool
+        ensures { MatchBool result (pending_step self.now.knows ≡ Some Step.Copy)
+            (pending_step self.now.knows ≢ Some Step.Copy) }
+    {
+        is_copying(&self.core)
     }
 
     /// The sizes of the live objects, by table, then by place. Each is the length of the object's entry, and lies in a

@@ -15,9 +15,9 @@ pub use master_failover::{
 };
 pub use master_rolls::{begin_roll, mark, next_push_for};
 pub use master_space::{
-    ObjectList, begin_clean, choose, compact_segment, copy, freed, image_len_of, kept_bytes_of,
-    next_step, opening_len_of, pending_step, recount, seal_op, sealed, sorted_objects,
-    sorted_sizes, tallies_of, tally_of, to_free, to_seal,
+    ObjectList, begin_clean, choose, compact_segment, copy, freed, image_len_of, is_copying,
+    kept_bytes_of, next_step, opening_len_of, pending_step, recount, seal_op, sealed,
+    sorted_objects, sorted_sizes, tallies_of, tally_of, to_free, to_seal,
 };
 pub use master_state::{
     Config, ConfigFault, Core, KeyHasher, Part, Posting, Refusal, Secret, Step, StepAnswer,

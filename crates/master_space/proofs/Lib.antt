@@ -16,6 +16,7 @@ pub mod CopiedTallies
 pub mod CopiedLengths
 pub mod CopiedCore
 pub mod Ordering
+pub mod Filled
 pub mod SealedCore
 pub mod FreedCore
 pub mod Tallied

@@ -149,7 +149,7 @@ module _ (d : MasterData) (segments : AllByRecursion (λ (c : Image). IsSegment 
   abbrev images : ℕ → List Entry
   images = images_in d.closed
 
-  abbrev Lengths : List ℕ → List ℕ
+  abbrev pub Lengths : List ℕ → List ℕ
   Lengths ids = kept_lengths (log_set_ids d) d.index images (places_of images ids)
 
   one_segment : (s : ℕ) → kept_lengths (log_set_ids d) d.index images (places_from s 0 (images s))
@@ -161,7 +161,7 @@ module _ (d : MasterData) (segments : AllByRecursion (λ (c : Image). IsSegment 
     | inr valid ↦ lengths_of_segment (log_set_ids d) d.index images s valid
   ]
 
-  all_filled : (level : Level) (ids : List ℕ)
+  pub all_filled : (level : Level) (ids : List ℕ)
       → filled_all d level ids ≡ filled d.config.segment level (Lengths ids)
   all_filled level [] = refl
   all_filled level (id ∷ ids) =
@@ -171,7 +171,7 @@ module _ (d : MasterData) (segments : AllByRecursion (λ (c : Image). IsSegment 
       (lengths_join (log_set_ids d) d.index images (places_from id 0 (images id)) (places_of images ids)
       ∙ ap (λ (ns : List ℕ). ns ++ Lengths ids) (one_segment id)))
 
-  filled_survivors : (ids : List ℕ) → suc (filled_all d first_level ids).survivor ≡ survivors_for d ids
+  pub filled_survivors : (ids : List ℕ) → suc (filled_all d first_level ids).survivor ≡ survivors_for d ids
   filled_survivors ids = ap (λ (a : Level). suc a.survivor) (all_filled first_level ids)
 
   pub fitting_survivors : (xs : List Candidate) (i : ℕ) (ids : List ℕ) (level : Level) → IsFitting d xs i ids level

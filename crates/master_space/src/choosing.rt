@@ -11,7 +11,8 @@ ghost use Rattle.master_space.specs.Choosing.{next_step, NeedsChoice};
 
 use crate::candidates::{Candidate, rank};
 use crate::compacting::{is_survivor, opening_id};
-use crate::keeping::{fill_with, kept_in};
+use crate::filling::filled_by;
+use crate::keeping::kept_in;
 use crate::victims::{has_memory_for, has_places_for};
 use cleaner::{Level, MAX_SURVIVORS, MAX_VICTIMS, Pass};
 use compactor::LogSet;
@@ -95,19 +96,6 @@ fn may_fill(core: &Core, level: Level) -> bool
     ensures { result ≡ (nat_lt level.survivor 4 && has_memory_for core.now (suc level.survivor)) }
 {
     level.survivor < MAX_SURVIVORS && has_memory_for(core, level.survivor + 1)
-}
-
-/// Returns how far the survivors are filled after the kept entries of one more segment.
-fn filled_by(core: &Core, id: u64, level: Level) -> Level
-    requires few { level.survivor < 4 }
-    requires limit { level.len ≤ 2 ^ 24 }
-    ensures filled { result ≡ filled_by core.now level id }
-    ensures limit { result.len ≤ 2 ^ 24 }
-{
-    match core.closed.get(id) {
-        None => level,
-        Some(image) => fill_with(core, id, &image, level),
-    }
 }
 
 /// Returns the 32 candidates that keep the fewest bytes, sorted; all of them if they are fewer.

@@ -1,6 +1,6 @@
 //! The next step of what is under way in a core.
 
-ghost use Rattle.std.specs.Prelude.{◌≡◌, None};
+ghost use Rattle.std.specs.Prelude.{◌≡◌, ◌≢◌, MatchBool, None, Some};
 ghost use Rattle.master_space.specs.Choosing.{pending_step, pending_without};
 
 use crate::choosing::pass_step;
@@ -18,6 +18,21 @@ pub fn pending_step(core: &Core) -> Option<Step>
     match &core.pass {
         Some(pass) => Some(pass_step(core, pass)),
         None => pending_without(core),
+    }
+}
+
+/// Returns true if the next step of what is under way treats an entry of the open pass. So whoever makes many of these
+/// steps needn't ask for each.
+#[inline]
+pub fn is_copying(core: &Core) -> bool
+    ensures { MatchBool result (pending_step core.now ≡ Some Step.Copy) (pending_step core.now ≢ Some Step.Copy) }
+{
+    if core.failover.is_some() {
+        return false;
+    }
+    match &core.pass {
+        Some(pass) => !pass.is_at_end(),
+        None => false,
     }
 }
 

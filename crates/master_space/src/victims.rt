@@ -5,8 +5,9 @@ ghost use Rattle.std.specs.Result.{result_err};
 ghost use Rattle.master_state.specs.Budget.{may_clean, has_memory_for, has_places_for};
 ghost use Rattle.master_state.specs.Causes.{victim_fault, victims_fault, survivors_for, space_refusal, clean_refusal};
 
-use crate::compacting::{is_head, opening_id};
-use cleaner::{MAX_VICTIMS, PassFault, PassSize, fit};
+use crate::compacting::is_head;
+use crate::filling::size_of;
+use cleaner::{MAX_VICTIMS, PassFault, PassSize};
 use entry::MAX_SEGMENT_ID;
 use master_state::{Core, Refusal};
 
@@ -67,16 +68,7 @@ fn admit_space(core: &Core, victims: &[u64]) -> Result<PassSize, Refusal>
     ensures refused { result_err result ≡ space_refusal core.now victims.now }
     ensures survivors { IfOk result (λ size. size.survivors ≡ survivors_for core.now victims.now) }
 {
-    let new = opening_id(&core.head);
-    let segment = core.config.segment as usize;
-    let Some(size) = fit(
-        victims,
-        &core.closed,
-        &core.index,
-        core.head.id(),
-        new,
-        segment,
-    ) else {
+    let Some(size) = size_of(core, victims) else {
         return Err(Refusal::Pass(PassFault::TooMuch));
     };
     if !may_clean(core, victims.len(), size.survivors) {
