@@ -123,11 +123,12 @@ impl Notes {
         let Ok(at) = self.notes.binary_search_by_key(&id, |note| note.id) else {
             return;
         };
-        let namers = replace(&mut self.notes[at].namers, Vec::new(self.alloc()));
+        let none = Vec::new(self.alloc());
+        let namers = replace(&mut self.notes[at].namers, none);
         let mut next = 0;
         for namer in namers.iter() {
             next = self.place_from(next, namer.segment);
-            if self.is_noted_at(next, namer.segment) {
+            if next < self.notes.len() && self.notes[next].id == namer.segment {
                 let note = &mut self.notes[next];
                 note.stones = note.stones.saturating_sub(namer.bytes);
             }
@@ -136,11 +137,12 @@ impl Notes {
 
     /// The place of the first note from a place on whose segment has this id or a greater one.
     fn place_from(&self, from: usize, id: u64) -> usize {
-        let mut place = from;
-        while place < self.notes.len() && self.notes[place].id < id {
-            place += 1;
+        for place in from..self.notes.len() {
+            if self.notes[place].id >= id {
+                return place;
+            }
         }
-        place
+        self.notes.len()
     }
 
     /// Notes the segments of a digest that lists these, but for the head and those that are noted.
@@ -172,6 +174,7 @@ impl Notes {
             Ok(at) => Ok(at),
             Err(at) => {
                 let note = self.read(master, ids, id)?;
+                let at = at.min(self.notes.len());
                 self.notes.insert(at, note)?;
                 Ok(at)
             }
@@ -208,7 +211,7 @@ impl Notes {
         let mut next = 0;
         for one in named {
             next = self.place_from(next, one.segment);
-            if self.is_noted_at(next, one.segment) {
+            if next < self.notes.len() && self.notes[next].id == one.segment {
                 self.notes[next].add_namer(id, one.bytes, ids)?;
             }
         }

@@ -1,6 +1,6 @@
 //! The steps of a cleaner.
 
-ghost use Rattle.std.specs.Prelude.{◌≡◌, ◌<◌, ◌&&◌, [], None, not, true, IfOk, IfErr, IfSome};
+ghost use Rattle.std.specs.Prelude.{◌≡◌, ◌<◌, ◌&&◌, [], None, Some, not, true, IfOk, IfErr, IfSome};
 ghost use Rattle.driving.specs.master.World.{world};
 ghost use Rattle.driving.specs.master.Keeps.{Keeps};
 ghost use Rattle.driving.specs.master.master_space.Choosing.{next_step, pending_step};
@@ -78,6 +78,9 @@ pub(crate) fn make_step<F: Fleet>(
     ensures keeps { Keeps 1 (world F.state master.old) (world F.state master.new) }
     ensures spent { IfErr result (λ r. r ≡ Refusal.Spent → IsSpent (F.state master.new.fleet)) }
 {
+    if master.is_copying() {
+        return copy_entry(master, policy);
+    }
     let Some(step) = choose_step(master, policy, notes)? else {
         return Ok(None);
     };
@@ -87,6 +90,24 @@ pub(crate) fn make_step<F: Fleet>(
         Err(refusal) => match refusal {
             Refusal::Lost(_) => Ok(Some(stops(master, policy, is_long))),
             _ => Err(refusal),
+        },
+    }
+}
+
+/// Treats the next entry of the open pass. Most steps of a cleaner do so, and none is shorter.
+#[inline(always)]
+fn copy_entry<F: Fleet>(master: &mut Master<F>, _policy: &Policy) -> Result<Option<bool>, Refusal>
+    requires { pending_step master.old.knows ≡ Some Step.Copy }
+    ensures makes { MakesStep _policy.now (world F.state master.old) result (world F.state master.new) }
+    ensures goes_on { LivesOn master.old.knows master.new.knows [] }
+    ensures keeps { Keeps 1 (world F.state master.old) (world F.state master.new) }
+    ensures spent { IfErr result (λ r. r ≡ Refusal.Spent → IsSpent (F.state master.new.fleet)) }
+{
+    match master.step(Step::Copy) {
+        Ok(_) => Ok(Some(false)),
+        Err(refusal) => match refusal {
+            Refusal::Lost(_) => Ok(Some(false)),
+            other => Err(other),
         },
     }
 }
