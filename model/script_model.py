@@ -12,6 +12,8 @@ One client without a cleaner has one way to run. Of others nobody can tell in wh
 Undetermined there, `script_orders.py` follows each order if there are few, and `script_witness.py` says what may come after others.
 """
 
+from __future__ import annotations
+
 import re
 from collections import deque
 from dataclasses import dataclass, field, fields, replace

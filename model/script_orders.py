@@ -8,6 +8,8 @@ thousands of states. If there are more than that, nobody knows.
 How many turns may give nothing is so large a number here that each such turn may be the last one.
 """
 
+from __future__ import annotations
+
 from dataclasses import dataclass, replace
 
 from script_model import Command, Store, Undetermined, client_key
