@@ -20,6 +20,8 @@ struct Stones {
 #[derive(Drop)]
 pub(crate) struct Note {
     pub id: u64,
+    /// Whether the segment was read.
+    is_read: bool,
     /// The bytes of its opening.
     pub opening: u64,
     /// The bytes of its tombstones that name a segment of the digest in force.
@@ -145,15 +147,19 @@ impl Notes {
         self.notes.len()
     }
 
-    /// Notes the segments of a digest that lists these, but for the head and those that are noted.
+    /// Notes the segments of a digest that lists these, but for the head and those that are noted. All of them get their
+    /// notes before one is read: a tombstone may name a segment with a higher id than its own, a survivor.
     fn add_all<F: Fleet>(&mut self, master: &Master<F>, ids: &[u64]) -> Result<(), NoMemory> {
         let mut next = 0;
         for id in ids {
             if self.is_noted_at(next, *id) {
                 next = next.saturating_add(1);
             } else if *id != master.head() {
-                next = self.add(master, ids, *id)?.saturating_add(1);
+                next = self.add(*id)?.saturating_add(1);
             }
+        }
+        for at in 0..self.notes.len() {
+            self.read(master, ids, at)?;
         }
         Ok(())
     }
@@ -163,47 +169,46 @@ impl Notes {
         at < self.notes.len() && self.notes[at].id == id
     }
 
-    /// Notes a segment, if it isn't noted yet, and returns the place of its note.
-    fn add<F: Fleet>(
-        &mut self,
-        master: &Master<F>,
-        ids: &[u64],
-        id: u64,
-    ) -> Result<usize, NoMemory> {
+    /// Adds the note of a segment that isn't read yet, if it has none, and returns its place.
+    fn add(&mut self, id: u64) -> Result<usize, NoMemory> {
         match self.notes.binary_search_by_key(&id, |note| note.id) {
             Ok(at) => Ok(at),
             Err(at) => {
-                let note = self.read(master, ids, id)?;
-                let at = at.min(self.notes.len());
+                let note = Note::new(self.alloc(), id);
                 self.notes.insert(at, note)?;
                 Ok(at)
             }
         }
     }
 
-    /// Reads a segment of a digest that lists these, and notes its tombstones with the segments that they name. The
-    /// note of one that isn't closed is empty.
+    /// Reads the segment of the note at a place, if it wasn't read yet, and notes its tombstones with the segments that
+    /// they name. The digest lists these segments. The note of one that isn't closed stays empty.
     fn read<F: Fleet>(
         &mut self,
         master: &Master<F>,
         ids: &[u64],
-        id: u64,
-    ) -> Result<Note, NoMemory> {
+        at: usize,
+    ) -> Result<(), NoMemory> {
+        if at >= self.notes.len() || self.notes[at].is_read {
+            return Ok(());
+        }
         let alloc = self.alloc();
+        let id = self.notes[at].id;
         let images = master.closed();
         let mut named = match image_place(images, images.len(), id) {
-            Some(at) => all_named(alloc, &images[at].segment())?,
+            Some(place) => all_named(alloc, &images[place].segment())?,
             None => Vec::new(alloc),
         };
         named.sort_unstable_by_key(|one| one.segment);
         let named = summed(alloc, named.as_slice(), ids)?;
         self.add_namers(id, named.as_slice(), ids)?;
-        Ok(Note {
-            id,
-            opening: master.opening_len(id).unwrap_or(0) as u64,
-            stones: bytes_of(named.as_slice()),
-            namers: Vec::new(alloc),
-        })
+        let opening = master.opening_len(id).unwrap_or(0) as u64;
+        if at < self.notes.len() {
+            self.notes[at].opening = opening;
+            self.notes[at].stones = bytes_of(named.as_slice());
+            self.notes[at].is_read = true;
+        }
+        Ok(())
     }
 
     /// Notes with each segment that tombstones of this one name how many bytes these have. `named` is by rising id.
@@ -220,6 +225,17 @@ impl Notes {
 }
 
 impl Note {
+    /// The note of a segment that isn't read yet.
+    fn new(alloc: Global, id: u64) -> Note {
+        Note {
+            id,
+            is_read: false,
+            opening: 0,
+            stones: 0,
+            namers: Vec::new(alloc),
+        }
+    }
+
     /// Notes that tombstones of a segment of so many bytes name this one. What left the digest, which lists these, is
     /// dropped once it may be half of what is noted.
     fn add_namer(&mut self, id: u64, bytes: u64, ids: &[u64]) -> Result<(), NoMemory> {
