@@ -147,8 +147,8 @@ impl Notes {
         self.notes.len()
     }
 
-    /// Notes the segments of a digest that lists these, but for the head and those that are noted. All of them get their
-    /// notes before one is read: a tombstone may name a segment with a higher id than its own, a survivor.
+    /// Notes the segments of a digest that lists these, but for the head and those that are noted. All get their notes
+    /// before one is read: a tombstone may name a segment with a higher id than its own, a survivor.
     fn add_all<F: Fleet>(&mut self, master: &Master<F>, ids: &[u64]) -> Result<(), NoMemory> {
         let mut next = 0;
         for id in ids {
