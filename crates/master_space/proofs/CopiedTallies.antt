@@ -1,5 +1,5 @@
 -- Tallies stay right when an entry of a victim is copied, or dropped.
-use Rattle.std.proofs.Common.{◌≡◌, ℕ, ◌+◌, ◌≤◌, Bool, true, false, List, [], ◌∷◌, ◌++◌, length, refl, sym, ap, subst}
+use Rattle.std.proofs.Common.{◌≡◌, ℕ, ◌+◌, Bool, true, false, List, [], ◌∷◌, ◌++◌, length, refl, sym, ap, subst}
 use Rattle.std.proofs.Common.{◌∙◌}
 use Rattle.std.proofs.Common.{arith}
 use Rattle.std.specs.Prelude.{Option, Some, None, ◌==◌, if◌then◌else◌}
@@ -7,14 +7,12 @@ use Rattle.std.specs.List.{AllByRecursion}
 use Rattle.std.proofs.lemmas.Bool.{eqb-true}
 use Rattle.std.proofs.lemmas.List.{append-nil}
 use Rattle.std.proofs.lemmas.Option.{same_Some}
-use Rattle.entry.specs.declared.key.Key.{Key}
 use Rattle.entry.specs.declared.entry.Object.{Object}
 use Rattle.entry.specs.declared.entry.Tombstone.{Tombstone}
 use Rattle.entry.specs.declared.entry.Entry.{Entry}
 use Rattle.entry.specs.declared.entry.Entry.TheVariants as entry
 use Rattle.entry.specs.Format.{spelling, IsEntry}
 use Rattle.entry.specs.Meaning.{Contents}
-use Rattle.entry.specs.Order.{key_eq}
 use Rattle.entry.specs.Text.{text_of, is_data}
 use Rattle.places.specs.declared.place.Place.{Place}
 use Rattle.places.specs.Map.{Places, found, AreKept, IsSet}
@@ -22,12 +20,11 @@ use Rattle.places.specs.Relocation.{names, moved}
 use Rattle.places.proofs.Words.{found_named, named_found}
 use Rattle.versioned_map.proofs.Keys.{key_eq-true}
 use Rattle.compactor.specs.Kept.{kept}
-use Rattle.compactor.specs.Places.{LiesAt, IsAtPlace, keys_in}
+use Rattle.compactor.specs.Places.{IsAtPlace, keys_in}
 use Rattle.cleaner.specs.Passes.{copied_as, held_with}
 use Rattle.master_state.proofs.Imaging.{same_id}
 use Rattle.master_state.proofs.Indexing.{Grow, Indexes, kept_grown}
 use Rattle.tally.specs.declared.tallies.Tally.{Tally}
-use Rattle.tally.specs.Live.{live_from}
 use Rattle.tally.specs.Right.{IsAppended}
 use Rattle.tally.specs.Rows.{AreRight}
 use Rattle.tally.proofs.Rights.{carry_is_right, replace_is_right}

@@ -1,11 +1,11 @@
 -- What a tally says of a closed segment.
 use Rattle.std.proofs.Common.{◌≡◌, ℕ, ◌+◌, ◌<◌, ◌≤◌, Bool, true, false, List, [], inl, inr, refl, sym, ap, subst, ◌∙◌}
-use Rattle.std.specs.Prelude.{Option, Some, None, unwrap_or, ◌||◌}
+use Rattle.std.specs.Prelude.{Option, Some, None, unwrap_or}
 use Rattle.entry.specs.declared.entry.Entry.{Entry}
 use Rattle.entry.specs.Bag.{IsAmong}
 use Rattle.entry.proofs.ListLemmas.{all_among}
 use Rattle.images.specs.Image.{Image}
-use Rattle.images.specs.Sorted.{AreRising, image_of, segment_of}
+use Rattle.images.specs.Sorted.{AreRising, segment_of}
 use Rattle.images.proofs.Counts.{image_read}
 use Rattle.images.proofs.Fronts.{own_place}
 use Rattle.std.specs.Option.{option_map}

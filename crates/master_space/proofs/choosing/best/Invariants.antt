@@ -1,6 +1,5 @@
 use Rattle.std.proofs.Common.{◌≡◌, ◌<◌, ◌≤◌, vec_len}
 use Rattle.std.specs.Vec.{vec_capacity}
-use Rattle.master_state.specs.contracts.state.Core.{the_view}
 use Rattle.master_space.proofs.Chosen.{best_from}
 use Rattle.master_space.proofs.choosing.best.Given as goal
 

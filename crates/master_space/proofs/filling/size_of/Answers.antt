@@ -1,7 +1,5 @@
-use Rattle.std.proofs.Common.{◌≡◌, ℕ, ap, sym, ◌∙◌}
+use Rattle.std.proofs.Common.{◌≡◌, ℕ, ap, ◌∙◌}
 use Rattle.std.specs.Prelude.{Some, None, nat_le, if◌then◌else◌}
-use Rattle.std.specs.Option.{option_map}
-use Rattle.cleaner.specs.declared.fitting.PassSize.{PassSize}
 use Rattle.cleaner.specs.KeptLengths.{survivors_over}
 use Rattle.cleaner.specs.Passes.{images_in, ids_in}
 use Rattle.master_state.specs.contracts.state.Core.{the_view}

@@ -1,5 +1,4 @@
 use Rattle.std.proofs.Common.{◌≡◌, ◌≤◌, ◌+◌, ℕ, ap, sym, subst, ◌∙◌, arith}
-use Rattle.cleaner.specs.declared.level.Level.{Level}
 use Rattle.master_state.proofs.Refusals.{sizes_of}
 use Rattle.master_state.specs.Data.{MasterData}
 use Rattle.master_state.specs.Log.{log_set_ids}

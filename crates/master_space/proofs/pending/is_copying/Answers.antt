@@ -1,10 +1,9 @@
-use Rattle.std.proofs.Common.{◌≡◌, ◌≢◌, Bool, true, false, not, refl, ap, sym, ◌∙◌, cond}
+use Rattle.std.proofs.Common.{◌≡◌, ◌≢◌, Bool, true, false, not, refl, ap, sym, ◌∙◌}
 use Rattle.std.specs.Prelude.{◌==◌, Some, None, MatchBool, is_some, length, if◌then◌else◌}
 use Rattle.log_head.specs.Head.{is_open}
 use Rattle.master_state.specs.Data.{MasterData}
 use Rattle.master_state.specs.declared.step.Step.{Step}
 use Rattle.master_state.specs.declared.step.Step.TheVariants.{Push, BeginRoll, Copy, Seal, Free}
-use Rattle.master_space.specs.Choosing.{pending_step, pending_without}
 use Rattle.cleaner.specs.Passes.{is_at_end, next_seal as next_seal_of}
 use Rattle.master_space.proofs.pending.is_copying.Goals as goal
 

@@ -1,6 +1,5 @@
 use Rattle.std.proofs.Common.{◌≡◌, ℕ, false, List, length, refl, sym, ap, ◌∙◌, arith}
 use Rattle.std.specs.Prelude.{nat_lt}
-use Rattle.master_state.specs.contracts.state.Core.{the_view}
 use Rattle.master_state.specs.Budget.{may_clean}
 use Rattle.master_state.specs.Causes.{survivors_for}
 use Rattle.master_state.specs.Data.{MasterData}
