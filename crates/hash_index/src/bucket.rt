@@ -91,8 +91,8 @@ impl Bucket {
         self.near.holds(held)
     }
 
-    /// Reads a little at both ends of the slots, so that they are in the cache soon. The result is meaningless; it
-    /// only keeps the compiler from removing the load.
+    /// Reads a little of each cache line of the slots, so that they are in the cache soon. The result is meaningless;
+    /// it only keeps the compiler from removing the load.
     #[inline(always)]
     pub(crate) fn touch(&self) -> u64 {
         self.near.touch()

@@ -105,8 +105,8 @@ impl Near {
         }
     }
 
-    /// Reads a little at both ends of the slots, so that they are in the cache soon. The result is meaningless; it
-    /// only keeps the compiler from removing the load.
+    /// Reads a little of each cache line of the slots, so that they are in the cache soon. The result is meaningless;
+    /// it only keeps the compiler from removing the load.
     #[inline(always)]
     pub(crate) fn touch(&self) -> u64 {
         self.slots.touch()

@@ -294,10 +294,10 @@ impl Slots {
         self.segments[slot] = 0;
     }
 
-    /// Reads the first tag and the last segment, so that both ends of the slots are in the cache soon. The result is
-    /// meaningless.
+    /// Reads the first tag, and the first and the last segment, so that all slots are in the cache soon. A bucket may
+    /// lie in three cache lines. The result is meaningless.
     #[inline(always)]
     pub(crate) fn touch(&self) -> u64 {
-        self.tags[0] as u64 ^ self.segments[SLOTS - 1]
+        self.tags[0] as u64 ^ self.segments[0] ^ self.segments[SLOTS - 1]
     }
 }
