@@ -24,8 +24,9 @@ pub(crate) fn filled_by(core: &Core, id: u64, level: Level) -> Level
     }
 }
 
-/// Returns how many survivors the kept entries of these victims fill; `None` if they fill more than 4. Victims that all
-/// have tallies aren't read, but for those that a survivor's end divides. Others are read, one after another.
+/// Returns how many survivors the kept entries of these victims fill; `None` if they fill more than 4. If all victims
+/// have tallies, objects are looked up in none of them but those that a survivor's end divides. Else victims are read,
+/// one after another.
 pub(crate) fn size_of(core: &Core, victims: &[u64]) -> Option<PassSize>
     requires { victims_fault core.now victims.now ≡ None }
     ensures { option_map (λ (size : SizeOfPass). size.survivors) result
