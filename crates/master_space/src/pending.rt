@@ -21,8 +21,8 @@ pub fn pending_step(core: &Core) -> Option<Step>
     }
 }
 
-/// Returns true if the next step of what is under way treats an entry of the open pass. So whoever makes many of these
-/// steps needn't ask for each.
+/// Returns true if the next step of what is under way treats an entry of the open pass. The answer is smaller than the
+/// step that `pending_step` returns.
 #[inline]
 pub fn is_copying(core: &Core) -> bool
     ensures { MatchBool result (pending_step core.now ≡ Some Step.Copy) (pending_step core.now ≢ Some Step.Copy) }

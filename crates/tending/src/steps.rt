@@ -94,7 +94,7 @@ pub(crate) fn make_step<F: Fleet>(
     }
 }
 
-/// Treats the next entry of the open pass. Most steps of a cleaner do so, and none is shorter.
+/// Treats the next entry of the open pass. The policy stands in the clause alone: no policy stops behind such a step.
 #[inline(always)]
 fn copy_entry<F: Fleet>(master: &mut Master<F>, _policy: &Policy) -> Result<Option<bool>, Refusal>
     requires { pending_step master.old.knows ≡ Some Step.Copy }
