@@ -15,7 +15,7 @@ Undetermined there, `script_orders.py` follows each order if there are few, and 
 from __future__ import annotations
 
 import re
-from collections import deque
+from collections import Counter, deque
 from dataclasses import dataclass, field, fields, replace
 
 NO_LIMIT = 2**64 - 1
@@ -717,20 +717,21 @@ class Pass:
 
 @dataclass(frozen=True)
 class Weight:
-    """What a closed segment has: the bytes of its image and of its opening, and those of its kept objects and tombstones."""
+    """What a closed segment has: the bytes of its image and of its opening, and those of its kept objects and tombstones. `named` is
+    the bytes of kept tombstones of closed segments that name it."""
 
     id: int
     length: int
     opening: int
     live: int
     stones: int
+    named: int
 
     @staticmethod
-    def of(master, segment):
-        kept = [entry for _, entry in master.kept_of((segment.id,))]
+    def of(master, segment, kept, named):
         live, stones = (sum(len(it.spelled()) for it in kept if isinstance(it, kind)) for kind in (Object, Tombstone))
         opening = len(segment.text) - sum(len(it.spelled()) for _, it in master.rest_of((segment.id,)))
-        return Weight(segment.id, len(segment.text), opening, live, stones)
+        return Weight(segment.id, len(segment.text), opening, live, stones, named)
 
     def kept(self):
         return self.live + self.stones
@@ -800,8 +801,8 @@ class Policy:
         return victims, kept, seglets
 
     def gives(self, weight):
-        """What a segment gives back of memory, and one byte."""
-        return self.seglets(weight.length) * self.options.seglet - weight.kept() + 1
+        """What a segment gives back of memory, one byte, and twice the bytes of the tombstones that name it."""
+        return self.seglets(weight.length) * self.options.seglet - weight.kept() + 1 + 2 * weight.named
 
     def begin_pass(self, weights, best):
         """The pass that a cleaner begins by itself, or the compaction in its place; None if there is none."""
@@ -1096,7 +1097,11 @@ class Master:
 
     def weights(self):
         """What the closed segments of the digest in force keep."""
-        return [Weight.of(self, it) for it in self.log()[:-1]]
+        closed = [(it, [entry for _, entry in self.kept_of((it.id,))]) for it in self.log()[:-1]]
+        named = Counter()
+        for entry in (entry for _, kept in closed for entry in kept if isinstance(entry, Tombstone)):
+            named[entry.segment] += len(entry.spelled())
+        return [Weight.of(self, it, kept, named[it.id]) for it, kept in closed]
 
     def cleaned(self, ids, options):
         """The master after the begin of a pass."""

@@ -513,6 +513,8 @@ struct Master {
     rows: Vec<Row>,
     /// For each closed segment, once a cleaner looked at it: the bytes of its tombstones, by the segment that they name.
     named: Vec<Option<Vec<(u64, usize)>>>,
+    /// The bytes of those tombstones that name a segment, by its id.
+    naming: Vec<usize>,
 }
 
 /// What is counted of a segment.
@@ -566,6 +568,7 @@ impl Master {
             history: History::default(),
             rows: vec![Row::default()],
             named: vec![None],
+            naming: vec![0],
         };
         let id = master.take_id()?;
         let image = master.opening(id, &[]);
@@ -583,6 +586,7 @@ impl Master {
         self.images.push(None);
         self.rows.push(Row::default());
         self.named.push(None);
+        self.naming.push(0);
         Ok(id)
     }
 
@@ -927,7 +931,9 @@ impl Master {
             self.closed -= self.count(image.len());
         }
         for &id in victims {
-            self.named[id as usize] = None;
+            for (segment, len) in self.named[id as usize].take().into_iter().flatten() {
+                self.naming[segment as usize] -= len;
+            }
         }
         for (row, named) in self.rows.iter_mut().zip(&mut self.named) {
             let Some(named) = named else { continue };
@@ -1024,6 +1030,9 @@ impl Master {
             }
         }
         self.rows[id as usize].stones = named.iter().map(|(_, len)| len).sum();
+        for &(segment, len) in &named {
+            self.naming[segment as usize] += len;
+        }
         self.named[id as usize] = Some(named);
     }
 
@@ -1059,7 +1068,7 @@ impl Master {
             let mut best: Option<(u64, usize, usize)> = None;
             for &id in closed {
                 let (len, keeps) = (self.count(self.image(id).len()), self.rows[id as usize].kept());
-                let gives = len * self.sizes.seglet - keeps + 1;
+                let gives = len * self.sizes.seglet - keeps + 1 + 2 * self.naming[id as usize];
                 let is_better = best.is_none_or(|(_, kept, given)| keeps * given < kept * gives);
                 if is_better && keeps <= space - kept && !victims.contains(&id) {
                     best = Some((id, keeps, gives));

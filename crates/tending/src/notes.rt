@@ -9,7 +9,7 @@ use std::alloc::Global;
 use std::marker::Model;
 use std::mem::replace;
 
-/// The bytes of some tombstones of a segment.
+/// A segment, and the bytes of some tombstones that lie in it or name it.
 #[derive(Clone, Copy)]
 struct Stones {
     segment: u64,
@@ -26,6 +26,10 @@ pub(crate) struct Note {
     pub opening: u64,
     /// The bytes of its tombstones that name a segment of the digest in force.
     pub stones: u64,
+    /// The bytes of the noted segments' tombstones that name this one.
+    pub named: u64,
+    /// The segments that its tombstones name, by rising id. Some of these segments may have left the digest.
+    names: Vec<Stones>,
     /// The tombstones that name this segment, by the rising id of the segment in which they are. Some of these segments
     /// may have left the digest.
     namers: Vec<Stones>,
@@ -108,31 +112,52 @@ impl Notes {
     }
 
     /// Takes out the notes of these segments, which are by rising id. The tombstones that name one of them are kept no
-    /// more.
+    /// more, and those that lie in one of them are gone.
     fn forget(&mut self, gone: &[u64]) {
         if gone.is_empty() {
             return;
         }
         for id in gone {
-            self.lower(*id);
+            self.leave(*id);
         }
         self.notes
             .retain(|note| gone.binary_search(&note.id).is_err());
     }
 
-    /// The tombstones that name this segment don't count any more. The call goes once through the notes.
-    fn lower(&mut self, id: u64) {
+    /// Takes off what tombstones of this segment or for it count in the notes of others.
+    fn leave(&mut self, id: u64) {
         let Ok(at) = self.notes.binary_search_by_key(&id, |note| note.id) else {
             return;
         };
-        let none = Vec::new(self.alloc());
-        let namers = replace(&mut self.notes[at].namers, none);
+        let alloc = self.alloc();
+        let namers = replace(&mut self.notes[at].namers, Vec::new(alloc));
+        self.lower_stones(namers.as_slice());
+        if at < self.notes.len() {
+            let names = replace(&mut self.notes[at].names, Vec::new(alloc));
+            self.lower_named(names.as_slice());
+        }
+    }
+
+    /// These tombstones name a segment that leaves, so they are kept no more. The call goes once through the notes.
+    fn lower_stones(&mut self, namers: &[Stones]) {
         let mut next = 0;
-        for namer in namers.iter() {
+        for namer in namers {
             next = self.place_from(next, namer.segment);
             if next < self.notes.len() && self.notes[next].id == namer.segment {
                 let note = &mut self.notes[next];
                 note.stones = note.stones.saturating_sub(namer.bytes);
+            }
+        }
+    }
+
+    /// The tombstones that named these segments leave. The call goes once through the notes.
+    fn lower_named(&mut self, names: &[Stones]) {
+        let mut next = 0;
+        for name in names {
+            next = self.place_from(next, name.segment);
+            if next < self.notes.len() && self.notes[next].id == name.segment {
+                let note = &mut self.notes[next];
+                note.named = note.named.saturating_sub(name.bytes);
             }
         }
     }
@@ -204,9 +229,11 @@ impl Notes {
         self.add_namers(id, named.as_slice(), ids)?;
         let opening = master.opening_len(id).unwrap_or(0) as u64;
         if at < self.notes.len() {
-            self.notes[at].opening = opening;
-            self.notes[at].stones = bytes_of(named.as_slice());
-            self.notes[at].is_read = true;
+            let note = &mut self.notes[at];
+            note.opening = opening;
+            note.stones = bytes_of(named.as_slice());
+            note.names = named;
+            note.is_read = true;
         }
         Ok(())
     }
@@ -232,6 +259,8 @@ impl Note {
             is_read: false,
             opening: 0,
             stones: 0,
+            named: 0,
+            names: Vec::new(alloc),
             namers: Vec::new(alloc),
         }
     }
@@ -244,11 +273,15 @@ impl Note {
                 .retain(|one| ids.binary_search(&one.segment).is_ok());
         }
         match self.namers.binary_search_by_key(&id, |one| one.segment) {
-            Ok(at) => self.namers[at].bytes = bytes,
+            Ok(at) => {
+                self.named = self.named.saturating_sub(self.namers[at].bytes);
+                self.namers[at].bytes = bytes;
+            }
             Err(at) => {
                 self.namers.insert(at, Stones { segment: id, bytes })?;
             }
         }
+        self.named = self.named.saturating_add(bytes);
         Ok(())
     }
 }

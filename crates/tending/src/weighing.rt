@@ -22,7 +22,8 @@ pub(crate) struct Weight {
     pub stones: u64,
     /// How many seglets a compaction of the segment gives back.
     pub gain: u64,
-    /// How many bytes of memory a pass over the segment gives back, but for what is kept of it.
+    /// How many bytes of memory a pass over the segment gives back, but for what is kept of it, and twice those of the
+    /// tombstones that name it: they aren't kept any more then.
     pub gives: u64,
 }
 
@@ -78,7 +79,8 @@ fn weigh(counter: &SegletCounter, note: &Note, len: u64, kept: u64) -> Weight {
         gives: seglets
             .saturating_mul(counter.seglet)
             .saturating_sub(kept)
-            .saturating_add(1),
+            .saturating_add(1)
+            .saturating_add(note.named.saturating_mul(2)),
     }
 }
 
