@@ -23,7 +23,7 @@ use Rattle.cleaner.specs.declared.pass.Copied.{Copied}
 use Rattle.cleaner.specs.Filling.{filled_one, HasRooms}
 use Rattle.cleaner.specs.KeptLengths.{lengths_at, kept_lengths, HasRoomsIn}
 use Rattle.cleaner.specs.Passes.{images_in, survivor_ids, rest_of, is_at_end, places_on, level_of, filling_with}
-use Rattle.cleaner.specs.Passes.{copy_place, images_with, held_with, AreVictims, IsAhead, IsCursorAt, IsPass, CopiesOne}
+use Rattle.cleaner.specs.Passes.{next_len, copy_place, images_with, held_with, AreVictims, IsAhead, IsCursorAt, IsPass, CopiesOne}
 use Rattle.cleaner.specs.Walks.{IsAtData, GoesTo, HasPlace, Treats}
 use Rattle.cleaner.proofs.Fillings.{rooms_have_next, rooms_count, copy_leaves}
 use Rattle.cleaner.proofs.Images.{len_is, is_victim, are_there, with_whole, with_victims, with_same}
@@ -204,7 +204,7 @@ module _ (seed : List ℕ) (p : Pass) (images : List Image) (pass : IsPass seed 
             omega (arith, is, lt)
         go false is r = let lt = filling_there segment ids held room in omega (arith, is, lt)
 
-    module _ (there : to < p.survivors.count) (cursor : Cursor)
+    module _ (size : next_len p ≡ n) (there : to < p.survivors.count) (cursor : Cursor)
         (goes : GoesTo later.seed (images_in after) p.victims (record {
           victim = p.cursor.victim;
           at = p.cursor.at + n;
@@ -224,6 +224,7 @@ module _ (seed : List ℕ) (p : Pass) (images : List Image) (pass : IsPass seed 
         stands = t.seen.stands;
         valid = t.seen.valid;
         of_data = t.seen.of_data;
+        size = size ∙ t.seen.size;
         told = t.told;
         filling = t.filled;
         within = there;

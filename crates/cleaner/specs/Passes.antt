@@ -1,9 +1,9 @@
 -- A pass over victims: the places that it still has to treat, and what it does at one of them.
 use Rattle.std.specs.Prelude.{◌≡◌, ℕ, ◌+◌, ◌^◌, ◌≤◌, ◌<◌, ◌==◌, Bool, true, false, ◌&&◌, if◌then◌else◌, nat_le}
 use Rattle.std.specs.Prelude.{List, [], ◌∷◌, ◌++◌, length, map, drop, filter, Option, Some, None, IsSome, is_none}
-use Rattle.std.specs.Prelude.{unwrap_or}
+use Rattle.std.specs.Prelude.{slice_get, unwrap_or}
 use Rattle.std.specs.List.{AllByRecursion, range_with_len}
-use Rattle.std.specs.Option.{option_to_list}
+use Rattle.std.specs.Option.{option_map, option_to_list}
 use Rattle.entry.specs.declared.entry.Entry.{Entry}
 use Rattle.entry.specs.declared.entry.Entry.TheVariants as entry
 use Rattle.entry.specs.Bag.{IsAmong}
@@ -115,6 +115,10 @@ abbrev pub seen_len : Seen → ℕ
 seen_len (seen.Object hash len) = len
 seen_len (seen.Tombstone segment len) = len
 
+-- the length of the entry that a pass treats next; 0 at the end
+abbrev pub next_len : Pass → ℕ
+next_len p = unwrap_or (option_map seen_len (slice_get p.cursor.ahead 0)) 0
+
 -- An object or a tombstone stands at the offset, and this is what is remembered of it.
 pub record IsSeenAt (seed : List ℕ) (es : List Entry) (at : ℕ) (x : Seen) : Type 0 where
   pub entry : Entry
@@ -186,6 +190,7 @@ pub record CopiesOne (segment : ℕ) (ids : List ℕ) (p : Pass) (images : List 
   pub stands : IsAtPlace (images_in images) place entry
   pub valid : IsEntry entry
   pub of_data : is_data entry ≡ true
+  pub size : next_len p ≡ length (spelling entry)
   -- Moved or Carried if it is kept, else Dropped
   pub told : copied ≡ copied_as (kept ids held place entry) entry
   pub filling : q.filling ≡ filling_with (kept ids held place entry) segment (level_of p images) entry

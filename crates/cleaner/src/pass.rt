@@ -5,7 +5,7 @@ ghost use Rattle.std.specs.Prelude.{slice_get};
 ghost use Rattle.std.specs.List.{AllByRecursion};
 ghost use Rattle.images.specs.Sorted.{segment_of};
 ghost use Rattle.cleaner.specs.Passes.{images_in, ids_in, AreVictims, AreIds, places_of, rest_of, is_at_end, is_ready};
-ghost use Rattle.cleaner.specs.Passes.{next_seal, seen_len, IsCursorAt, IsPass, CopiesOne};
+ghost use Rattle.cleaner.specs.Passes.{next_seal, next_len, seen_len, IsCursorAt, IsPass, CopiesOne};
 ghost use Rattle.cleaner.specs.KeptLengths.{HasRoomsIn};
 ghost use Rattle.cleaner.specs.Walks.{IsPositionBetween, GoesTo};
 
@@ -163,6 +163,17 @@ impl Pass {
             first_lacking(self.survivors, replicas, images)
         } else {
             None
+        }
+    }
+
+    /// Returns the length in bytes of the object or tombstone that is treated next; 0 at the end.
+    #[inline(always)]
+    pub fn next_len(&self) -> usize
+        ensures { result ≡ next_len self.now }
+    {
+        match self.cursor.ahead.first() {
+            Some(seen) => seen.len(),
+            None => 0,
         }
     }
 

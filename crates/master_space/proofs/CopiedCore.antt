@@ -19,7 +19,7 @@ use Rattle.cleaner.specs.declared.pass.Copied.{Copied}
 use Rattle.cleaner.specs.declared.pass.Pass.{Pass}
 use Rattle.cleaner.specs.KeptLengths.{HasRoomsIn}
 use Rattle.cleaner.specs.Passes.{images_in, survivor_ids, images_with, held_with, copy_place, rest_of, is_at_end}
-use Rattle.cleaner.specs.Passes.{copied_as, level_of, IsPass, CopiesOne}
+use Rattle.cleaner.specs.Passes.{copied_as, level_of, next_len, IsPass, CopiesOne}
 use Rattle.cleaner.proofs.Lacking.{copied_replicas}
 use Rattle.cleaner.proofs.Images.{with_other, len_is, is_victim}
 use Rattle.cleaner.proofs.Leaving.{left_rooms}
@@ -36,7 +36,7 @@ use Rattle.log_head.specs.log_laws.Heads.{ids_of}
 use Rattle.log_head.specs.log_laws.Ids.{has, all_inserted}
 use Rattle.tally.specs.declared.tallies.Tally.{Tally}
 use Rattle.tally.specs.Rows.{AreRight}
-use Rattle.master_space.specs.Counting.{next_victim, longer, IsCopyCounted}
+use Rattle.master_space.specs.Counting.{next_victim, IsCopyCounted}
 use Rattle.master_state.specs.Budget.{victims_of, survivors_of, used_seglets}
 use Rattle.master_state.specs.Data.{MasterData}
 use Rattle.master_state.specs.Images.{images_among, new_image_or}
@@ -45,7 +45,7 @@ use Rattle.master_state.specs.Invariant.{listed_with, AreTallied}
 use Rattle.master_state.specs.Log.{log_set_ids, images_of, find, state_now}
 use Rattle.master_state.proofs.Calm.{no_failover}
 use Rattle.master_space.proofs.CopiedImages.{tail_of, ids_same, segments_then, replicas_then, count_same, own_then}
-use Rattle.master_space.proofs.CopiedLengths.{victim_is, longer_is, counted_by}
+use Rattle.master_space.proofs.CopiedLengths.{victim_is}
 use Rattle.master_space.proofs.CopiedPlaces.{index_treated, found_treated}
 use Rattle.master_space.proofs.CopiedTallies.{copied_right}
 use Rattle.master_state.proofs.Finding.{each_of, each_among, index_of}
@@ -417,17 +417,12 @@ module _ (d : MasterData) (core : IsCore d) (p q : Pass) (copied : Copied) (clos
   at : q.survivors.first + q.filling ≡ goal_id
   at = ap (λ (z : Pass). z.survivors.first + q.filling) one.pass
 
-  counted_one : IsCopyCounted copied (next_victim p) (q.survivors.first + q.filling)
-      (longer (level_of p d.closed) (level_of q closed_after)) old new
+  counted_one : IsCopyCounted copied (next_victim p) (q.survivors.first + q.filling) (next_len p) old new
       → IsCopyCounted (copied_as is_kept one.entry) one.place.segment goal_id (length (spelling one.entry)) old new
   counted_one counted =
-      counted_by is_kept one.entry (next_victim p) one.place.segment goal_id
-      (longer (level_of p d.closed) (level_of q closed_after)) (length (spelling one.entry)) old new
-      (victim_is d.index.seed d.closed p is_open.pass more one.place one.later one.first)
-      (longer_is d.config.segment (log_set_ids d) p q d.closed closed_after d.index held_after copied one
-      is_open.rooms.blank (all_among (IsWhole d.closed) (survivor_ids p.survivors) goal_id is_open.pass.whole member))
-      (subst (λ (y : Copied × ℕ). IsCopyCounted y.0 (next_victim p) y.1
-      (longer (level_of p d.closed) (level_of q closed_after)) old new) (λ i. (one.told i, at i)) counted)
+      let victim = victim_is d.index.seed d.closed p is_open.pass more one.place one.later one.first in
+      subst (λ (y : Copied × ℕ × ℕ × ℕ). IsCopyCounted y.0 y.1 y.2 y.3 old new)
+      (λ i. (one.told i, victim i, at i, one.size i)) counted
 
   ids_after : log_set_ids d ≡ log_set_ids (record d { closed = closed_after; index = held_after; pass = Some q })
   ids_after =
@@ -435,8 +430,7 @@ module _ (d : MasterData) (core : IsCore d) (p q : Pass) (copied : Copied) (clos
       (sym (ids_same d.closed goal_id one.entry is_kept)
       ∙ ap (λ (cs : List Image). map (λ (c : Image). c.id) cs) (sym one.survivor))
 
-  pub copied_tallies : IsCopyCounted copied (next_victim p) (q.survivors.first + q.filling)
-      (longer (level_of p d.closed) (level_of q closed_after)) old new
+  pub copied_tallies : IsCopyCounted copied (next_victim p) (q.survivors.first + q.filling) (next_len p) old new
       → AreTallied d old → AreTallied (record d { closed = closed_after; index = held_after; pass = Some q }) new
   copied_tallies counted right =
       subst (λ (y : List ℕ × Places × (ℕ → List Entry)). AreRight y.0 y.1 y.2 new)

@@ -1,6 +1,5 @@
 -- What the steps of a pass make of the tallies.
-use Rattle.std.specs.Prelude.{◌≡◌, ◌⊎◌, ℕ, ◌-◌, ◌==◌, if◌then◌else◌, List, get_or}
-use Rattle.cleaner.specs.declared.level.Level.{Level}
+use Rattle.std.specs.Prelude.{◌≡◌, ◌⊎◌, ℕ, List, get_or}
 use Rattle.cleaner.specs.declared.pass.Copied.{Copied}
 use Rattle.cleaner.specs.declared.pass.Copied.TheVariants.{Moved, Carried, Dropped}
 use Rattle.cleaner.specs.declared.pass.Pass.{Pass}
@@ -11,11 +10,6 @@ use Rattle.tally.specs.Rows.{more, less, of_nothing, IsChangedAt}
 -- the victim in which the next entry of a pass lies
 abbrev pub next_victim : Pass → ℕ
 next_victim p = get_or p.victims p.cursor.victim 0
-
--- How many bytes the survivors got between two levels, with at most one entry more. A survivor that begins to be filled
--- had its header alone, of 18 bytes.
-abbrev pub longer : Level → Level → ℕ
-longer before after = if after.survivor == before.survivor then after.len - before.len else after.len - 18
 
 -- What became of an entry of so many bytes of a victim is counted. An object that was moved lives in the survivor, and
 -- no longer in the victim. A tombstone that was carried is kept in the survivor, too.

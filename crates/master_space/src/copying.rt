@@ -1,12 +1,11 @@
 //! How one entry of a pass is copied and counted.
 
-ghost use Rattle.std.specs.Prelude.{◌≡◌, ◌+◌, ◌<◌, false};
+ghost use Rattle.std.specs.Prelude.{◌≡◌, ◌+◌, false};
 ghost use Rattle.cleaner.specs.KeptLengths.{HasRoomsIn};
-ghost use Rattle.cleaner.specs.Passes.{ids_in, level_of, is_at_end, AreIds, IsPass, CopiesOne};
-ghost use Rattle.master_space.specs.Counting.{next_victim, longer, IsCopyCounted};
+ghost use Rattle.cleaner.specs.Passes.{ids_in, next_len, is_at_end, IsPass, CopiesOne};
+ghost use Rattle.master_space.specs.Counting.{next_victim, IsCopyCounted};
 
-use cleaner::{Copied, Level, Pass};
-use entry::HEADER_LEN;
+use cleaner::{Copied, Pass};
 use hash_index::Index;
 use images::Images;
 use tally::Tallies;
@@ -30,42 +29,14 @@ pub(crate) fn copy_next(
     ensures images { closed.new ≡ record closed.old { images = closed.new.images } }
     ensures room { index.new.room ≡ index.old.room }
     ensures counted { IsCopyCounted result (next_victim pass.old) (pass.new.survivors.first + pass.new.filling)
-        (longer (level_of pass.old closed.old.images) (level_of pass.new closed.new.images)) tallies.old tallies.new }
+        (next_len pass.old) tallies.old tallies.new }
 {
     let victim = pass.victims.as_slice()[pass.cursor.victim];
-    let before = level_of(pass, closed);
+    let len = pass.next_len();
     let copied = pass.copy_one(closed, index, head, new);
-    let after = level_of(pass, closed);
     let survivor = pass.survivors.id(pass.filling);
-    count_copy(tallies, copied, victim, survivor, longer(before, after));
+    count_copy(tallies, copied, victim, survivor, len);
     copied
-}
-
-/// Returns how far the survivors of a pass are filled.
-fn level_of(pass: &Pass, closed: &Images) -> Level
-    requires ids { AreIds pass.now.survivors }
-    requires there { pass.now.filling < pass.now.survivors.count }
-    ensures { result ≡ level_of pass.now closed.now.images }
-{
-    let len = match closed.get(pass.survivors.id(pass.filling)) {
-        None => 0,
-        Some(segment) => segment.bytes().len(),
-    };
-    Level {
-        survivor: pass.filling,
-        len,
-    }
-}
-
-/// Returns how many bytes survivors got between two levels with at most one entry more.
-fn longer(before: Level, after: Level) -> usize
-    ensures { result ≡ longer before after }
-{
-    if after.survivor == before.survivor {
-        after.len.saturating_sub(before.len)
-    } else {
-        after.len.saturating_sub(HEADER_LEN)
-    }
 }
 
 /// Counts what became of an entry of `len` bytes of a victim: an object that was moved lives in the survivor now, and a

@@ -31,6 +31,28 @@ fn is_last(rows: &[Tally], segment: u64) -> bool
     !rows.is_empty() && rows[rows.len() - 1].segment == segment
 }
 
+/// Returns what `place_of` returns. Looks first at a place where the tally may be.
+#[inline]
+pub(crate) fn place_near(rows: &[Tally], segment: u64, near: usize) -> Option<usize>
+    requires { AreRising rows.now }
+    ensures found { IfSome result (IsPlaceOf rows.now segment) }
+    ensures absent { IfNone result (HasNo segment rows.now) }
+{
+    if is_at(rows, segment, near) {
+        Some(near)
+    } else {
+        place_of(rows, segment)
+    }
+}
+
+/// Returns true if the tally at a place is of this segment.
+#[inline]
+fn is_at(rows: &[Tally], segment: u64, at: usize) -> bool
+    ensures { result ≡ true → IsPlaceOf rows.now segment at }
+{
+    at < rows.len() && rows[at].segment == segment
+}
+
 /// Returns the place of the tally of a segment, or None if there is none. A binary search finds out.
 fn place_among(rows: &[Tally], segment: u64) -> Option<usize>
     requires { AreRising rows.now }

@@ -5,7 +5,7 @@ ghost use Rattle.entry.specs.Bag.{IsAmong};
 ghost use Rattle.tally.specs.Rows.{IsChangedAt, IsCommitted, WithOne, less, more, staled, of_nothing, exact, HasNo};
 ghost use Rattle.tally.specs.Rows.{OthersAreKept, AllAreKept, IsKeptAt, AreKeptBut, Fits};
 
-use crate::placing::{is_above_all, place_for, place_of, stale, take_out};
+use crate::placing::{is_above_all, place_for, place_near, place_of, stale, take_out};
 use std::alloc::Global;
 use std::marker::Model;
 
@@ -64,6 +64,9 @@ impl Tally {
 #[derive(Drop)]
 pub struct Tallies {
     rows: Vec<Tally>,
+    /// Where the last segment was whose bytes were counted less: a pass counts its victim so entry by entry. The hint
+    /// only spares a search.
+    near: usize,
 }
 
 impl Model for Tallies {
@@ -85,6 +88,7 @@ impl Tallies {
     {
         Tallies {
             rows: Vec::new(alloc),
+            near: 0,
         }
     }
 
@@ -155,7 +159,8 @@ impl Tallies {
         ensures kept { IsKeptAt segment (less live) self.old self.new }
         ensures others { OthersAreKept segment self.old self.new }
     {
-        if let Some(at) = place_of(self.rows.as_slice(), segment) {
+        if let Some(at) = place_near(self.rows.as_slice(), segment, self.near) {
+            self.near = at;
             self.rows[at] = self.rows[at].less(live);
         }
     }

@@ -1,5 +1,8 @@
-use Rattle.std.proofs.Common.{ℕ, ◌+◌, ◌<◌, List, get_or, refl, subst}
-use Rattle.cleaner.specs.Passes.{images_in, ids_in, seen_len}
+use Rattle.std.proofs.Common.{ℕ, ◌≡◌, ◌+◌, ◌<◌, List, get_or, refl, subst, sym, ap, ◌∙◌}
+use Rattle.std.specs.Prelude.{Option, unwrap_or}
+use Rattle.std.specs.Option.{option_map}
+use Rattle.cleaner.specs.declared.ahead.Seen.{Seen}
+use Rattle.cleaner.specs.Passes.{images_in, ids_in, seen_len, next_len}
 use Rattle.cleaner.specs.Walks.{GoesTo, Treats}
 use Rattle.cleaner.proofs.Places.{place_at}
 use Rattle.cleaner.proofs.Steps.{own_room, filling_after, after_there, after_cursor, copies, stays_pass}
@@ -27,6 +30,10 @@ treated c =
     c.args.index.now.held (place_at (get_or vs p.cursor.victim 0) p.cursor.at) p.survivors p.filling
     c.treat-copied.result (seen_len c.in-Some.seen) c.treat-copied.new.filling c.treat-copied.new.images.images
     c.treat-copied.new.index.held) c.as_slice-victims.ensures c.treat-copied.ensures.treated
+
+-- the entry is as long as the pass says
+size : (c : After-treat-copied) → next_len c.args.self.now ≡ seen_len c.in-Some.seen
+size c = ap (λ (o : Option Seen). unwrap_or (option_map seen_len o) 0) (sym c.first.ensures ∙ c.in-Some.is)
 
 -- the survivor that is filled then is one of them
 within : (c : After-treat-copied) → c.treat-copied.new.filling < c.args.self.now.survivors.count
@@ -81,6 +88,7 @@ returns-clause-copied c =
     (ids_in images c.args.head c.args.new) held refl c.treat-copied.result (seen_len c.in-Some.seen)
     c.treat-copied.new.filling c.treat-copied.new.images.images c.treat-copied.new.index.held
     (treated (goal.at.returns-clause-copied c).After-treat-copied)
+    (size (goal.at.returns-clause-copied c).After-treat-copied)
     (within (goal.at.returns-clause-copied c).After-treat-copied)
     c.go_on.new.cursor
     (gone (goal.at.returns-clause-copied c).After-go_on)
@@ -93,6 +101,7 @@ returns-clause-pass c =
     (ids_in images c.args.head c.args.new) held refl c.treat-copied.result (seen_len c.in-Some.seen)
     c.treat-copied.new.filling c.treat-copied.new.images.images c.treat-copied.new.index.held
     (treated (goal.at.returns-clause-pass c).After-treat-copied)
+    (size (goal.at.returns-clause-pass c).After-treat-copied)
     (within (goal.at.returns-clause-pass c).After-treat-copied)
     c.go_on.new.cursor
     (gone (goal.at.returns-clause-pass c).After-go_on)

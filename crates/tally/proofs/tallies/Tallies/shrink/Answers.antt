@@ -35,11 +35,11 @@ returns-in-Some-clause-others c = rw (← c.self.view_is) (
 pub returns-in_default-clause-shrunk : goal.returns-in_default-clause-shrunk
 returns-in_default-clause-shrunk c = rw (← c.self.view_is) (
     none_changed c.args.segment (less c.args.live) c.self.inside.rows.items
-    (none_found c.args.segment c.as_slice.result.now c.self.inside.rows.items c.place_of.result
-    c.as_slice.ensures.value c.place_of.ensures.absent c.in_default.not-Some))
+    (none_found c.args.segment c.as_slice.result.now c.self.inside.rows.items c.place_near.result
+    c.as_slice.ensures.value c.place_near.ensures.absent c.in_default.not-Some))
 
 pub returns-in_default-clause-kept : goal.returns-in_default-clause-kept
 returns-in_default-clause-kept c = rw (← c.self.view_is) (
     none_kept c.args.segment (less c.args.live) c.self.inside.rows.items
-    (none_found c.args.segment c.as_slice.result.now c.self.inside.rows.items c.place_of.result
-    c.as_slice.ensures.value c.place_of.ensures.absent c.in_default.not-Some))
+    (none_found c.args.segment c.as_slice.result.now c.self.inside.rows.items c.place_near.result
+    c.as_slice.ensures.value c.place_near.ensures.absent c.in_default.not-Some))
