@@ -11,8 +11,8 @@
 //!
 //! - `three` or `six`: with `three`, as in `ramlog`, the holding that makes a step also answers a call whose record is durable
 //!   then, so a put takes the lock three times and a get once. With `six` an answer has a holding of its own.
-//! - `back` or `sleep`: with `back`, as in `ramlog`, a thread that finds the lock held tries again, and lets other threads run before
-//!   each try, before it sleeps. With `sleep` it waits as Rust's mutex does.
+//! - `back` or `sleep`: with `back`, as in `ramlog`, a thread that finds the lock held tries again, and pauses and lets other threads
+//!   run before each try, before it sleeps. With `sleep` it waits as Rust's mutex does.
 
 use std::collections::HashMap;
 use std::hint::{black_box, spin_loop};
@@ -20,8 +20,10 @@ use std::sync::{Mutex, MutexGuard, TryLockError};
 use std::thread;
 use std::time::Instant;
 
-/// How often the processor pauses before a thread tries the second time, and how often the thread then tries before it sleeps.
-const PAUSES: usize = 16;
+/// How often the processor pauses before a thread tries the second time, how often at most before it tries again, and how often the
+/// thread tries before it sleeps.
+const FIRST_PAUSES: usize = 16;
+const MOST_PAUSES: usize = 128;
 const TRIES: usize = 2_000;
 
 /// Where an object is: its version, its segment, and where its value begins and ends there.
@@ -189,14 +191,16 @@ impl<const REPLICAS: usize> Store<REPLICAS> {
         if let Some(guard) = self.attempt() {
             return guard;
         }
-        for _ in 0..PAUSES {
-            spin_loop();
-        }
+        let mut pauses = FIRST_PAUSES;
         for _ in 0..TRIES {
+            for _ in 0..pauses {
+                spin_loop();
+            }
             if let Some(guard) = self.attempt() {
                 return guard;
             }
             thread::yield_now();
+            pauses = (2 * pauses).min(MOST_PAUSES);
         }
         self.master.lock().unwrap()
     }
