@@ -4,8 +4,10 @@ use std::hint::spin_loop;
 use std::sync::{Mutex, MutexGuard, Wait};
 use std::thread::yield_now;
 
-/// How many pauses of the processor come before the second try, and the most before a later one.
+/// How many pauses of the processor come before the second try.
 const FIRST_PAUSES: u32 = 16;
+
+/// The most pauses before a later try.
 const MOST_PAUSES: u32 = 128;
 
 /// How often a thread then tries to take a lock that is held, before it sleeps until the lock is free.
