@@ -19,7 +19,7 @@ use Rattle.cleaner.specs.declared.pass.Copied.{Copied}
 use Rattle.cleaner.specs.declared.pass.Pass.{Pass}
 use Rattle.cleaner.specs.KeptLengths.{HasRoomsIn}
 use Rattle.cleaner.specs.Passes.{images_in, survivor_ids, images_with, held_with, copy_place, rest_of, is_at_end}
-use Rattle.cleaner.specs.Passes.{copied_as, level_of, next_len, IsPass, CopiesOne}
+use Rattle.cleaner.specs.Passes.{copied_as, next_len, IsPass, CopiesOne}
 use Rattle.cleaner.proofs.Lacking.{copied_replicas}
 use Rattle.cleaner.proofs.Images.{with_other, len_is, is_victim}
 use Rattle.cleaner.proofs.Leaving.{left_rooms}

@@ -1,33 +1,17 @@
 -- What the code of a copy tells: the victim in which the next entry lies.
-use Rattle.std.proofs.Common.{◌≡◌, ℕ, suc, ◌+◌, ◌-◌, Bool, true, false, cond, List, [], ◌∷◌, ◌++◌, length}
-use Rattle.std.proofs.Common.{drop, refl, sym, ap, subst, ◌∙◌, arith}
-use Rattle.std.specs.Prelude.{nat_le, ◌==◌, if◌then◌else◌}
-use Rattle.std.proofs.lemmas.Bool.{eqb-true, eq-eqb}
-use Rattle.std.proofs.lemmas.List.{drop_more, length-append}
-use Rattle.entry.specs.declared.entry.Entry.{Entry}
-use Rattle.entry.specs.Format.{spelling}
-use Rattle.entry.specs.Text.{text_of}
-use Rattle.entry.proofs.TextLemmas.{length_first}
-use Rattle.segment.proofs.RowLemmas.{text_of-append}
+use Rattle.std.proofs.Common.{◌≡◌, ℕ, ◌+◌, false, List, ◌∷◌}
+use Rattle.std.proofs.Common.{drop, sym, ap, ◌∙◌}
+use Rattle.std.proofs.lemmas.List.{drop_more}
 use Rattle.places.specs.declared.place.Place.{Place}
-use Rattle.places.specs.Map.{Places}
 use Rattle.images.specs.Image.{Image}
-use Rattle.images.specs.Sorted.{IsWhole}
-use Rattle.compactor.specs.Kept.{kept}
-use Rattle.cleaner.specs.declared.level.Level.{Level}
-use Rattle.cleaner.specs.declared.pass.Copied.{Copied}
 use Rattle.cleaner.specs.declared.pass.Pass.{Pass}
-use Rattle.cleaner.specs.Filling.{behind, beginning, filled_one}
-use Rattle.cleaner.specs.KeptLengths.{AreBlank}
-use Rattle.cleaner.specs.Passes.{images_in, images_with, filling_with, level_of, rest_of, places_on, is_at_end}
-use Rattle.cleaner.specs.Passes.{copied_as, IsPass, CopiesOne}
+use Rattle.cleaner.specs.Passes.{images_in, rest_of, places_on, is_at_end}
+use Rattle.cleaner.specs.Passes.{IsPass}
 use Rattle.cleaner.specs.Walks.{IsAtData}
 use Rattle.cleaner.proofs.Places.{place_at, on_data}
 use Rattle.cleaner.proofs.Reading.{ahead_data}
 use Rattle.cleaner.proofs.Steps.{lt, own_ahead}
-use Rattle.tally.specs.declared.tallies.Tally.{Tally}
 use Rattle.master_space.specs.Counting.{next_victim}
-use Rattle.master_space.proofs.CopiedImages.{own_then}
 
 -- the next entry lies in the victim at which the cursor is
 module _ (seed : List ℕ) (images : List Image) (p : Pass) (pass : IsPass seed images p)
