@@ -23,7 +23,8 @@ use Rattle.cleaner.specs.declared.pass.Copied.{Copied}
 use Rattle.cleaner.specs.Filling.{filled_one, HasRooms}
 use Rattle.cleaner.specs.KeptLengths.{lengths_at, kept_lengths, HasRoomsIn}
 use Rattle.cleaner.specs.Passes.{images_in, survivor_ids, rest_of, is_at_end, places_on, level_of, filling_with}
-use Rattle.cleaner.specs.Passes.{next_len, copy_place, images_with, held_with, AreVictims, IsAhead, IsCursorAt, IsPass, CopiesOne}
+use Rattle.cleaner.specs.Passes.{next_len, copy_place, images_with, held_with, AreVictims, IsAhead, IsCursorAt}
+use Rattle.cleaner.specs.Passes.{IsPass, CopiesOne}
 use Rattle.cleaner.specs.Walks.{IsAtData, GoesTo, HasPlace, Treats}
 use Rattle.cleaner.proofs.Fillings.{rooms_have_next, rooms_count, copy_leaves}
 use Rattle.cleaner.proofs.Images.{len_is, is_victim, are_there, with_whole, with_victims, with_same}
