@@ -59,9 +59,9 @@ fn fate_of(seen: Seen, place: Place, index: &Index, log: &LogSet<'_>) -> Fate
     }
 }
 
-/// Copies the object or tombstone at a place, of this length, to the end of a survivor's image. Returns the place of
-/// the copy. If the entry doesn't fit there, returns `None`, and nothing changes.
-fn copy_to(images: &mut Images, place: Place, len: usize, survivor: u64) -> Option<Place>
+/// Copies the object or tombstone at a place, of this length, to the end of a survivor's image. Returns the offset of
+/// the copy there, in bytes. If the entry doesn't fit there, returns `None`, and nothing changes.
+fn copy_to(images: &mut Images, place: Place, len: usize, survivor: u64) -> Option<usize>
     requires order { place.segment < survivor }
     requires whole { IsWhole images.old.images survivor }
     requires of_data { HasData images.old.images place.segment place.at len }
@@ -69,18 +69,15 @@ fn copy_to(images: &mut Images, place: Place, len: usize, survivor: u64) -> Opti
         record images.old { images = changed images.old.images survivor (with_unit (e ∷ [])) })) }
     ensures fits { IfSome result (λ to. IfSome (entry_at images.old.images place.segment place.at)
         (λ e. len_at images.old.images survivor + length (spelling e) ≤ images.old.segment)) }
-    ensures place { IfSome result (λ to. to ≡ copy_place survivor images.old.images) }
-    ensures limit { IfSome result (λ to. to.at < 8388608) }
+    ensures place { IfSome result (λ at. at ≡ len_at images.old.images survivor) }
+    ensures limit { IfSome result (λ at. at < 8388608) }
     ensures same { IfNone result (images.new ≡ images.old) }
     ensures full { IfNone result (IfSome (entry_at images.old.images place.segment place.at)
         (λ e. images.old.segment < len_at images.old.images survivor + length (spelling e))) }
 {
     images.show_valid();
     match images.copy_entry(place.segment, place.at, len, survivor) {
-        Ok(at) => Some(Place {
-            segment: survivor,
-            at,
-        }),
+        Ok(at) => Some(at),
         Err(_) => None,
     }
 }
@@ -108,14 +105,16 @@ fn copy(
     ensures place { result ≡ copy_place (survivors.first + filling.new) images.old.images }
     ensures limit { result.at < 8388608 }
 {
-    if let Some(to) = copy_to(images, place, len, survivors.id(*filling)) {
-        return to;
+    let segment = survivors.id(*filling);
+    if let Some(at) = copy_to(images, place, len, segment) {
+        return Place { segment, at };
     }
     *filling += 1;
-    let Some(to) = copy_to(images, place, len, survivors.id(*filling)) else {
+    let segment = survivors.id(*filling);
+    let Some(at) = copy_to(images, place, len, segment) else {
         unreachable!()
     };
-    to
+    Place { segment, at }
 }
 
 /// Treats the object or tombstone at a place. `seen` is what the pass remembers of it. A kept entry is copied to a

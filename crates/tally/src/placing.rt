@@ -1,6 +1,6 @@
 //! The places of tallies in a list by rising segment.
 
-ghost use Rattle.std.specs.Prelude.{◌≡◌, ◌-◌, ◌<◌, ◌≤◌, true, length, map, filter, not, IfSome, IfNone};
+ghost use Rattle.std.specs.Prelude.{◌≡◌, ◌<◌, ◌≤◌, true, length, map, filter, not, IfSome, IfNone};
 ghost use Rattle.std.specs.List.{AllByRecursion};
 ghost use Rattle.compactor.specs.Kept.{has_id};
 ghost use Rattle.tally.specs.declared.tallies.Tally.{Tally as TallyValue};
@@ -16,22 +16,11 @@ pub(crate) fn place_of(rows: &[Tally], segment: u64) -> Option<usize>
     ensures found { IfSome result (IsPlaceOf rows.now segment) }
     ensures absent { IfNone result (HasNo segment rows.now) }
 {
-    if is_last(rows, segment) {
-        Some(rows.len() - 1)
-    } else {
-        place_among(rows, segment)
-    }
+    place_near(rows, segment, rows.len().wrapping_sub(1))
 }
 
-/// Returns true if the last tally is of this segment.
-#[inline]
-fn is_last(rows: &[Tally], segment: u64) -> bool
-    ensures { result ≡ true → IsPlaceOf rows.now segment (length rows.now - 1) }
-{
-    !rows.is_empty() && rows[rows.len() - 1].segment == segment
-}
-
-/// Returns what `place_of` returns. Looks first at a place where the tally may be.
+/// Returns the place of the tally of a segment, or None if there is none. Looks first at a place where the tally may
+/// be; else a binary search finds out.
 #[inline]
 pub(crate) fn place_near(rows: &[Tally], segment: u64, near: usize) -> Option<usize>
     requires { AreRising rows.now }
@@ -41,7 +30,7 @@ pub(crate) fn place_near(rows: &[Tally], segment: u64, near: usize) -> Option<us
     if is_at(rows, segment, near) {
         Some(near)
     } else {
-        place_of(rows, segment)
+        place_among(rows, segment)
     }
 }
 
