@@ -12,7 +12,7 @@ use segment::SegmentRef;
 use std::marker::Model;
 
 /// A pass reads at most this many entries ahead.
-const AHEAD: usize = 16;
+const AHEAD: usize = 32;
 
 /// What a pass remembers of an object or a tombstone that it read.
 #[derive(Clone, Copy)]
@@ -87,7 +87,7 @@ fn seen_at(segment: &SegmentRef<'_>, at: usize, index: &Index) -> Option<Seen>
     }
 }
 
-/// Reads the objects and tombstones of a segment from an offset on, at most 16 of them, and stops at any other entry.
+/// Reads the objects and tombstones of a segment from an offset on, at most 32 of them, and stops at any other entry.
 /// Returns the offset behind the last one.
 pub(crate) fn gather(
     segment: &SegmentRef<'_>,
@@ -151,10 +151,9 @@ impl Ahead {
         requires { IsAtData segment.now from }
         ensures { IsAhead index.now.held.seed segment.now from self.new }
     {
-        let mut seen = ArrayVec::new();
-        let _end = gather(segment, from, index, &mut seen);
-        self.seen = seen;
         self.treated = 0;
+        self.seen.clear();
+        let _end = gather(segment, from, index, &mut self.seen);
     }
 
     /// Prefetches what the index has for the objects that were read. Does nothing for a victim that is still in cache.

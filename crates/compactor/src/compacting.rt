@@ -15,7 +15,7 @@ use segment::{Segment, SegmentRef};
 use std::alloc::Global;
 
 /// The objects among so many entries are prefetched at once.
-const AHEAD: usize = 16;
+const AHEAD: usize = 32;
 
 /// Appends the bytes of a text from one offset to another. The caller has taken memory for them.
 fn append_piece(text: &[u8], from: usize, to: usize, out: &mut Vec<u8>)

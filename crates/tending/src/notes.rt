@@ -142,9 +142,7 @@ impl Notes {
     fn lower_stones(&mut self, namers: &[Stones]) {
         let mut next = 0;
         for namer in namers {
-            next = self.place_from(next, namer.segment);
-            if next < self.notes.len() && self.notes[next].id == namer.segment {
-                let note = &mut self.notes[next];
+            if let Some(note) = self.note_from(&mut next, namer.segment) {
                 note.stones = note.stones.saturating_sub(namer.bytes);
             }
         }
@@ -154,11 +152,18 @@ impl Notes {
     fn lower_named(&mut self, names: &[Stones]) {
         let mut next = 0;
         for name in names {
-            next = self.place_from(next, name.segment);
-            if next < self.notes.len() && self.notes[next].id == name.segment {
-                let note = &mut self.notes[next];
+            if let Some(note) = self.note_from(&mut next, name.segment) {
                 note.named = note.named.saturating_sub(name.bytes);
             }
+        }
+    }
+
+    /// The note of a segment, if there is one. It is looked for from a place on, which goes on to it.
+    fn note_from(&mut self, next: &mut usize, id: u64) -> Option<&mut Note> {
+        *next = self.place_from(*next, id);
+        match self.notes.get_mut(*next) {
+            Some(note) if note.id == id => Some(note),
+            _ => None,
         }
     }
 
@@ -242,9 +247,8 @@ impl Notes {
     fn add_namers(&mut self, id: u64, named: &[Stones], ids: &[u64]) -> Result<(), NoMemory> {
         let mut next = 0;
         for one in named {
-            next = self.place_from(next, one.segment);
-            if next < self.notes.len() && self.notes[next].id == one.segment {
-                self.notes[next].add_namer(id, one.bytes, ids)?;
+            if let Some(note) = self.note_from(&mut next, one.segment) {
+                note.add_namer(id, one.bytes, ids)?;
             }
         }
         Ok(())
@@ -272,7 +276,7 @@ impl Note {
             self.namers
                 .retain(|one| ids.binary_search(&one.segment).is_ok());
         }
-        match self.namers.binary_search_by_key(&id, |one| one.segment) {
+        match self.place_of(id) {
             Ok(at) => {
                 self.named = self.named.saturating_sub(self.namers[at].bytes);
                 self.namers[at].bytes = bytes;
@@ -283,6 +287,16 @@ impl Note {
         }
         self.named = self.named.saturating_add(bytes);
         Ok(())
+    }
+
+    /// The place among `namers` of the segment with this id, or else that where it belongs. Mostly it is the newest.
+    fn place_of(&self, id: u64) -> Result<usize, usize> {
+        match self.namers.last() {
+            Some(last) if last.segment >= id => {
+                self.namers.binary_search_by_key(&id, |one| one.segment)
+            }
+            _ => Err(self.namers.len()),
+        }
     }
 }
 
