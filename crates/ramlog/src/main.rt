@@ -8,6 +8,7 @@ mod until_end;
 use clap::Error;
 use clap::error::ErrorKind;
 use folder::run_folders;
+use freed_memory::keep_freed;
 use script::{ErrorOutput, ScriptFault, report, run_program};
 use std::alloc::Global;
 use std::env;
@@ -195,6 +196,7 @@ fn run_arguments<H: Threads + Wait + Sync>(
 }
 
 fn main(rt: HostRuntime) -> ExitCode {
+    keep_freed(rt.alloc());
     match read_arguments(&rt) {
         Ok(arguments) => run_arguments(&rt, &rt, arguments.as_slice()),
         Err(status) => status,

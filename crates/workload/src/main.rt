@@ -9,6 +9,7 @@ mod report;
 mod session;
 mod sizes;
 
+use freed_memory::keep_freed;
 use options::{HELP, Options, read_options};
 use session::{Fault, run};
 use std::alloc::Global;
@@ -41,6 +42,7 @@ fn run_words<R: Threads + Wait + Clock + Eprint + Print + Files + Sync>(
 }
 
 fn main(rt: HostRuntime) -> ExitCode {
+    keep_freed(rt.alloc());
     let Ok(all) = env::args(&rt) else {
         return ExitCode::from(MISUSE);
     };
