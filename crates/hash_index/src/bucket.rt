@@ -91,11 +91,11 @@ impl Bucket {
         self.near.holds(held)
     }
 
-    /// Reads a little of each cache line of the slots, so that they are in the cache soon. The result is meaningless;
-    /// it only keeps the compiler from removing the load.
+    /// Reads a little of each cache line of the bucket, and of what overflows, so that they are in the cache soon. The
+    /// result is meaningless; it only keeps the compiler from removing the loads.
     #[inline(always)]
     pub(crate) fn touch(&self) -> u64 {
-        self.near.touch()
+        self.near.touch() ^ self.overflow.touch()
     }
 
     /// Moves `held` to the place `to`, under the same hash; returns true if the bucket held it.

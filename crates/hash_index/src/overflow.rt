@@ -83,6 +83,18 @@ impl Overflow {
         }
     }
 
+    /// Reads the first place, if there is one, so that the list is in the cache soon. The result is meaningless.
+    #[inline(always)]
+    pub(crate) fn touch(&self) -> u64 {
+        match &self.list {
+            Some(list) => match list.as_slice().first() {
+                Some(held) => held.hash,
+                None => 0,
+            },
+            None => 0,
+        }
+    }
+
     /// Moves `held` to the place `to`, under the same hash; returns true if the list had it.
     #[inline]
     pub(crate) fn relocate(&mut self, held: Held, to: Place) -> bool
