@@ -1,15 +1,13 @@
 //! One step of a master: a seat's command, or a turn of the cleaner.
 
-ghost use Rattle.std.specs.Prelude.{◌≡◌, None, IfOk, OnErr};
+ghost use Rattle.std.specs.Prelude.{◌≡◌};
 ghost use Rattle.history.specs.View.{shown_command};
 ghost use Rattle.master.specs.Keeps.{Keeps};
 ghost use Rattle.master.specs.Valid.{IsValid};
 ghost use Rattle.master.specs.World.{world};
-ghost use Rattle.master.specs.master_space.Choosing.{NeedsChoice};
-ghost use Rattle.store_step.specs.Turns.{step_of, MakesTurn, MakesCommand};
+ghost use Rattle.store_step.specs.Turns.{MakesTurn, MakesCommand};
 
 use crate::turn::CleanTurn;
-use entry::NoMemory;
 use master::{CommandRef, Master, Refusal, Reply, Step, StepAnswer};
 use replica::Fleet;
 
@@ -40,29 +38,29 @@ pub fn make_turn<F: Fleet>(master: &mut Master<F>, turn: CleanTurn) -> Result<St
     ensures valid { IsValid master.new.knows (F.state master.new.fleet) }
 {
     master.show_valid();
-    let Ok(step) = step_for(master, turn) else {
-        return Err(Refusal::NoMemory);
-    };
-    match step {
-        Some(step) => master.step(step),
-        None => Err(Refusal::Nothing),
+    match turn {
+        CleanTurn::Next => make_next(master),
+        CleanTurn::Push => master.step(Step::Push),
+        CleanTurn::BeginRoll => master.step(Step::BeginRoll),
+        CleanTurn::Compact(id) => master.step(Step::Compact(id)),
+        CleanTurn::BeginClean(ids) => master.step(Step::BeginClean(ids)),
+        CleanTurn::Copy => master.step(Step::Copy),
+        CleanTurn::Seal => master.step(Step::Seal),
+        CleanTurn::Free => master.step(Step::Free),
     }
 }
 
-/// The step that a turn asks for, if there is one.
-fn step_for<F: Fleet>(master: &Master<F>, turn: CleanTurn) -> Result<Option<Step>, NoMemory>
-    ensures step { IfOk result (λ step. step ≡ step_of master.now.knows turn) }
-    ensures refused { OnErr result ((turn ≡ CleanTurn.Next) × (master.now.knows.pass ≡ None)
-        × NeedsChoice master.now.knows) }
+/// Makes the step that the master says is next.
+fn make_next<F: Fleet>(master: &mut Master<F>) -> Result<StepAnswer, Refusal>
+    ensures gives { MakesTurn (world F.state master.old) CleanTurn.Next result (world F.state master.new) }
+    ensures keeps { Keeps 1 (world F.state master.old) (world F.state master.new) }
+    ensures remembers { master.new.knows.forgotten ≡ master.old.knows.forgotten }
+    ensures valid { IsValid master.new.knows (F.state master.new.fleet) }
 {
-    match turn {
-        CleanTurn::Next => master.next_step(),
-        CleanTurn::Push => Ok(Some(Step::Push)),
-        CleanTurn::BeginRoll => Ok(Some(Step::BeginRoll)),
-        CleanTurn::Compact(id) => Ok(Some(Step::Compact(id))),
-        CleanTurn::BeginClean(ids) => Ok(Some(Step::BeginClean(ids))),
-        CleanTurn::Copy => Ok(Some(Step::Copy)),
-        CleanTurn::Seal => Ok(Some(Step::Seal)),
-        CleanTurn::Free => Ok(Some(Step::Free)),
+    master.show_valid();
+    match master.next_step() {
+        Ok(Some(step)) => master.step(step),
+        Ok(None) => Err(Refusal::Nothing),
+        Err(_) => Err(Refusal::NoMemory),
     }
 }
