@@ -1,5 +1,7 @@
 //! What a cleaner has noted of the tombstones of closed segments.
 
+ghost use Rattle.std.specs.Prelude.{◌<◌, ◌≤◌, vec_len, IfOk, IfErr};
+
 use crate::finding::{id_place, image_place};
 use driving::master::Master;
 use entry::{EntryRef, NoMemory, TOMBSTONE_LEN};
@@ -290,7 +292,10 @@ impl Note {
     }
 
     /// The place among `namers` of the segment with this id, or else that where it belongs. Mostly it is the newest.
-    fn place_of(&self, id: u64) -> Result<usize, usize> {
+    fn place_of(&self, id: u64) -> Result<usize, usize>
+        ensures there { IfOk result (λ at. at < vec_len self.now.namers) }
+        ensures new { IfErr result (λ at. at ≤ vec_len self.now.namers) }
+    {
         match self.namers.last() {
             Some(last) if last.segment >= id => {
                 self.namers.binary_search_by_key(&id, |one| one.segment)
